@@ -1,13 +1,6 @@
-// A library with one function.
+//! The free pages of a space, as the kernel's tree of free areas keeps them.
 #![tactic(auto)]
 
-ghost use Rattle.std.specs.Prelude.{◌≡◌};
-ghost use Rattle.augmented_tree.specs.Echo.{echo_of};
+mod free_side;
 
-// The `ensures` clause is the contract: what `echo` returns is `echo_of` of its argument, a definition
-// in `specs/Echo.antt`, which a caller's clause can cite too.
-pub fn echo(x: usize) -> usize
-    ensures { result ≡ echo_of x }
-{
-    x
-}
+pub use free_side::FreeSide;
