@@ -1,0 +1,12 @@
+//! The commands that replay a trace.
+#![tactic(auto)]
+
+mod gather;
+mod send;
+mod sink;
+mod source;
+mod status;
+
+pub use sink::{Sink, SteadySink, StreamSink};
+pub use source::{Failed, Source, SteadySource, StreamSource};
+pub use status::Status;
