@@ -1,8 +1,10 @@
 //! The free blocks of a space: what `free_vmap_area_root` holds in the kernel.
-ghost use Rattle.std.specs.Prelude.{◌≡◌, ◌≤◌, ◌<◌, ℕ, List, Bool, true, false, Some, None, length, slice_get, replicate, option_map, IfOk, OnOk, OnErr, ◌∷◌, []};
+ghost use Rattle.std.specs.Prelude.{◌≡◌, ◌≤◌, ◌<◌, ℕ, List, Bool, true, false, Some, None, All, length, slice_get, replicate, option_map, IfOk, IfSome, IfNone, OnOk, OnErr, ◌∷◌, []};
 ghost use Rattle.vm_model.specs.Space.{span, holds, covers, times, end_of, lowest, longest_of, paint, AreSeparateFrom};
+ghost use Rattle.vm_model.specs.declared.areas.Span.{Span};
 ghost use Rattle.augmented_tree.specs.FreeBlocks.{FreeBlocks, AreFreeRuns};
 
+use crate::blocks::{cut_out, first_fit};
 use std::alloc::{AllocError, Global};
 use std::marker::Model;
 use vm_model::Span;
@@ -15,14 +17,14 @@ pub struct FreeSide {
 
 impl Model for FreeSide {
     ghost use Rattle.augmented_tree.specs.FreeBlocks.{FreeBlocks};
-    ghost use Rattle.vm_model.specs.Space.{AreSeparateFrom};
+    ghost use Rattle.augmented_tree.specs.Blocks.{AreBlocks};
 
     ghost Value = { FreeBlocks };
 
     ghost view = { λ s. record { blocks = s.blocks.items; spare = 0 } };
 
     // the blocks are separate, and each ends at 1,048,576 at most
-    ghost invariant = { λ s. .. };
+    ghost invariant = { λ s. AreBlocks s.blocks.items };
 }
 
 impl FreeSide {
@@ -32,6 +34,10 @@ impl FreeSide {
         requires high { pages ≤ 1048576 }
         ensures block { IfOk result (λ side. side ≡ record { blocks = span 0 pages ∷ []; spare = 0 }) }
         ensures free { IfOk result (λ side. AreFreeRuns side (replicate pages false)) }
+    {
+        let blocks = vec![in alloc; Span { start: 0, pages }]?;
+        Ok(FreeSide { blocks })
+    }
 
     /// The least start at which so many pages are free at a multiple of the alignment, which is in pages too:
     /// `find_vmap_lowest_match`. It takes no memory.
@@ -39,6 +45,12 @@ impl FreeSide {
         requires pages { 1 ≤ pages }
         requires align { 1 ≤ align }
         ensures { (taken : List Bool) → AreFreeRuns self.now taken → result ≡ lowest taken pages align }
+    {
+        match first_fit(&self.blocks, pages, align) {
+            Some(fit) => Some(fit.start),
+            None => None,
+        }
+    }
 
     /// Takes the least such pages out, as `__alloc_vmap_area` does.
     pub fn carve(&mut self, pages: u32, align: u32) -> Result<Option<Span>, AllocError>
@@ -49,28 +61,31 @@ impl FreeSide {
         ensures none { IfOk result (λ found. IfNone found (self.new ≡ self.old)) }
         ensures spare { self.new.spare ≡ self.old.spare }
         ensures err { OnErr result (self.new ≡ self.old) }
-
-    /// Gives pages back, as `merge_or_add_vmap_area_augment` does for each span: blocks that touch become one.
-    pub fn release_all(&mut self, spans: &[Span]) -> Result<(), AllocError>
-        requires pages { All (λ (s : Span). 1 ≤ s.pages) spans.now }
-        requires ends { All (λ (s : Span). end_of s ≤ 1048576) spans.now }
-        requires disjoint { (page : ℕ) → times page spans.now ≤ 1 }
-        requires taken { (page : ℕ) → covers spans.now page ≡ true → covers self.old.blocks page ≡ false }
-        ensures ok { OnOk result ((taken : List Bool) → All (λ (s : Span). end_of s ≤ length taken) spans.now → AreFreeRuns self.old taken → AreFreeRuns self.new (paint (covers spans.now) false taken)) }
-        ensures spare { self.new.spare ≡ self.old.spare }
-        ensures err { OnErr result (self.new ≡ self.old) }
-
-    /// The pages of the largest block, or 0 where nothing is free. It takes no memory.
-    pub fn largest(&self) -> u32
-        ensures { result ≡ (longest_of self.now.blocks).pages }
+    {
+        let Some(fit) = first_fit(&self.blocks, pages, align) else {
+            return Ok(None);
+        };
+        let place = Span {
+            start: fit.start,
+            pages,
+        };
+        cut_out(&mut self.blocks, fit.index, place)?;
+        Ok(Some(place))
+    }
 
     /// How many blocks there are. It takes no memory.
     pub fn len(&self) -> u32
         ensures count { result ≡ length self.now.blocks }
         ensures separate { AreSeparateFrom 0 self.now.blocks }
+    {
+        self.blocks.len() as u32
+    }
 
     /// The block with this index by rising start. It takes no memory.
     pub fn block_at(&self, index: u32) -> Span
         requires { index < length self.now.blocks }
         ensures { slice_get self.now.blocks index ≡ Some result }
+    {
+        self.blocks[index as usize]
+    }
 }

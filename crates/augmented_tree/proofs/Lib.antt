@@ -1,0 +1,5 @@
+mod SeparateBlocks
+mod Cuts
+mod Splices
+mod FirstStart
+mod FreeRuns
