@@ -1,1 +1,4 @@
 pub mod Gathered
+pub mod Inserted
+pub mod CallsMade
+pub mod AreasMade

@@ -2,6 +2,7 @@
 #![tactic(auto)]
 
 mod gather;
+mod one_caller;
 mod send;
 mod sink;
 mod source;

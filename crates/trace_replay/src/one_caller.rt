@@ -1,0 +1,133 @@
+//! One caller's vmalloc calls over a space, made event by event.
+ghost use Rattle.std.specs.Prelude.{◌≡◌, ◌<◌, ◌≤◌, ◌+◌, ◌-◌, ◌^◌, ℕ, List, Bool, true, false, IfOk, OnOk, length, nat_le, take_while};
+ghost use Rattle.vm_model.specs.declared.areas.Area.{Area};
+ghost use Rattle.vm_model.specs.Space.{holds, covers, paint, put_by, end_of};
+ghost use Rattle.vm_model.specs.Setup.{Setup};
+ghost use Rattle.vm_model.specs.Calls.{pages_for, align_pages, is_power_to};
+ghost use Rattle.augmented_tree.specs.FreeBlocks.{AreFreeRuns};
+ghost use Rattle.trace_replay.specs.Found.{Finds, Makes};
+ghost use Rattle.trace_replay.specs.OneCaller.{Answers};
+
+use augmented_tree::FreeSide;
+use std::alloc::AllocError;
+use vm_model::{Area, AreaKind, Reply, Span};
+
+/// The bytes of a page.
+const PAGE: u64 = 4096;
+
+/// The address of page 0, the kernel's `VMALLOC_START`.
+const FIRST_ADDRESS: u64 = 0xffff_c900_0000_0000;
+
+/// The largest alignment of an area, in bytes.
+const MOST_ALIGN: u64 = 1 << 32;
+
+/// The events of a purge where nothing waits and no block is fragmented: the turn is taken, each processor is looked at,
+/// what waits is taken, and the turn is given back.
+const PURGE_OF_NOTHING: u64 = 4;
+
+/// The allocator after some events: its free side, its live areas by start, and how many frames are free.
+#[derive(Drop)]
+pub struct OneCaller {
+    pub space: u32,
+    pub free: FreeSide,
+    pub areas: Vec<Area>,
+    pub free_frames: u32,
+    pub mapped: u32,
+    pub next_serial: u32,
+    pub events: u64,
+}
+
+/// How many areas at the front start at this page or before it.
+fn count_before(areas: &[Area], start: u32) -> usize
+    ensures { result ≡ length (take_while (λ (a : Area). nat_le a.span.start start) areas.now) }
+{
+    areas
+        .iter()
+        .take_while(|area| area.span.start <= start)
+        .count()
+}
+
+/// Puts an area among others that stand by rising start.
+fn put_area(areas: &mut Vec<Area>, area: Area) -> Result<(), AllocError>
+    ensures { OnOk result (areas.new.items ≡ put_by (λ (a : Area). a.span.start) area areas.old.items) }
+{
+    let index = count_before(areas, area.span.start);
+    areas.insert(index, area)?;
+    Ok(())
+}
+
+/// Whether an area may have this alignment in bytes.
+fn is_alignment(align: u64) -> bool
+    ensures { result ≡ is_power_to 32 align }
+{
+    align.is_power_of_two() && align <= MOST_ALIGN
+}
+
+/// An alignment in bytes as pages, at least one.
+fn align_in_pages(align: u64) -> u32
+    requires { align ≤ 2 ^ 32 }
+    ensures pages { result ≡ align_pages align }
+    ensures low { 1 ≤ result }
+{
+    (align.max(PAGE) / PAGE) as u32
+}
+
+/// Gives a place back.
+fn release(free: &mut FreeSide, place: Span) -> Result<(), AllocError>
+    requires pages { 1 ≤ place.pages }
+    requires ends { end_of place ≤ 1048576 }
+    requires taken { (page : ℕ) → holds place page ≡ true → covers free.old.blocks page ≡ false }
+    ensures { OnOk result ((taken : List Bool) → end_of place ≤ length taken → AreFreeRuns free.old taken → AreFreeRuns free.new (paint (holds place) false taken)) }
+{
+    Err(AllocError)
+}
+
+impl OneCaller {
+    /// Pages for an area: a search, and where it finds none a purge of what waits, which is nothing, and the search
+    /// again.
+    fn find(&mut self, pages: u32, align: u32) -> Result<Option<Span>, AllocError>
+        requires pages { 1 ≤ pages }
+        requires align { 1 ≤ align }
+        requires events { self.old.events + 6 < 2 ^ 64 }
+        ensures { IfOk result (λ found. (taken : List Bool) → AreFreeRuns self.old.free taken → Finds self.old self.new pages align taken found) }
+    {
+        self.events += 1;
+        let place = self.free.carve(pages, align)?;
+        if place.is_some() {
+            return Ok(place);
+        }
+        self.events += PURGE_OF_NOTHING;
+        self.events += 1;
+        self.free.carve(pages, align)
+    }
+
+    /// Maps the pages of a carved place but for its guard and settles it as an area; or drops it where there are too few
+    /// frames.
+    fn make_area(&mut self, place: Span) -> Result<Reply, AllocError>
+        requires pages { 1 ≤ place.pages }
+        requires ends { end_of place ≤ 1048576 }
+        requires taken { (page : ℕ) → holds place page ≡ true → covers self.old.free.blocks page ≡ false }
+        requires mapped { self.old.mapped + self.old.free_frames < 2 ^ 32 }
+        requires serials { self.old.next_serial + 1 < 2 ^ 32 }
+        requires events { self.old.events + 2 < 2 ^ 64 }
+        ensures { IfOk result (λ reply. (taken : List Bool) → end_of place ≤ length taken → AreFreeRuns self.old.free taken → Makes self.old self.new place taken reply) }
+    {
+        let pages = place.pages - 1;
+        self.events += 2;
+        if self.free_frames < pages {
+            release(&mut self.free, place)?;
+            return Ok(Reply::NoFrames);
+        }
+        self.free_frames -= pages;
+        self.mapped += pages;
+        let area = Area {
+            span: place,
+            kind: AreaKind::Vmalloc,
+            caller: 0,
+            serial: self.next_serial,
+        };
+        put_area(&mut self.areas, area)?;
+        self.next_serial += 1;
+        Ok(Reply::Address(FIRST_ADDRESS + PAGE * place.start as u64))
+    }
+}
