@@ -3,3 +3,5 @@ mod Cuts
 mod Splices
 mod FirstStart
 mod FreeRuns
+mod Joins
+mod GivenBack

@@ -1,8 +1,8 @@
 -- Separate blocks in a list: where pages fit in them, and what is left of them when pages go.
-use Rattle.std.specs.Prelude.{◌≡◌, ℕ, ◌+◌, ◌≤◌, Bool, ◌&&◌, not, nat_le, ◌==◌, if◌then◌else◌, List, [], ◌∷◌, ◌++◌, take, drop, Option, Some, None, All}
+use Rattle.std.specs.Prelude.{◌≡◌, ℕ, suc, ◌+◌, ◌-◌, ◌<◌, ◌≤◌, Bool, ◌&&◌, ◌||◌, not, nat_le, ◌==◌, if◌then◌else◌, List, [], ◌∷◌, ◌++◌, take, drop, slice_range, length, Option, Some, None, All}
 use Rattle.std.specs.Int.{next_multiple_of}
 use Rattle.vm_model.specs.declared.areas.Span.{Span}
-use Rattle.vm_model.specs.Space.{end_of, holds, covers, AreSeparateFrom}
+use Rattle.vm_model.specs.Space.{span, end_of, holds, covers, AreSeparateFrom}
 
 -- separate blocks of a space of at most 1,048,576 pages
 pub record AreBlocks (blocks : List Span) : Type 0 where
@@ -35,3 +35,25 @@ spliced xs from to ys = take from xs ++ (ys ++ drop to xs)
 pub record LeavesOut (old new : List Span) (place : Span) : Type 0 where
   pub separate : AreSeparateFrom 0 new
   pub cover : (page : ℕ) → covers new page ≡ (covers old page && not (holds place page))
+
+-- new blocks have the pages of old ones and those of spans
+pub record TakesIn (old new spans : List Span) : Type 0 where
+  pub separate : AreSeparateFrom 0 new
+  pub cover : (page : ℕ) → covers new page ≡ (covers old page || covers spans page)
+
+-- from a page on up to a start there are just the pages of the blocks from an index up to another, and the blocks before them end before the page
+pub record JoinsBefore (blocks : List Span) (from to page start : ℕ) : Type 0 where
+  pub order : from ≤ to
+  pub near : to ≤ from + 1
+  pub below : page ≤ start
+  pub apart : All (λ (b : Span). end_of b < page) (take from blocks)
+  pub cover : (p : ℕ) → covers (slice_range blocks from to) p ≡ holds (span page (start - page)) p
+
+-- from an end on up to a page there are just the pages of the blocks from an index up to another, and the blocks behind them begin behind the page
+pub record JoinsAfter (blocks : List Span) (from to end page : ℕ) : Type 0 where
+  pub order : from ≤ to
+  pub near : to ≤ from + 1
+  pub within : to ≤ length blocks
+  pub above : end ≤ page
+  pub apart : AreSeparateFrom (suc page) (drop to blocks)
+  pub cover : (p : ℕ) → covers (slice_range blocks from to) p ≡ holds (span end (page - end)) p

@@ -1,9 +1,9 @@
 //! Separate blocks of free pages in a list, by rising start.
-ghost use Rattle.std.specs.Prelude.{◌≡◌, ◌+◌, ◌≤◌, ◌<◌, ◌++◌, List, Some, None, All, length, slice_get, option_map, if◌then◌else◌, IfSome, IsSomeAnd, OnOk, OnErr};
+ghost use Rattle.std.specs.Prelude.{◌≡◌, ◌+◌, ◌≤◌, ◌<◌, ◌++◌, ◌∷◌, [], ℕ, true, false, Some, None, All, length, take, drop, slice_get, vec_len, vec_capacity, option_map, if◌then◌else◌, IfSome, IsSomeAnd, OnOk, OnErr};
 ghost use Rattle.std.specs.Int.{next_multiple_of};
 ghost use Rattle.vm_model.specs.declared.areas.Span.{Span};
-ghost use Rattle.vm_model.specs.Space.{span, end_of, AreSeparateFrom};
-ghost use Rattle.augmented_tree.specs.Blocks.{has_room, first_start, IsInside, unless_empty, spliced, LeavesOut};
+ghost use Rattle.vm_model.specs.Space.{span, end_of, holds, covers, times, AreSeparateFrom};
+ghost use Rattle.augmented_tree.specs.Blocks.{has_room, first_start, IsInside, unless_empty, spliced, LeavesOut, TakesIn, JoinsBefore, JoinsAfter};
 ghost use Rattle.augmented_tree.specs.declared.blocks.Fit.{Fit};
 
 use std::alloc::AllocError;
@@ -90,4 +90,128 @@ pub fn cut_out(blocks: &mut Vec<Span>, index: usize, place: Span) -> Result<(), 
         pages: block.start + block.pages - place_end,
     };
     replace_block(blocks, index, before, after)
+}
+
+/// How many blocks begin at a page or before it.
+fn blocks_up_to(blocks: &[Span], page: u32) -> usize
+    ensures bound { result ≤ length blocks.now }
+    ensures before { All (λ (b : Span). b.start ≤ page) (take result blocks.now) }
+    ensures after { IfSome (slice_get blocks.now result) (λ b. page < b.start) }
+{
+    for (index, block) in blocks.iter().enumerate() {
+        if page < block.start {
+            return index;
+        }
+    }
+    blocks.len()
+}
+
+/// An end of pages that blocks may touch: a page, and an index beside which the blocks do not touch it.
+#[derive(Clone, Copy)]
+struct Joint {
+    index: usize,
+    page: u32,
+}
+
+/// The start of the pages from a start on, together with the block that ends there.
+fn joint_before(blocks: &[Span], index: usize, start: u32) -> Joint
+    requires bound { index ≤ length blocks.now }
+    requires separate { AreSeparateFrom 0 blocks.now }
+    requires ends { All (λ (b : Span). end_of b ≤ 1048576) blocks.now }
+    requires before { All (λ (b : Span). end_of b ≤ start) (take index blocks.now) }
+    ensures { JoinsBefore blocks.now result.index index result.page start }
+{
+    if index > 0 {
+        let block = blocks[index - 1];
+        if block.start + block.pages == start {
+            return Joint {
+                index: index - 1,
+                page: block.start,
+            };
+        }
+    }
+    Joint { index, page: start }
+}
+
+/// The end of the pages up to an end, together with the block that begins there.
+fn joint_after(blocks: &[Span], index: usize, end: u32) -> Joint
+    requires bound { index ≤ length blocks.now }
+    requires separate { AreSeparateFrom 0 blocks.now }
+    requires ends { All (λ (b : Span). end_of b ≤ 1048576) blocks.now }
+    requires end { end ≤ 1048576 }
+    requires after { AreSeparateFrom end (drop index blocks.now) }
+    ensures joins { JoinsAfter blocks.now index result.index end result.page }
+    ensures high { result.page ≤ 1048576 }
+{
+    if index < blocks.len() {
+        let block = blocks[index];
+        if block.start == end {
+            return Joint {
+                index: index + 1,
+                page: block.start + block.pages,
+            };
+        }
+    }
+    Joint { index, page: end }
+}
+
+/// Puts one block in the place of at most two, where there is room for one more. It takes no memory.
+fn replace_run(blocks: &mut Vec<Span>, first: usize, after: usize, block: Span)
+    requires order { first ≤ after }
+    requires near { after ≤ first + 2 }
+    requires bound { after ≤ length blocks.old.items }
+    requires room { vec_len blocks.old < vec_capacity blocks.old }
+    ensures items { blocks.new.items ≡ spliced blocks.old.items first after (block ∷ []) }
+    ensures len { vec_len blocks.new ≤ vec_len blocks.old + 1 }
+    ensures capacity { vec_capacity blocks.old ≤ vec_capacity blocks.new }
+{
+    if first == after {
+        if blocks.insert(first, block).is_err() {
+            unreachable!();
+        }
+        return;
+    }
+    blocks[first] = block;
+    if first + 1 < after {
+        blocks.remove(first + 1);
+    }
+}
+
+/// Puts a span that is in no block among the blocks, where there is room for one more: blocks that touch become one.
+/// It takes no memory.
+fn put_back(blocks: &mut Vec<Span>, span: Span)
+    requires pages { 1 ≤ span.pages }
+    requires end { end_of span ≤ 1048576 }
+    requires separate { AreSeparateFrom 0 blocks.old.items }
+    requires ends { All (λ (b : Span). end_of b ≤ 1048576) blocks.old.items }
+    requires taken { (page : ℕ) → holds span page ≡ true → covers blocks.old.items page ≡ false }
+    requires room { vec_len blocks.old < vec_capacity blocks.old }
+    ensures blocks { TakesIn blocks.old.items blocks.new.items (span ∷ []) }
+    ensures len { vec_len blocks.new ≤ vec_len blocks.old + 1 }
+    ensures capacity { vec_capacity blocks.old ≤ vec_capacity blocks.new }
+{
+    let index = blocks_up_to(blocks, span.start);
+    let first = joint_before(blocks, index, span.start);
+    let last = joint_after(blocks, index, span.start + span.pages);
+    let joined = Span {
+        start: first.page,
+        pages: last.page - first.page,
+    };
+    replace_run(blocks, first.index, last.index, joined);
+}
+
+/// Puts spans back that are in no block, where there is room for each. It takes no memory.
+pub fn put_back_all(blocks: &mut Vec<Span>, spans: &[Span])
+    requires pages { All (λ (s : Span). 1 ≤ s.pages) spans.now }
+    requires span_ends { All (λ (s : Span). end_of s ≤ 1048576) spans.now }
+    requires disjoint { (page : ℕ) → times page spans.now ≤ 1 }
+    requires separate { AreSeparateFrom 0 blocks.old.items }
+    requires ends { All (λ (b : Span). end_of b ≤ 1048576) blocks.old.items }
+    requires taken { (page : ℕ) → covers spans.now page ≡ true → covers blocks.old.items page ≡ false }
+    requires room { vec_len blocks.old + length spans.now ≤ vec_capacity blocks.old }
+    ensures { TakesIn blocks.old.items blocks.new.items spans.now }
+{
+    for span in spans {
+        put_back(blocks, *span);
+    }
 }

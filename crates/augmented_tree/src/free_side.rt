@@ -4,7 +4,7 @@ ghost use Rattle.vm_model.specs.Space.{span, holds, covers, times, end_of, lowes
 ghost use Rattle.vm_model.specs.declared.areas.Span.{Span};
 ghost use Rattle.augmented_tree.specs.FreeBlocks.{FreeBlocks, AreFreeRuns};
 
-use crate::blocks::{cut_out, first_fit};
+use crate::blocks::{cut_out, first_fit, put_back_all};
 use std::alloc::{AllocError, Global};
 use std::marker::Model;
 use vm_model::Span;
@@ -73,6 +73,32 @@ impl FreeSide {
         Ok(Some(place))
     }
 
+    /// Gives pages back, as `merge_or_add_vmap_area_augment` does for each span: blocks that touch become one.
+    pub fn release_all(&mut self, spans: &[Span]) -> Result<(), AllocError>
+        requires pages { All (λ (s : Span). 1 ≤ s.pages) spans.now }
+        requires ends { All (λ (s : Span). end_of s ≤ 1048576) spans.now }
+        requires disjoint { (page : ℕ) → times page spans.now ≤ 1 }
+        requires taken { (page : ℕ) → covers spans.now page ≡ true → covers self.old.blocks page ≡ false }
+        ensures ok { OnOk result ((taken : List Bool) → All (λ (s : Span). end_of s ≤ length taken) spans.now → AreFreeRuns self.old taken → AreFreeRuns self.new (paint (covers spans.now) false taken)) }
+        ensures spare { self.new.spare ≡ self.old.spare }
+        ensures err { OnErr result (self.new ≡ self.old) }
+    {
+        self.blocks.reserve(spans.len())?;
+        put_back_all(&mut self.blocks, spans);
+        Ok(())
+    }
+
+    /// The pages of the largest block, or 0 where nothing is free. It takes no memory.
+    pub fn largest(&self) -> u32
+        ensures { result ≡ (longest_of self.now.blocks).pages }
+    {
+        let mut largest = 0;
+        for block in &self.blocks {
+            largest = block.pages.max(largest);
+        }
+        largest
+    }
+
     /// How many blocks there are. It takes no memory.
     pub fn len(&self) -> u32
         ensures count { result ≡ length self.now.blocks }
@@ -87,5 +113,76 @@ impl FreeSide {
         ensures { slice_get self.now.blocks index ≡ Some result }
     {
         self.blocks[index as usize]
+    }
+}
+
+#[cfg(test)]
+mod tests {
+    use super::*;
+
+    /// Whether the blocks are these, each as its start and its end.
+    fn has_blocks(side: &FreeSide, wanted: &[(u32, u32)]) -> bool {
+        let mut same = side.len() as usize == wanted.len();
+        for index in 0..side.len() {
+            let block = side.block_at(index);
+            let ends = wanted.get(index as usize).copied();
+            same = same && ends == Some((block.start, block.start.wrapping_add(block.pages)));
+        }
+        same
+    }
+
+    /// A space of which nothing is free.
+    fn nothing_free(alloc: Global) -> FreeSide
+        ensures { result.blocks ≡ [] }
+    {
+        FreeSide {
+            blocks: Vec::new(alloc),
+        }
+    }
+
+    #[test]
+    fn carves_the_lowest_fit(rt: HostRuntime) -> Result<(), AllocError> {
+        let mut side = FreeSide::whole(rt.alloc(), 16)?;
+        let rows: [(u32, u32, Option<u32>); 7] = [
+            (2, 1, Some(0)),
+            (3, 1, Some(2)),
+            (2, 4, Some(8)),
+            (17, 1, None),
+            (1, 16, None),
+            (4, u32::MAX, None),
+            (u32::MAX, 1, None),
+        ];
+        for (pages, align, start) in rows {
+            assert_eq!(rt; side.lowest(pages, align), start);
+            let place = side.carve(pages, align)?;
+            assert_eq!(rt; place, start.map(|start| Span { start, pages }));
+        }
+        assert!(rt; has_blocks(&side, &[(5, 8), (10, 16)]));
+        assert_eq!(rt; side.largest(), 6);
+        Ok(())
+    }
+
+    #[test]
+    fn joins_what_touches(rt: HostRuntime) -> Result<(), AllocError> {
+        let mut side = nothing_free(rt.alloc());
+        let spans = [
+            Span { start: 4, pages: 2 },
+            Span { start: 0, pages: 2 },
+            Span { start: 2, pages: 2 },
+        ];
+        side.release_all(&spans)?;
+        assert!(rt; has_blocks(&side, &[(0, 6)]));
+
+        let mut side = nothing_free(rt.alloc());
+        let spans = [
+            Span { start: 8, pages: 1 },
+            Span { start: 9, pages: 1 },
+            Span { start: 6, pages: 2 },
+            Span { start: 0, pages: 1 },
+        ];
+        side.release_all(&spans)?;
+        assert!(rt; has_blocks(&side, &[(0, 1), (6, 10)]));
+        assert_eq!(rt; side.largest(), 4);
+        Ok(())
     }
 }
