@@ -2,12 +2,12 @@
 ghost use Rattle.std.specs.Prelude.{◌≡◌, ◌++◌, ◌∷◌, [], OnOk};
 ghost use Rattle.std.specs.List.{flat_map};
 ghost use Rattle.trace_text.specs.Words.{fields};
-ghost use Rattle.trace_text.specs.TableLines.{events_line, frames_line, free_line, area_line, area_kind, owner, wait_line, dirty_range, block_line, part_line, chunk_line, object_line};
+ghost use Rattle.trace_text.specs.TableLines.{events_line, frames_line, free_line, area_line, area_kind, owner, wait_line, dirty_range, block_line, part_line, chunk_line, object_line, counter_line, counter_lines};
 
 use crate::numerals::{put_bounds, put_named, put_range};
 use crate::text::Text;
 use std::alloc::AllocError;
-use vm_model::{Area, AreaKind, BlockRow, ChunkRow, ObjectRow, PartRow, Span};
+use vm_model::{Area, AreaKind, BlockRow, ChunkRow, CounterRow, ObjectRow, PartRow, Span};
 
 /// Writes how many events there were.
 pub fn put_events(text: &mut Text, events: u64) -> Result<(), AllocError>
@@ -208,6 +208,26 @@ pub fn put_objects(text: &mut Text, objects: &[ObjectRow]) -> Result<(), AllocEr
 {
     for object in objects {
         put_object(text, object)?;
+    }
+    Ok(())
+}
+
+fn put_counter(text: &mut Text, number: u64, counter: &CounterRow) -> Result<(), AllocError>
+    ensures { OnOk result (text.new ≡ text.old ++ counter_line number counter.now) }
+{
+    text.put(b"counter ")?;
+    text.put_number(number)?;
+    text.put(b" total ")?;
+    text.put_amount(counter.total)?;
+    text.put(b"\n")
+}
+
+/// Writes a line for each counter.
+pub fn put_counters(text: &mut Text, counters: &[CounterRow]) -> Result<(), AllocError>
+    ensures { OnOk result (text.new ≡ text.old ++ counter_lines counters.now) }
+{
+    for (i, counter) in counters.iter().enumerate() {
+        put_counter(text, i as u64, counter)?;
     }
     Ok(())
 }
