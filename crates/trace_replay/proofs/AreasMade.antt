@@ -1,5 +1,5 @@
 -- The runs of events of a vmalloc call that finds a place.
-use Rattle.std.proofs.Common.{◌≡◌, ℕ, zero, suc, ◌+◌, ◌-◌, ◌*◌, ◌^◌, ◌<◌, ◌≤◌, Bool, true, false, not, cond, ◌&&◌, ◌||◌, ◌==◌, if◌then◌else◌, List, [], ◌∷◌, ◌++◌, length, map, drop, replicate, slice_get, count_by, is_some, Option, Some, None, option_map, refl, sym, ap, ◌∙◌, subst, arith, length-append, inl, inr}
+use Rattle.std.proofs.Common.{All, ◌≡◌, ℕ, zero, suc, ◌+◌, ◌-◌, ◌*◌, ◌^◌, ◌<◌, ◌≤◌, Bool, true, false, not, cond, ◌&&◌, ◌||◌, ◌==◌, if◌then◌else◌, List, [], ◌∷◌, ◌++◌, length, map, drop, replicate, slice_get, count_by, is_some, Option, Some, None, option_map, refl, sym, ap, ◌∙◌, subst, arith, length-append, inl, inr}
 use Rattle.std.proofs.lemmas.List.{append_assoc, length-map}
 use Rattle.std.proofs.lemmas.Option.{slice_get-map}
 use Rattle.std.proofs.lemmas.Bool.Decides.{nat_tests}
@@ -291,3 +291,37 @@ drops config old mid new bytes align k place room calls s keeps least leaves dro
       serials = let e = ap (λ (m : OneCaller). m.next_serial) leaves.1 in let n = ap (λ (m : OneCaller). m.next_serial) dropped.rest in omega arith;
       answers = refl;
     }
+
+-- A span alone.
+
+pub one_span : (s : Span) (page : ℕ) → covers (s ∷ []) page ≡ holds s page
+one_span s page = or_false (holds s page)
+  where
+    or_false : (b : Bool) → (b || false) ≡ b
+    or_false true = refl
+    or_false false = refl
+
+pub all_one : (s : Span) (n : ℕ) → end_of s ≤ n → All (λ (t : Span). end_of t ≤ n) (s ∷ [])
+all_one s n h zero d low = h
+all_one s n h (suc k) d low = absurd (omega arith)
+
+-- A call that finds a place, whichever way it ends.
+
+pub answered_at : (config : Config) (old mid new : OneCaller) (bytes align n k : ℕ) (place : Span) (answer : Reply) (room : ℕ) (calls : List Call) (s : Stage)
+    → Keeps config old s → lowest (map is_taken s.marks) n k ≡ Some place.start → place.pages ≡ n → Leaves old mid (map is_taken s.marks) (Some place)
+    → ((taken : List Bool) → end_of place ≤ length taken → AreFreeRuns mid.free taken → Makes mid new place taken answer) → 1 ≤ n
+    → slice_get calls (length s.answers) ≡ Some (Vmalloc bytes align)
+    → IsAnsweredAt config old new bytes align answer room calls s (Finding (ForPages n k) (ForArea kind.Vmalloc))
+answered_at config old mid new bytes align n k place answer room calls s keeps least same leaves makes some at =
+    let pages : lowest (map is_taken s.marks) place.pages k ≡ Some place.start = subst (λ m. lowest (map is_taken s.marks) m k ≡ Some place.start) (sym same) least in
+    let low = (lowest_is_free (map is_taken s.marks) place.pages k place.start pages).within in
+    let wide = length-paint (holds place) true (map is_taken s.marks) in
+    subst (λ m. IsAnsweredAt config old new bytes align answer room calls s (Finding (ForPages m k) (ForArea kind.Vmalloc))) same
+    (elim (makes (paint (holds place) true (map is_taken s.marks)) (omega arith) leaves.0) [
+      | inl settled ↦
+          subst (λ r. IsAnsweredAt config old new bytes align r room calls s (Finding (ForPages place.pages k) (ForArea kind.Vmalloc))) (sym settled.0)
+          (settles config old mid new bytes align k place room calls s keeps pages leaves settled.1 (omega arith) at)
+      | inr dropped ↦
+          subst (λ r. IsAnsweredAt config old new bytes align r room calls s (Finding (ForPages place.pages k) (ForArea kind.Vmalloc))) (sym dropped.0)
+          (drops config old mid new bytes align k place room calls s keeps pages leaves dropped.1 at)
+    ])

@@ -1,12 +1,12 @@
 //! One caller's vmalloc calls over a space, made event by event.
 ghost use Rattle.std.specs.Prelude.{◌≡◌, ◌<◌, ◌≤◌, ◌+◌, ◌-◌, ◌^◌, ℕ, List, Bool, true, false, IfOk, OnOk, length, nat_le, take_while};
 ghost use Rattle.vm_model.specs.declared.areas.Area.{Area};
-ghost use Rattle.vm_model.specs.Space.{holds, covers, paint, put_by, end_of};
+ghost use Rattle.vm_model.specs.Space.{holds, covers, put_by, end_of};
 ghost use Rattle.vm_model.specs.Setup.{Setup};
 ghost use Rattle.vm_model.specs.Calls.{pages_for, align_pages, is_power_to};
 ghost use Rattle.augmented_tree.specs.FreeBlocks.{AreFreeRuns};
 ghost use Rattle.trace_replay.specs.Found.{Finds, Makes};
-ghost use Rattle.trace_replay.specs.OneCaller.{Answers};
+ghost use Rattle.trace_replay.specs.OneCaller.{Answers, HasRoom};
 
 use augmented_tree::FreeSide;
 use std::alloc::AllocError;
@@ -72,16 +72,6 @@ fn align_in_pages(align: u64) -> u32
     (align.max(PAGE) / PAGE) as u32
 }
 
-/// Gives a place back.
-fn release(free: &mut FreeSide, place: Span) -> Result<(), AllocError>
-    requires pages { 1 ≤ place.pages }
-    requires ends { end_of place ≤ 1048576 }
-    requires taken { (page : ℕ) → holds place page ≡ true → covers free.old.blocks page ≡ false }
-    ensures { OnOk result ((taken : List Bool) → end_of place ≤ length taken → AreFreeRuns free.old taken → AreFreeRuns free.new (paint (holds place) false taken)) }
-{
-    Err(AllocError)
-}
-
 impl OneCaller {
     /// Pages for an area: a search, and where it finds none a purge of what waits, which is nothing, and the search
     /// again.
@@ -115,7 +105,7 @@ impl OneCaller {
         let pages = place.pages - 1;
         self.events += 2;
         if self.free_frames < pages {
-            release(&mut self.free, place)?;
+            self.free.release_all(&[place])?;
             return Ok(Reply::NoFrames);
         }
         self.free_frames -= pages;
@@ -129,5 +119,33 @@ impl OneCaller {
         put_area(&mut self.areas, area)?;
         self.next_serial += 1;
         Ok(Reply::Address(FIRST_ADDRESS + PAGE * place.start as u64))
+    }
+
+    /// A call that is refused at the desk makes one event.
+    fn refuse(&mut self, reply: Reply) -> Reply
+        requires { self.old.events + 1 < 2 ^ 64 }
+        ensures reply { result ≡ reply }
+        ensures event { self.new ≡ record self.old { events = self.old.events + 1 } }
+    {
+        self.events += 1;
+        reply
+    }
+
+    /// A call of `vmalloc`: so many bytes and a guard page, at a multiple of the alignment in bytes.
+    fn vmalloc(&mut self, bytes: u64, align: u64) -> Result<Reply, AllocError>
+        requires { HasRoom self.old }
+        ensures { IfOk result (λ reply. Answers self.old self.new bytes align reply) }
+    {
+        let pages = bytes.div_ceil(PAGE);
+        if bytes == 0 || (self.space as u64) < pages {
+            return Ok(self.refuse(Reply::BadSize));
+        }
+        if !is_alignment(align) {
+            return Ok(self.refuse(Reply::BadAlign));
+        }
+        match self.find(pages as u32 + 1, align_in_pages(align))? {
+            Some(place) => self.make_area(place),
+            None => Ok(Reply::NoSpace),
+        }
     }
 }
