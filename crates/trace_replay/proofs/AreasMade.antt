@@ -201,7 +201,7 @@ three_counted made xs ys a b c h e = omega (arith, ap length e ∙ length-append
 pub settles : (config : Config) (old mid new : OneCaller) (bytes align k : ℕ) (place : Span) (room : ℕ) (calls : List Call) (s : Stage)
     → Keeps config old s → lowest (map is_taken s.marks) place.pages k ≡ Some place.start → Leaves old mid (map is_taken s.marks) (Some place) → IsSettled mid new place → 1 ≤ place.pages
     → slice_get calls (length s.answers) ≡ Some (Vmalloc bytes align)
-    → IsAnsweredAt config old new bytes align (reply.Address (address_of place.start)) room calls s (Finding (ForPages place.pages k) (ForArea kind.Vmalloc))
+    → IsAnsweredAt config old new (Vmalloc bytes align) (reply.Address (address_of place.start)) room calls s (Finding (ForPages place.pages k) (ForArea kind.Vmalloc))
 settles config old mid new bytes align k place room calls s keeps least leaves settled some at =
     let f = found config old s place k keeps least in
     let t : Stage = settled_stage config place k s in
@@ -220,6 +220,7 @@ settles config old mid new bytes align k place room calls s keeps least leaves s
       leads = ends config room calls t (SettlingArea place kind.Vmalloc) (Vmalloc bytes align) (reply.Address (address_of place.start)) (MadeArea place.start s.next) (settle_event place s) at;
       all = all;
       few = omega arith;
+      some = omega arith;
       serials = let e = ap (λ (m : OneCaller). m.next_serial) leaves.1 in let n = ap (λ (m : OneCaller). m.next_serial) settled.rest in omega arith;
       answers = refl;
     }
@@ -270,7 +271,7 @@ pub drops : (config : Config) (old mid new : OneCaller) (bytes align k : ℕ) (p
     → Keeps config old s → lowest (map is_taken s.marks) place.pages k ≡ Some place.start → Leaves old mid (map is_taken s.marks) (Some place)
     → IsDropped mid new place (paint (holds place) true (map is_taken s.marks))
     → slice_get calls (length s.answers) ≡ Some (Vmalloc bytes align)
-    → IsAnsweredAt config old new bytes align reply.NoFrames room calls s (Finding (ForPages place.pages k) (ForArea kind.Vmalloc))
+    → IsAnsweredAt config old new (Vmalloc bytes align) reply.NoFrames room calls s (Finding (ForPages place.pages k) (ForArea kind.Vmalloc))
 drops config old mid new bytes align k place room calls s keeps least leaves dropped at =
     let f = found config old s place k keeps least in
     let t : Stage = dropped_stage config place k s in
@@ -288,6 +289,7 @@ drops config old mid new bytes align k place room calls s keeps least leaves dro
       leads = ends config room calls t (Dropping place) (Vmalloc bytes align) reply.NoFrames MadeNothing (Drop place) at;
       all = all;
       few = omega arith;
+      some = omega arith;
       serials = let e = ap (λ (m : OneCaller). m.next_serial) leaves.1 in let n = ap (λ (m : OneCaller). m.next_serial) dropped.rest in omega arith;
       answers = refl;
     }
@@ -311,17 +313,17 @@ pub answered_at : (config : Config) (old mid new : OneCaller) (bytes align n k :
     → Keeps config old s → lowest (map is_taken s.marks) n k ≡ Some place.start → place.pages ≡ n → Leaves old mid (map is_taken s.marks) (Some place)
     → ((taken : List Bool) → end_of place ≤ length taken → AreFreeRuns mid.free taken → Makes mid new place taken answer) → 1 ≤ n
     → slice_get calls (length s.answers) ≡ Some (Vmalloc bytes align)
-    → IsAnsweredAt config old new bytes align answer room calls s (Finding (ForPages n k) (ForArea kind.Vmalloc))
+    → IsAnsweredAt config old new (Vmalloc bytes align) answer room calls s (Finding (ForPages n k) (ForArea kind.Vmalloc))
 answered_at config old mid new bytes align n k place answer room calls s keeps least same leaves makes some at =
     let pages : lowest (map is_taken s.marks) place.pages k ≡ Some place.start = subst (λ m. lowest (map is_taken s.marks) m k ≡ Some place.start) (sym same) least in
     let low = (lowest_is_free (map is_taken s.marks) place.pages k place.start pages).within in
     let wide = length-paint (holds place) true (map is_taken s.marks) in
-    subst (λ m. IsAnsweredAt config old new bytes align answer room calls s (Finding (ForPages m k) (ForArea kind.Vmalloc))) same
+    subst (λ m. IsAnsweredAt config old new (Vmalloc bytes align) answer room calls s (Finding (ForPages m k) (ForArea kind.Vmalloc))) same
     (elim (makes (paint (holds place) true (map is_taken s.marks)) (omega arith) leaves.0) [
       | inl settled ↦
-          subst (λ r. IsAnsweredAt config old new bytes align r room calls s (Finding (ForPages place.pages k) (ForArea kind.Vmalloc))) (sym settled.0)
+          subst (λ r. IsAnsweredAt config old new (Vmalloc bytes align) r room calls s (Finding (ForPages place.pages k) (ForArea kind.Vmalloc))) (sym settled.0)
           (settles config old mid new bytes align k place room calls s keeps pages leaves settled.1 (omega arith) at)
       | inr dropped ↦
-          subst (λ r. IsAnsweredAt config old new bytes align r room calls s (Finding (ForPages place.pages k) (ForArea kind.Vmalloc))) (sym dropped.0)
+          subst (λ r. IsAnsweredAt config old new (Vmalloc bytes align) r room calls s (Finding (ForPages place.pages k) (ForArea kind.Vmalloc))) (sym dropped.0)
           (drops config old mid new bytes align k place room calls s keeps pages leaves dropped.1 at)
     ])

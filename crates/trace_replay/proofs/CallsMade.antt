@@ -75,7 +75,7 @@ one_event made events e h = ap suc h ∙ sym (length-one_more events e)
 
 pub refused : (config : Config) (old new : OneCaller) (bytes align : ℕ) (reply : Reply) (room : ℕ) (calls : List Call) (s : Stage)
     → Keeps config old s → new ≡ record old { events = old.events + 1 } → slice_get calls (length s.answers) ≡ Some (Vmalloc bytes align)
-    → IsAnsweredAt config old new bytes align reply room calls s (Refusing reply)
+    → IsAnsweredAt config old new (Vmalloc bytes align) reply room calls s (Refusing reply)
 refused config old new bytes align reply room calls s k same at =
     let counted : new ≡ record old { events = suc s.made } = same ∙ ap (λ n. record old { events = n }) (let e = k.events in let n : old.events + 1 ≡ suc s.made = omega arith in n) in
     record {
@@ -87,6 +87,7 @@ refused config old new bytes align reply room calls s k same at =
       leads = ends config room calls s (Refusing reply) (Vmalloc bytes align) reply MadeNothing Refuse at;
       all = refl;
       few = omega arith;
+      some = omega arith;
       serials = let e = ap (λ (m : OneCaller). m.next_serial) same in omega arith;
       answers = refl;
     }
@@ -99,7 +100,7 @@ covers_none page = refl
 pub without_space : (config : Config) (old new : OneCaller) (bytes align pages k : ℕ) (room : ℕ) (calls : List Call) (s : Stage)
     → Keeps config old s → new ≡ record old { events = old.events + 6 } → slice_get calls (length s.answers) ≡ Some (Vmalloc bytes align)
     → lowest (map is_taken s.marks) pages k ≡ None
-    → IsAnsweredAt config old new bytes align reply.NoSpace room calls s (Finding (ForPages pages k) (ForArea kind.Vmalloc))
+    → IsAnsweredAt config old new (Vmalloc bytes align) reply.NoSpace room calls s (Finding (ForPages pages k) (ForArea kind.Vmalloc))
 without_space config old new bytes align pages k room calls s keeps same at none =
     let painted : List Mark = paint (covers []) (Flushing 0) s.marks in
     let still : painted ≡ s.marks = paint_nowhere (covers []) (Flushing 0) s.marks covers_none in
@@ -121,6 +122,7 @@ without_space config old new bytes align pages k room calls s keeps same at none
       leads = ends config room calls t (FindingAgain (ForPages pages k) (ForArea kind.Vmalloc)) (Vmalloc bytes align) reply.NoSpace MadeNothing (NoHole (ForPages pages k)) at;
       all = all;
       few = omega arith;
+      some = omega arith;
       serials = let e = ap (λ (m : OneCaller). m.next_serial) same in omega arith;
       answers = refl;
     }

@@ -1,16 +1,24 @@
 //! One caller's vmalloc calls over a space, made event by event.
-ghost use Rattle.std.specs.Prelude.{◌≡◌, ◌<◌, ◌≤◌, ◌+◌, ◌-◌, ◌^◌, ℕ, List, Bool, true, false, IfOk, OnOk, length, nat_le, take_while};
+ghost use Rattle.std.specs.Prelude.{◌≡◌, ◌<◌, ◌≤◌, ◌+◌, ◌-◌, ◌^◌, ℕ, List, Bool, true, false, [], ◌∷◌, Some, IfOk, OnOk, length, nat_le, take_while};
 ghost use Rattle.vm_model.specs.declared.areas.Area.{Area};
 ghost use Rattle.vm_model.specs.Space.{holds, covers, put_by, end_of};
 ghost use Rattle.vm_model.specs.Setup.{Setup};
 ghost use Rattle.vm_model.specs.Calls.{pages_for, align_pages, is_power_to};
 ghost use Rattle.augmented_tree.specs.FreeBlocks.{AreFreeRuns};
 ghost use Rattle.trace_replay.specs.Found.{Finds, Makes};
-ghost use Rattle.trace_replay.specs.OneCaller.{Answers, HasRoom};
+ghost use Rattle.trace_replay.specs.OneCaller.{Answers, HasRoom, Keeps, HasAnswered, AreVmalloc, IsSmall, first_stage, tables_after};
+ghost use Rattle.vm_model.specs.Config.{setup_of};
+ghost use Rattle.vm_model.specs.History.{history_of};
+ghost use Rattle.vm_model.specs.Tables.{tables_of};
+ghost use Rattle.vm_model.specs.Laws.{IsOneLegalHistory};
+ghost use Rattle.vm_model.specs.Rules.{IsVmallocCall};
+ghost use Rattle.vm_model.specs.declared.calls.Call.TheVariants.{Vmalloc};
 
 use augmented_tree::FreeSide;
-use std::alloc::AllocError;
-use vm_model::{Area, AreaKind, Reply, Span};
+use std::alloc::{AllocError, Global};
+use vm_model::{
+    Area, AreaKind, AreaList, BlockList, Call, ChunkAuditList, ChunkList, Config, Entry, EntryList, HintList, ObjectList, PartList, Reply, Span, SpanList, Tables,
+};
 
 /// The bytes of a page.
 const PAGE: u64 = 4096;
@@ -134,7 +142,7 @@ impl OneCaller {
     /// A call of `vmalloc`: so many bytes and a guard page, at a multiple of the alignment in bytes.
     fn vmalloc(&mut self, bytes: u64, align: u64) -> Result<Reply, AllocError>
         requires { HasRoom self.old }
-        ensures { IfOk result (λ reply. Answers self.old self.new bytes align reply) }
+        ensures { IfOk result (λ reply. Answers self.old self.new (Vmalloc bytes align) reply) }
     {
         let pages = bytes.div_ceil(PAGE);
         if bytes == 0 || (self.space as u64) < pages {
@@ -148,4 +156,113 @@ impl OneCaller {
             None => Ok(Reply::NoSpace),
         }
     }
+
+    /// A call of the built words.
+    fn answer(&mut self, call: &Call) -> Result<Reply, AllocError>
+        requires room { HasRoom self.old }
+        requires built { IsVmallocCall (Some call.now) }
+        ensures { IfOk result (λ reply. Answers self.old self.new call.now reply) }
+    {
+        match call {
+            Call::Vmalloc { bytes, align } => self.vmalloc(*bytes, *align),
+            _ => unreachable!(),
+        }
+    }
+
+    /// All calls in order.
+    fn answer_all(
+        &mut self,
+        alloc: Global,
+        config: &Config,
+        calls: &[Call],
+    ) -> Result<Vec<Entry>, AllocError>
+        requires first { Keeps config.now self.old (first_stage config.now) }
+        requires small { IsSmall config.now }
+        requires few { length calls.now ≤ 100000 }
+        requires built { AreVmalloc calls.now }
+        ensures { IfOk result (λ entries. HasAnswered config.now calls.now (length calls.now) self.new entries.items) }
+    {
+        let mut entries = Vec::new(alloc);
+        for (index, call) in calls.iter().enumerate() {
+            let reply = self.answer(call)?;
+            entries.push(Entry {
+                caller: 0,
+                call: index as u32 + 1,
+                reply,
+                event: self.events,
+            })?;
+        }
+        Ok(entries)
+    }
+
+    /// The free blocks by start.
+    fn free_blocks(&self, alloc: Global) -> Result<Vec<Span>, AllocError>
+        ensures { IfOk result (λ spans. spans.items ≡ self.now.free.blocks) }
+    {
+        let mut spans = Vec::new(alloc);
+        for index in 0..self.free.len() {
+            spans.push(self.free.block_at(index))?;
+        }
+        Ok(spans)
+    }
+
+    /// The tables after the last event.
+    fn tables(self, alloc: Global, entries: Vec<Entry>) -> Result<Tables, AllocError>
+        ensures { IfOk result (λ tables. tables ≡ tables_after self entries.items) }
+    {
+        let free = self.free_blocks(alloc)?;
+        let largest = self.free.largest();
+        Ok(Tables {
+            entries: EntryList::of(entries),
+            events: self.events,
+            frames: self.free_frames,
+            mapped: self.mapped,
+            stale: 0,
+            free: SpanList::of(free),
+            areas: AreaList::of(self.areas),
+            waiting: SpanList::of(Vec::new(alloc)),
+            blocks: BlockList::of(Vec::new(alloc)),
+            parts: PartList::of(Vec::new(alloc)),
+            chunks: ChunkList::of(Vec::new(alloc)),
+            objects: ObjectList::of(Vec::new(alloc)),
+            tree_blocks: self.free.len(),
+            tree_largest: largest,
+            plain_largest: largest,
+            chunk_audit: ChunkAuditList::of(Vec::new(alloc)),
+            hints: HintList::of(Vec::new(alloc)),
+        })
+    }
+}
+
+/// The allocator before the first call.
+fn start(alloc: Global, config: &Config) -> Result<OneCaller, AllocError>
+    requires { IsSmall config.now }
+    ensures { IfOk result (λ m. Keeps config.now m (first_stage config.now)) }
+{
+    Ok(OneCaller {
+        space: config.space,
+        free: FreeSide::whole(alloc, config.space)?,
+        areas: Vec::new(alloc),
+        free_frames: config.frames,
+        mapped: 0,
+        next_serial: 1,
+        events: 0,
+    })
+}
+
+/// The replies and tables of one caller's calls, all of which are `vmalloc`.
+pub fn tables_of_calls(
+    alloc: Global,
+    config: &Config,
+    calls: &[Call],
+) -> Result<Tables, AllocError>
+    requires small { IsSmall config.now }
+    requires few { length calls.now ≤ 100000 }
+    requires built { AreVmalloc calls.now }
+    ensures tables { IfOk result (λ tables. tables ≡ tables_of (setup_of config.now) (history_of (setup_of config.now) calls.now ([] ∷ []) [])) }
+    ensures legal { OnOk result (IsOneLegalHistory (setup_of config.now) calls.now ([] ∷ []) []) }
+{
+    let mut machine = start(alloc, config)?;
+    let entries = machine.answer_all(alloc, config, calls)?;
+    machine.tables(alloc, entries)
 }

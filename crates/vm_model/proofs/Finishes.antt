@@ -10,7 +10,7 @@ use Rattle.vm_model.specs.Next.{Next, Go, Answer, next}
 use Rattle.vm_model.specs.Calls.{Answered}
 use Rattle.vm_model.specs.Given.{given, can_move}
 use Rattle.vm_model.specs.History.{World, Local, section_of, event_of, made_if, made_by, step, moved_to, answered_of, first_mover, finish}
-use Rattle.vm_model.specs.LegalHistory.{IsRun, IsNext, IsNextOf, after_event, world_after}
+use Rattle.vm_model.specs.LegalHistory.{IsRun, IsNext, IsNextOf, after_event, after_event_of, world_after}
 use Rattle.vm_model.proofs.OneNext.{one_next, gives}
 
 -- one caller over a map, after these events
@@ -96,3 +96,17 @@ world_after-append w (e ∷ es) fs = world_after-append (after_event w e) es fs
 pub run-append : (w : World) (es fs : List Event) → IsRun w es → IsRun (world_after w es) fs → IsRun w (es ++ fs)
 run-append w [] fs a b = b
 run-append w (e ∷ es) fs a b = (a.0, run-append (after_event w e) es fs a.1 b)
+
+-- Who makes the events of a caller that stands alone.
+
+abbrev pub AreByFirst : List Event → Type 0
+AreByFirst [] = Unit {0}
+AreByFirst (e ∷ events) = (e.caller ≡ 0) × AreByFirst events
+
+pub first_makes : (events : List Event) (m : PlainMap) (l : Local) (before : List Event) → l.caller ≡ 0 → IsRun (alone m l before) events → AreByFirst events
+first_makes [] m l before first run = tt
+first_makes (e ∷ events) m l before first run =
+    let is = gives_next m l before e.caller e.section run.0 in
+    let same = set_caller m l before e.section first in
+    let after : after_event (alone m l before) e ≡ made_by (alone m l before) l e.section = ap (λ k. after_event_of (alone m l before) e (slice_get (l ∷ []) k)) is.0 in
+    (is.0, first_makes events _ _ _ (same_caller l _ ∙ first) (subst (λ w. IsRun w events) (after ∙ same) run.1))

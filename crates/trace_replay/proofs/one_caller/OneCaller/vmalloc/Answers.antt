@@ -1,5 +1,6 @@
 use Rattle.std.proofs.Common.{◌≡◌, ◌+◌, ◌≤◌, ◌<◌, ◌∙◌, sym, ap, subst, arith, true, false, ◌||◌, ◌==◌, nat_lt, not, refl, Some, None, inl, inr, map}
 use Rattle.std.proofs.lemmas.Bool.Decides.{nat_tests}
+use Rattle.vm_model.specs.declared.calls.Call.TheVariants.{Vmalloc}
 use Rattle.vm_model.specs.declared.calls.Reply.{Reply}
 use Rattle.vm_model.specs.declared.calls.Reply.TheVariants as reply
 use Rattle.std.proofs.lemmas.Result.{IfOk-weaker}
@@ -23,8 +24,8 @@ returns-then-bytes-eq0 c = λ config room calls s keeps at.
     let pages = c.div_ceil-pages.ensures in
     let bad : is_bad_vmalloc_size (setup_of config) c.args.bytes ≡ true
         = size_is_bad config c.args.bytes (elim c.then-bytes-eq0.branch [ then-bytes-eq0-via-then-bytes-eq0 w ↦ inl w.if-bytes-eq0.true | then-bytes-eq0-via-else-bytes-eq0+then-self-pages w ↦ inr (let l = w.if-self-pages.true in omega arith) ]) in
-    subst (λ r. IsAnsweredAt config c.args.self.now c.refuse.new.self c.args.bytes c.args.align r room calls s (next_place config calls s.answers)) (sym c.refuse.ensures.reply)
-    (subst (IsAnsweredAt config c.args.self.now c.refuse.new.self c.args.bytes c.args.align reply.BadSize room calls s) (sym (bad_size config calls s.answers c.args.bytes c.args.align at bad))
+    subst (λ r. IsAnsweredAt config c.args.self.now c.refuse.new.self (Vmalloc c.args.bytes c.args.align) r room calls s (next_place config calls s.answers)) (sym c.refuse.ensures.reply)
+    (subst (IsAnsweredAt config c.args.self.now c.refuse.new.self (Vmalloc c.args.bytes c.args.align) reply.BadSize room calls s) (sym (bad_size config calls s.answers c.args.bytes c.args.align at bad))
     (refused config c.args.self.now c.refuse.new.self c.args.bytes c.args.align reply.BadSize room calls s keeps c.refuse.ensures.event at))
 
 pub returns-then-not-is_alignment : goal.returns-then-not-is_alignment
@@ -32,8 +33,8 @@ returns-then-not-is_alignment c = λ config room calls s keeps at.
     let good : is_bad_vmalloc_size (setup_of config) c.args.bytes ≡ false
         = size_is_good config c.args.bytes c.if-bytes-eq0.false (let space = keeps.space in let pages = c.div_ceil-pages.ensures in let l = c.if-self-pages.false in omega arith) in
     let bad : is_bad_vmalloc_align c.args.align ≡ true = ap not (sym c.is_alignment.ensures ∙ c.if-not-is_alignment.true) in
-    subst (λ r. IsAnsweredAt config c.args.self.now c.refuse-then-not-is_alignment.new.self c.args.bytes c.args.align r room calls s (next_place config calls s.answers)) (sym c.refuse-then-not-is_alignment.ensures.reply)
-    (subst (IsAnsweredAt config c.args.self.now c.refuse-then-not-is_alignment.new.self c.args.bytes c.args.align reply.BadAlign room calls s) (sym (bad_align config calls s.answers c.args.bytes c.args.align at good bad))
+    subst (λ r. IsAnsweredAt config c.args.self.now c.refuse-then-not-is_alignment.new.self (Vmalloc c.args.bytes c.args.align) r room calls s (next_place config calls s.answers)) (sym c.refuse-then-not-is_alignment.ensures.reply)
+    (subst (IsAnsweredAt config c.args.self.now c.refuse-then-not-is_alignment.new.self (Vmalloc c.args.bytes c.args.align) reply.BadAlign room calls s) (sym (bad_align config calls s.answers c.args.bytes c.args.align at good bad))
     (refused config c.args.self.now c.refuse-then-not-is_alignment.new.self c.args.bytes c.args.align reply.BadAlign room calls s keeps c.refuse-then-not-is_alignment.ensures.event at))
 
 pub make_area-requires : goal.make_area-requires
@@ -65,7 +66,7 @@ returns-in-Some c =
         let pages : c.div_ceil-pages.result + 1 ≡ pages_for c.args.bytes + 1 = ap (λ n. n + 1) (c.div_ceil-pages.ensures ∙ pages_of_bytes c.args.bytes) in
         let same : Finding (ForPages (c.div_ceil-pages.result + 1) c.align_in_pages.result) (ForArea kind.Vmalloc) ≡ next_place config calls s.answers
             = ap (λ n. Finding (ForPages n c.align_in_pages.result) (ForArea kind.Vmalloc)) pages ∙ ap (λ k. Finding (ForPages (pages_for c.args.bytes + 1) k) (ForArea kind.Vmalloc)) c.align_in_pages.ensures.pages ∙ sym begins in
-        subst (IsAnsweredAt config c.args.self.now c.make_area.new.self c.args.bytes c.args.align answer room calls s) same
+        subst (IsAnsweredAt config c.args.self.now c.make_area.new.self (Vmalloc c.args.bytes c.args.align) answer room calls s) same
         (answered_at config c.args.self.now c.find.new.self c.make_area.new.self c.args.bytes c.args.align (c.div_ceil-pages.result + 1) c.align_in_pages.result c.in-Some.place answer room calls s keeps found.0 found.1 found.2 makes (omega arith) at))
     c.make_area.ensures
 
@@ -79,5 +80,5 @@ returns-in-None c = λ config room calls s keeps at.
     let pages : c.div_ceil-pages.result + 1 ≡ pages_for c.args.bytes + 1 = ap (λ n. n + 1) (c.div_ceil-pages.ensures ∙ pages_of_bytes c.args.bytes) in
     let same : Finding (ForPages (c.div_ceil-pages.result + 1) c.align_in_pages.result) (ForArea kind.Vmalloc) ≡ next_place config calls s.answers
         = ap (λ n. Finding (ForPages n c.align_in_pages.result) (ForArea kind.Vmalloc)) pages ∙ ap (λ k. Finding (ForPages (pages_for c.args.bytes + 1) k) (ForArea kind.Vmalloc)) c.align_in_pages.ensures.pages ∙ sym begins in
-    subst (IsAnsweredAt config c.args.self.now c.find.new.self c.args.bytes c.args.align reply.NoSpace room calls s) same
+    subst (IsAnsweredAt config c.args.self.now c.find.new.self (Vmalloc c.args.bytes c.args.align) reply.NoSpace room calls s) same
     (without_space config c.args.self.now c.find.new.self c.args.bytes c.args.align (c.div_ceil-pages.result + 1) c.align_in_pages.result room calls s keeps found.1 at found.0)
