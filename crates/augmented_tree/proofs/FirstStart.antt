@@ -84,13 +84,10 @@ start_or n k s rest = if has_room n k s then Some (next_multiple_of s.start k) e
 no_room : (n k p : ℕ) → 1 ≤ n → has_room n k (span p 0) ≡ false
 no_room n k p some = grind (arith, nat_tests)
 
-same_span : (s t : Span) → s.start ≡ t.start → s.pages ≡ t.pages → s ≡ t
-same_span s t a b = λ i. record { start = a i; pages = b i }
-
 first_start-split_by : (n k p : ℕ) (s : Span) (spans : List Span) (b : Bool) → (s.start == p) ≡ b → 1 ≤ n
     → first_start n k (s ∷ spans) ≡ start_or n k (span p (if b then s.pages else 0)) (first_start n k (if b then spans else s ∷ spans))
 first_start-split_by n k p s spans true e some = let is : s.start ≡ p = grind (arith, nat_tests) in
-    ap (λ t. start_or n k t (first_start n k spans)) (same_span s (span p s.pages) is refl)
+    ap (λ start. start_or n k (span start s.pages) (first_start n k spans)) is
 first_start-split_by n k p s spans false e some = ap (λ b. if b then Some (next_multiple_of p k) else first_start n k (s ∷ spans)) (sym (no_room n k p some))
 
 first_start-split : (n k p : ℕ) (spans : List Span) → 1 ≤ n

@@ -10,6 +10,7 @@ use Rattle.vm_model.specs.declared.areas.Span.{Span}
 use Rattle.vm_model.specs.Space.{span, end_of, holds, covers, AreSeparateFrom}
 use Rattle.vm_model.proofs.Runs.{covers-head}
 use Rattle.augmented_tree.specs.Blocks.{spliced, TakesIn, JoinsBefore, JoinsAfter}
+use Rattle.augmented_tree.proofs.Splices.{split_at}
 use Rattle.augmented_tree.proofs.SeparateBlocks.{covers-append, separate-tail, starts_after}
 
 -- Separate blocks in parts.
@@ -33,7 +34,7 @@ separate-around low (x ∷ xs) t ys n a l some m =
     (n.0, n.1, separate-around (suc (end_of x)) xs t ys n.2 (All-tail (λ (x : Span). end_of x < t.start) x xs a) head some m)
 
 separate-split : (xs : List Span) (i : ℕ) (d : Span) → AreSeparateFrom 0 xs → i < length xs → AreSeparateFrom 0 (take i xs ++ (get_or xs i d ∷ drop (i + 1) xs))
-separate-split xs i d n h = subst (AreSeparateFrom 0) (sym (take-append-drop i xs) ∙ ap (λ ys. take i xs ++ ys) (drop_more xs i d h)) n
+separate-split xs i d n h = subst (AreSeparateFrom 0) (split_at xs i d h) n
 
 drop_range : {X : Type 0} (xs : List X) (i j : ℕ) → i ≤ j → drop i xs ≡ slice_range xs i j ++ drop j xs
 drop_range xs i j h = append_cancel_left (take i xs) (drop i xs) (slice_range xs i j ++ drop j xs) (take-append-drop i xs ∙ split_between xs i j h)
@@ -131,7 +132,7 @@ separate_behind s xs i n free later =
     elim (cases_lt i (length xs)) [
       | inl h ↦
           let b : Span = get_or xs i (span 0 0) in
-          let split : xs ≡ take i xs ++ (b ∷ drop (i + 1) xs) = sym (take-append-drop i xs) ∙ ap (λ ys. take i xs ++ ys) (drop_more xs i (span 0 0) h) in
+          let split : xs ≡ take i xs ++ (b ∷ drop (i + 1) xs) = split_at xs i (span 0 0) h in
           subst (AreSeparateFrom (end_of s)) (sym (drop_more xs i (span 0 0) h))
           (begins_behind s (take i xs) b (drop (i + 1) xs) (subst (AreSeparateFrom 0) split n)
           (subst (λ spans. (page : ℕ) → holds s page ≡ true → covers spans page ≡ false) split free) (at_some xs i (span 0 0) (λ (b : Span). s.start < b.start) h later))

@@ -26,9 +26,12 @@ module _ {X : Type 0} where
   pub spliced-set_insert : (xs : List X) (i : ℕ) (y z : X) → i < length xs → set (insert xs (i + 1) z) i y ≡ spliced xs i (i + 1) (y ∷ z ∷ [])
   spliced-set_insert xs i y z h = rw add-one (set-insert xs i y z h)
 
-  -- a list around an element that was read in it
+  -- a list around one of its elements
+  pub split_at : (xs : List X) (i : ℕ) (d : X) → i < length xs → xs ≡ take i xs ++ (get_or xs i d ∷ drop (i + 1) xs)
+  split_at xs i d h = sym (take-append-drop i xs) ∙ ap (λ ys. take i xs ++ ys) (drop_more xs i d h)
+
   pub split_read : (xs : List X) (i : ℕ) (y : X) → i < length xs → y ≡ get_or xs i y → xs ≡ take i xs ++ (y ∷ drop (i + 1) xs)
-  split_read xs i y h e = sym (take-append-drop i xs) ∙ ap (λ ys. take i xs ++ ys) (drop_more xs i y h ∙ ap (λ z. z ∷ drop (i + 1) xs) (sym e))
+  split_read xs i y h e = split_at xs i y h ∙ ap (λ z. take i xs ++ (z ∷ drop (i + 1) xs)) (sym e)
 
   some_and : {P : Type 0} (o : Option X) (Q : X → Type 0) → IsSomeAnd o Q → ((x : X) → o ≡ Some x → Q x → P) → P
   some_and None Q h f = absurd h

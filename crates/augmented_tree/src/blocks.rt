@@ -1,9 +1,10 @@
-//! Separate blocks of free pages in a list, by rising start.
+//! Separate blocks of free pages in a list, by rising start. Functions of mm/vmalloc.c of Linux 6.1 that these follow
+//! are named with them.
 ghost use Rattle.std.specs.Prelude.{◌≡◌, ◌+◌, ◌≤◌, ◌<◌, ◌++◌, ◌∷◌, [], ℕ, true, false, Some, None, All, length, take, drop, slice_get, vec_len, vec_capacity, option_map, if◌then◌else◌, IfSome, IsSomeAnd, OnOk, OnErr};
 ghost use Rattle.std.specs.Int.{next_multiple_of};
 ghost use Rattle.vm_model.specs.declared.areas.Span.{Span};
 ghost use Rattle.vm_model.specs.Space.{span, end_of, holds, covers, times, AreSeparateFrom};
-ghost use Rattle.augmented_tree.specs.Blocks.{has_room, first_start, IsInside, unless_empty, spliced, LeavesOut, TakesIn, JoinsBefore, JoinsAfter};
+ghost use Rattle.augmented_tree.specs.Blocks.{AreBlocks, has_room, first_start, IsInside, unless_empty, spliced, LeavesOut, TakesIn, JoinsBefore, JoinsAfter};
 ghost use Rattle.augmented_tree.specs.declared.blocks.Fit.{Fit};
 
 use std::alloc::AllocError;
@@ -12,11 +13,13 @@ use vm_model::Span;
 /// A place for some pages: the index of a block, and the first page in it.
 #[derive(Clone, Copy)]
 pub struct Fit {
+    /// The block.
     pub index: usize,
+    /// The first of the pages.
     pub start: u32,
 }
 
-/// The least multiple of the alignment in the block, where the pages fit in it from there: `is_within_this_va`.
+/// The least multiple of the alignment in the block, if the pages fit in it from there: `is_within_this_va`.
 fn fit_in(block: Span, pages: u32, align: u32) -> Option<u32>
     requires align { 1 ≤ align }
     requires end { end_of block ≤ 1048576 }
@@ -31,7 +34,7 @@ fn fit_in(block: Span, pages: u32, align: u32) -> Option<u32>
     }
 }
 
-/// The first block in which the pages fit, and the least start in it.
+/// The first block in which the pages fit, and the least start in it: `find_vmap_lowest_match`.
 pub fn first_fit(blocks: &[Span], pages: u32, align: u32) -> Option<Fit>
     requires align { 1 ≤ align }
     requires ends { All (λ (b : Span). end_of b ≤ 1048576) blocks.now }
@@ -70,12 +73,11 @@ fn replace_block(
     Ok(())
 }
 
-/// Takes a place in a block out of the blocks.
+/// Takes a place in a block out of the blocks. It takes memory only where pages are left on both sides.
 pub fn cut_out(blocks: &mut Vec<Span>, index: usize, place: Span) -> Result<(), AllocError>
     requires pages { 1 ≤ place.pages }
     requires inside { IsSomeAnd (slice_get blocks.old.items index) (IsInside place) }
-    requires separate { AreSeparateFrom 0 blocks.old.items }
-    requires ends { All (λ (b : Span). end_of b ≤ 1048576) blocks.old.items }
+    requires separate { AreBlocks blocks.old.items }
     ensures ok { OnOk result (LeavesOut blocks.old.items blocks.new.items place) }
     ensures err { OnErr result (blocks.new.items ≡ blocks.old.items) }
 {
@@ -92,7 +94,7 @@ pub fn cut_out(blocks: &mut Vec<Span>, index: usize, place: Span) -> Result<(), 
     replace_block(blocks, index, before, after)
 }
 
-/// How many blocks begin at a page or before it.
+/// How many blocks begin at a page or before it: the place of a span that begins there, as `find_va_links` finds it.
 fn blocks_up_to(blocks: &[Span], page: u32) -> usize
     ensures bound { result ≤ length blocks.now }
     ensures before { All (λ (b : Span). b.start ≤ page) (take result blocks.now) }
@@ -106,18 +108,19 @@ fn blocks_up_to(blocks: &[Span], page: u32) -> usize
     blocks.len()
 }
 
-/// An end of pages that blocks may touch: a page, and an index beside which the blocks do not touch it.
+/// The lower or the upper end of a span together with the blocks that it touches.
 #[derive(Clone, Copy)]
 struct Joint {
+    /// At the lower end the first of these blocks, at the upper end the first one behind them.
     index: usize,
+    /// The first page of them all, or the page behind them.
     page: u32,
 }
 
-/// The start of the pages from a start on, together with the block that ends there.
+/// The lower end of a span that begins at a page, with the block that ends there, if one does.
 fn joint_before(blocks: &[Span], index: usize, start: u32) -> Joint
     requires bound { index ≤ length blocks.now }
-    requires separate { AreSeparateFrom 0 blocks.now }
-    requires ends { All (λ (b : Span). end_of b ≤ 1048576) blocks.now }
+    requires separate { AreBlocks blocks.now }
     requires before { All (λ (b : Span). end_of b ≤ start) (take index blocks.now) }
     ensures { JoinsBefore blocks.now result.index index result.page start }
 {
@@ -133,11 +136,10 @@ fn joint_before(blocks: &[Span], index: usize, start: u32) -> Joint
     Joint { index, page: start }
 }
 
-/// The end of the pages up to an end, together with the block that begins there.
+/// The upper end of a span that ends at a page, with the block that begins there, if one does.
 fn joint_after(blocks: &[Span], index: usize, end: u32) -> Joint
     requires bound { index ≤ length blocks.now }
-    requires separate { AreSeparateFrom 0 blocks.now }
-    requires ends { All (λ (b : Span). end_of b ≤ 1048576) blocks.now }
+    requires separate { AreBlocks blocks.now }
     requires end { end ≤ 1048576 }
     requires after { AreSeparateFrom end (drop index blocks.now) }
     ensures joins { JoinsAfter blocks.now index result.index end result.page }
@@ -177,13 +179,12 @@ fn replace_run(blocks: &mut Vec<Span>, first: usize, after: usize, block: Span)
     }
 }
 
-/// Puts a span that is in no block among the blocks, where there is room for one more: blocks that touch become one.
-/// It takes no memory.
+/// Puts a span that is in no block among the blocks, where there is room for one more: blocks that touch become one,
+/// as `merge_or_add_vmap_area` has it. It takes no memory.
 fn put_back(blocks: &mut Vec<Span>, span: Span)
     requires pages { 1 ≤ span.pages }
     requires end { end_of span ≤ 1048576 }
-    requires separate { AreSeparateFrom 0 blocks.old.items }
-    requires ends { All (λ (b : Span). end_of b ≤ 1048576) blocks.old.items }
+    requires separate { AreBlocks blocks.old.items }
     requires taken { (page : ℕ) → holds span page ≡ true → covers blocks.old.items page ≡ false }
     requires room { vec_len blocks.old < vec_capacity blocks.old }
     ensures blocks { TakesIn blocks.old.items blocks.new.items (span ∷ []) }
@@ -203,10 +204,9 @@ fn put_back(blocks: &mut Vec<Span>, span: Span)
 /// Puts spans back that are in no block, where there is room for each. It takes no memory.
 pub fn put_back_all(blocks: &mut Vec<Span>, spans: &[Span])
     requires pages { All (λ (s : Span). 1 ≤ s.pages) spans.now }
-    requires span_ends { All (λ (s : Span). end_of s ≤ 1048576) spans.now }
+    requires ends { All (λ (s : Span). end_of s ≤ 1048576) spans.now }
     requires disjoint { (page : ℕ) → times page spans.now ≤ 1 }
-    requires separate { AreSeparateFrom 0 blocks.old.items }
-    requires ends { All (λ (b : Span). end_of b ≤ 1048576) blocks.old.items }
+    requires separate { AreBlocks blocks.old.items }
     requires taken { (page : ℕ) → covers spans.now page ≡ true → covers blocks.old.items page ≡ false }
     requires room { vec_len blocks.old + length spans.now ≤ vec_capacity blocks.old }
     ensures { TakesIn blocks.old.items blocks.new.items spans.now }

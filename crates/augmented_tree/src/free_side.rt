@@ -1,4 +1,5 @@
-//! The free blocks of a space: what `free_vmap_area_root` holds in the kernel.
+//! The free blocks of a space: what `free_vmap_area_root` holds in the kernel. Functions of mm/vmalloc.c of Linux 6.1
+//! that these follow are named with them.
 ghost use Rattle.std.specs.Prelude.{◌≡◌, ◌≤◌, ◌<◌, ℕ, List, Bool, true, false, Some, None, All, length, slice_get, replicate, option_map, IfOk, IfSome, IfNone, OnOk, OnErr, ◌∷◌, []};
 ghost use Rattle.vm_model.specs.Space.{span, holds, covers, times, end_of, lowest, longest_of, paint, AreSeparateFrom};
 ghost use Rattle.vm_model.specs.declared.areas.Span.{Span};
@@ -52,7 +53,8 @@ impl FreeSide {
         }
     }
 
-    /// Takes the least such pages out, as `__alloc_vmap_area` does.
+    /// Takes the least such pages out, as `__alloc_vmap_area` does, or none where so many fit nowhere. It takes memory
+    /// only where a block is cut in two, and an error leaves the blocks as they were.
     pub fn carve(&mut self, pages: u32, align: u32) -> Result<Option<Span>, AllocError>
         requires pages { 1 ≤ pages }
         requires align { 1 ≤ align }
@@ -73,7 +75,8 @@ impl FreeSide {
         Ok(Some(place))
     }
 
-    /// Gives pages back, as `merge_or_add_vmap_area_augment` does for each span: blocks that touch become one.
+    /// Gives pages back, as `merge_or_add_vmap_area_augment` does for each span: blocks that touch become one. An error
+    /// leaves the blocks as they were.
     pub fn release_all(&mut self, spans: &[Span]) -> Result<(), AllocError>
         requires pages { All (λ (s : Span). 1 ≤ s.pages) spans.now }
         requires ends { All (λ (s : Span). end_of s ≤ 1048576) spans.now }

@@ -10,6 +10,6 @@ returns-clause-ok c =
     let items = c.args.blocks.now.items in
     let block = c.index-block.result.now in
     let split = split_read items c.args.index block (within_if_some items c.args.index (IsInside c.args.place) c.requires.inside) c.index-block.ensures in
-    let out = cut_leaves_out items (take c.args.index items) block (drop (c.args.index + 1) items) c.args.place split c.requires.separate
+    let out = cut_leaves_out items (take c.args.index items) block (drop (c.args.index + 1) items) c.args.place split c.requires.separate.separate
     (read_if_some items c.args.index block (IsInside c.args.place) c.requires.inside c.index-block.ensures) c.requires.pages in
     on_ok_weaker c.replace_block.result (λ e. subst (λ new. LeavesOut items new c.args.place) (sym e) out) c.replace_block.ensures.ok
