@@ -9,9 +9,13 @@ use vm_model::{Entry, Reply};
 pub struct Tally {
     /// Addresses, sums, counts and calls that were done.
     pub ok: u64,
+    /// Calls that found no hole.
     pub no_space: u64,
+    /// Calls that found too few free frames.
     pub no_frames: u64,
+    /// Atomic calls that found no populated place.
     pub no_atomic: u64,
+    /// Calls whose target was no longer live.
     pub not_live: u64,
     /// Sizes, alignments and targets that were refused.
     pub refused: u64,
