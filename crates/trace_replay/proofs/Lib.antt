@@ -6,3 +6,5 @@ pub mod Begins
 pub mod Answered
 pub mod Histories
 pub mod Started
+pub mod ThinTraces
+pub mod Reported

@@ -3,3 +3,5 @@ pub mod Held
 pub mod Status
 pub mod OneCaller
 pub mod Found
+pub mod Headline
+pub mod Thin

@@ -1,6 +1,8 @@
 //! The commands that replay a trace.
 #![tactic(auto)]
 
+mod answer;
+mod commands;
 mod gather;
 mod one_caller;
 mod send;
@@ -8,6 +10,7 @@ mod sink;
 mod source;
 mod status;
 
+pub use commands::{Mode, replay};
 pub use sink::{Sink, SteadySink, StreamSink};
 pub use source::{Failed, Source, SteadySource, StreamSource};
 pub use status::Status;

@@ -1,0 +1,84 @@
+//! What is written for the bytes of a trace.
+ghost use Rattle.std.specs.Prelude.{◌≡◌, ◌≤◌, ◌<◌, ℕ, List, IfOk, OnOk, length};
+ghost use Rattle.vm_model.specs.Tables.{tables_of};
+ghost use Rattle.trace_text.specs.Reading.{Reading};
+ghost use Rattle.trace_text.specs.Report.{fault_line};
+ghost use Rattle.trace_text.specs.Told.{Tells};
+ghost use Rattle.trace_replay.specs.Thin.{IsThin};
+ghost use Rattle.trace_replay.specs.Headline.{Writes, Reports, HasLegalHistory, setup, history_of_trace, most_bytes};
+
+use crate::one_caller::tables_of_calls;
+use crate::status::Status;
+use std::alloc::{AllocError, Global};
+use trace_text::{Fault, Text, Trace, TraceError, read_trace, write_fault, write_report};
+use vm_model::{CounterList, Tables};
+
+/// A status, and the text that is written with it.
+#[derive(Drop)]
+pub struct Outcome {
+    pub status: Status,
+    pub text: Text,
+}
+
+/// The replies and tables of a trace.
+fn tables_of_trace(alloc: Global, trace: &Trace) -> Result<Tables, AllocError>
+    requires { (reading : Reading) × IsThin reading × Tells trace.now reading }
+    ensures tables { IfOk result (λ tables. (reading : Reading) → IsThin reading → Tells trace.now reading → tables ≡ tables_of (setup reading) (history_of_trace reading)) }
+    ensures legal { OnOk result ((reading : Reading) → IsThin reading → Tells trace.now reading → HasLegalHistory reading) }
+{
+    let sections = trace.calls.as_slice();
+    tables_of_calls(alloc, &trace.config, sections[0].as_slice())
+}
+
+/// The report of a trace.
+fn report(alloc: Global, trace: &Trace) -> Result<Outcome, AllocError>
+    requires { (reading : Reading) × IsThin reading × Tells trace.now reading }
+    ensures { IfOk result (λ outcome. (reading : Reading) → IsThin reading → Tells trace.now reading → Reports reading outcome.status outcome.text) }
+{
+    let tables = tables_of_trace(alloc, trace)?;
+    let counters = CounterList::of(Vec::new(alloc));
+    let text = write_report(alloc, &tables, &counters, false)?;
+    Ok(Outcome {
+        status: Status::Done,
+        text,
+    })
+}
+
+/// A fault line.
+fn fault(alloc: Global, status: Status, fault: &Fault) -> Result<Outcome, AllocError>
+    ensures { IfOk result (λ outcome. (outcome.status ≡ status) × (outcome.text ≡ fault_line fault.now)) }
+{
+    let text = write_fault(alloc, fault)?;
+    Ok(Outcome { status, text })
+}
+
+/// The answer to all bytes of a source.
+pub fn answer(alloc: Global, bytes: &[u8]) -> Result<Outcome, AllocError>
+    requires { length bytes.now ≤ most_bytes }
+    ensures { IfOk result (λ answer. Writes bytes.now answer.status answer.text) }
+{
+    match read_trace(alloc, bytes) {
+        Ok(trace) => report(alloc, &trace),
+        Err(TraceError::BadLine { line }) => {
+            fault(alloc, Status::BadTrace { line }, &Fault::Line { line })
+        }
+        Err(TraceError::Unbuilt { line }) => {
+            fault(alloc, Status::Unbuilt { line }, &Fault::Unbuilt { line })
+        }
+        Err(TraceError::OutOfMemory) => Err(AllocError),
+    }
+}
+
+/// The answer to a source with too many bytes.
+pub fn too_long(alloc: Global) -> Result<Outcome, AllocError>
+    ensures { IfOk result (λ answer. (bytes : List ℕ) → most_bytes < length bytes → Writes bytes answer.status answer.text) }
+{
+    fault(alloc, Status::TooLong, &Fault::Length)
+}
+
+/// The answer to words that name no command.
+pub fn usage(alloc: Global) -> Result<Outcome, AllocError>
+    ensures { IfOk result (λ outcome. (outcome.status ≡ Status.Usage) × (outcome.text ≡ fault_line Fault.Usage)) }
+{
+    fault(alloc, Status::Usage, &Fault::Usage)
+}

@@ -1,0 +1,98 @@
+//! The commands: what each reads, and what it writes.
+ghost use Rattle.std.specs.Prelude.{◌≡◌, ◌≢◌, ◌≤◌, ◌<◌, ◌⊎◌, ◌↔◌, ℕ, List, Some, Err, IfOk, IsTrue, length, map, string_bytes};
+ghost use Rattle.std.specs.Option.{ForSome};
+ghost use Rattle.trace_text.specs.Reading.{Reading};
+ghost use Rattle.trace_text.specs.Grammar.{IsTraceOf};
+ghost use Rattle.trace_text.specs.Built.{built_for_vmalloc};
+ghost use Rattle.trace_replay.specs.Streams.{Rose};
+ghost use Rattle.trace_replay.specs.Headline.{Writes, IsWritten, IsRead, Answers, HasRoomFor, IsTold, ReplayWords, IsRefused, HasRoomForUsage, most_bytes};
+
+use crate::answer::{Outcome, answer, too_long, usage};
+use crate::gather::{Cut, gather};
+use crate::send::send;
+use crate::sink::Sink;
+use crate::source::Source;
+use crate::status::Status;
+use std::alloc::Global;
+
+/// What a replay writes.
+#[derive(Clone, Copy, Debug, PartialEq, Eq)]
+pub enum Mode {
+    /// The report.
+    Replay,
+}
+
+/// The answer to all that a source gives.
+fn outcome_of<S: Source>(alloc: Global, source: &mut S) -> Result<Outcome, Cut>
+    ensures writes { IfOk result (λ outcome. (bytes : List ℕ) → S.left source.old ≡ Some bytes → Writes bytes outcome.status outcome.text) }
+    ensures read { IfOk result (λ outcome. (bytes : List ℕ) → S.left source.old ≡ Some bytes → IsRead outcome.status (S.left source.new)) }
+    ensures says { IfOk result (λ outcome. (outcome.status ≢ Status.ReadFault) × (outcome.status ≢ Status.WriteFault) × (outcome.status ≢ Status.OutOfMemory) × (outcome.status ≢ Status.Usage)) }
+    ensures failed { result ≡ Err Cut.Failed → Rose (S.faults source.old) (S.faults source.new) }
+    ensures not_cut { result ≢ Err Cut.TooLong }
+{
+    match gather(alloc, source) {
+        Ok(bytes) => Ok(answer(alloc, bytes.as_slice())?),
+        Err(Cut::TooLong) => Ok(too_long(alloc)?),
+        Err(Cut::Failed) => Err(Cut::Failed),
+        Err(Cut::OutOfMemory) => Err(Cut::OutOfMemory),
+    }
+}
+
+/// Writes an outcome's text.
+fn tell<K: Sink>(sink: &mut K, outcome: Outcome) -> Status
+    requires { ForSome (K.room sink.old) (λ room. length outcome.text ≤ room) }
+    ensures { IsTold outcome.status outcome.text result (K.taken sink.old) (K.taken sink.new) (K.faults sink.old) (K.faults sink.new) }
+{
+    match send(sink, outcome.text.as_slice()) {
+        Ok(()) => outcome.status,
+        Err(_) => Status::WriteFault,
+    }
+}
+
+/// Reads a trace to its end and writes its report, or the line that tells what is wrong with it. The whole text is made
+/// before its first byte is written, and the first failed read or write ends the command.
+pub fn replay<S: Source, K: Sink>(
+    alloc: Global,
+    mode: Mode,
+    source: &mut S,
+    sink: &mut K,
+) -> Status
+    requires { HasRoomFor (S.left source.old) (K.room sink.old) }
+    ensures written { (bytes before : List ℕ) → S.left source.old ≡ Some bytes → K.taken sink.old ≡ Some before → IsWritten bytes result before (K.taken sink.new) }
+    ensures answers { (bytes : List ℕ) → S.left source.old ≡ Some bytes → Answers bytes result }
+    ensures read { (bytes : List ℕ) → S.left source.old ≡ Some bytes → IsRead result (S.left source.new) }
+    ensures read_fault { result ≡ Status.ReadFault → Rose (S.faults source.old) (S.faults source.new) }
+    ensures write_fault { result ≡ Status.WriteFault → Rose (K.faults sink.old) (K.faults sink.new) }
+    ensures usage { result ≢ Status.Usage }
+{
+    match mode {
+        Mode::Replay => match outcome_of(alloc, source) {
+            Ok(outcome) => tell(sink, outcome),
+            Err(Cut::Failed) => Status::ReadFault,
+            Err(_) => Status::OutOfMemory,
+        },
+    }
+}
+
+/// Whether the words are those of `replay`.
+fn is_replay(words: &[String]) -> bool
+    ensures { IsTrue result ↔ ReplayWords (map string_bytes words.now) }
+{
+    match words {
+        [word] => word.as_str() == "replay",
+        _ => false,
+    }
+}
+
+/// Writes that the words name no command.
+fn refuse<K: Sink>(alloc: Global, sink: &mut K) -> Status
+    requires { HasRoomForUsage (K.room sink.old) }
+    ensures written { (before : List ℕ) → K.taken sink.old ≡ Some before → IsRefused result before (K.taken sink.new) }
+    ensures status { (result ≡ Status.Usage) ⊎ ((result ≡ Status.OutOfMemory) ⊎ (result ≡ Status.WriteFault)) }
+    ensures write_fault { result ≡ Status.WriteFault → Rose (K.faults sink.old) (K.faults sink.new) }
+{
+    match usage(alloc) {
+        Ok(outcome) => tell(sink, outcome),
+        Err(_) => Status::OutOfMemory,
+    }
+}
