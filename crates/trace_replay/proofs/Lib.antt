@@ -8,3 +8,4 @@ pub mod Histories
 pub mod Started
 pub mod ThinTraces
 pub mod Reported
+pub mod Told
