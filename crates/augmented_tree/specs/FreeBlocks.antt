@@ -1,7 +1,7 @@
 -- What a free side keeps: its blocks by rising start, and how many nodes lie ready for blocks to come.
-use Rattle.std.specs.Prelude.{◌≡◌, ℕ, ◌≤◌, Bool, List}
+use Rattle.std.specs.Prelude.{◌≡◌, ℕ, Bool, List}
 use Rattle.vm_model.specs.declared.areas.Span.{Span}
-use Rattle.vm_model.specs.Space.{runs, end_of}
+use Rattle.vm_model.specs.Space.{runs}
 
 pub record FreeBlocks : Type 0 where
   pub blocks : List Span

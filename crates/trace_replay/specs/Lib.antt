@@ -1,0 +1,5 @@
+pub mod Streams
+pub mod Held
+pub mod Status
+pub mod OneCaller
+pub mod Found

@@ -1,0 +1,132 @@
+//! Where the text of an answer goes.
+ghost use Rattle.std.specs.Prelude.{◌≡◌, ◌<◌, ◌≤◌, ◌-◌, ℕ, List, Option, Some, None, length, vec_len, vec_capacity, IfOk, OnOk, OnErr, [], ◌++◌};
+ghost use Rattle.std.specs.Option.{ForSome};
+ghost use Rattle.trace_replay.specs.Streams.{Rose, Takes, Fills};
+ghost use Rattle.trace_replay.specs.Held.{Held};
+
+use crate::source::Failed;
+use std::alloc::{AllocError, Global};
+use std::io::Write;
+use std::marker::Model;
+
+/// A writer that counts its faults.
+pub trait Sink {
+    // the bytes that it has taken, where that is told
+    ghost taken: { Self → Option (List ℕ) };
+
+    // how many more it can take, where that is told
+    ghost room: { Self → Option ℕ };
+
+    // how many writes have failed
+    ghost faults: { Self → ℕ };
+
+    /// Takes some bytes from the front of the piece.
+    fn write(&mut self, piece: &[u8]) -> Result<usize, Failed>
+        requires { ForSome (room self.old) (λ left. 0 < left) }
+        ensures within { IfOk result (λ n. n ≤ length piece.now) }
+        ensures some { 0 < length piece.now → IfOk result (λ n. 0 < n) }
+        ensures takes { (bytes : List ℕ) → taken self.old ≡ Some bytes → Takes bytes (taken self.new) piece.now result }
+        ensures fills { (left : ℕ) → room self.old ≡ Some left → Fills left (room self.new) result }
+        ensures no_room { room self.old ≡ None → room self.new ≡ None }
+        ensures never_falls { faults self.old ≤ faults self.new }
+        ensures failed { OnErr result (Rose (faults self.old) (faults self.new)) };
+}
+
+/// A sink over memory, none of whose writes fails. It takes what fits in the room that `reserve` made.
+#[derive(Drop)]
+pub struct SteadySink {
+    bytes: Vec<u8>,
+    room: usize,
+}
+
+impl Model for SteadySink {
+    ghost use Rattle.std.specs.Prelude.{◌+◌, ◌≤◌, vec_len, vec_capacity};
+    ghost use Rattle.trace_replay.specs.Held.{Held};
+
+    ghost Value = { Held };
+
+    ghost view = { λ s. record { taken = s.bytes.items; room = s.room } };
+
+    ghost invariant = { λ s. vec_len s.bytes + s.room ≤ vec_capacity s.bytes };
+}
+
+impl SteadySink {
+    /// A sink without room. It takes no memory.
+    pub fn new(alloc: Global) -> SteadySink
+        ensures { result ≡ record { taken = []; room = 0 } }
+    {
+        SteadySink {
+            bytes: Vec::new(alloc),
+            room: 0,
+        }
+    }
+
+    /// Makes room for so many bytes more.
+    pub fn reserve(&mut self, bytes: usize) -> Result<(), AllocError>
+        ensures taken { self.new.taken ≡ self.old.taken }
+        ensures ok { OnOk result (bytes ≤ self.new.room) }
+        ensures err { OnErr result (self.new ≡ self.old) }
+    {
+        self.bytes.reserve(bytes)?;
+        self.room = self.room.max(bytes);
+        Ok(())
+    }
+
+    /// What it has taken.
+    pub fn as_slice(&self) -> &[u8]
+        ensures { result.now ≡ self.now.taken }
+    {
+        self.bytes.as_slice()
+    }
+}
+
+impl Sink for SteadySink {
+    ghost taken = { λ s. Some s.taken };
+
+    ghost room = { λ s. Some s.room };
+
+    ghost faults = { λ _. 0 };
+
+    fn write(&mut self, piece: &[u8]) -> Result<usize, Failed> {
+        let count = piece.len().min(self.room);
+        match self.bytes.extend_from_slice(&piece[..count]) {
+            Ok(()) => {
+                self.room -= count;
+                Ok(count)
+            }
+            Err(_) => unreachable!(),
+        }
+    }
+}
+
+/// A sink over a writer of std, such as standard output. It tells neither bytes nor room.
+#[derive(Drop)]
+pub struct StreamSink<W> {
+    writer: W,
+    faults: u64,
+}
+
+impl<W: Write> StreamSink<W> {
+    /// A sink that has had no fault yet. It takes no memory.
+    pub fn new(writer: W) -> StreamSink<W> {
+        StreamSink { writer, faults: 0 }
+    }
+}
+
+impl<W: Write> Sink for StreamSink<W> {
+    ghost taken = { λ _. None };
+
+    ghost room = { λ _. None };
+
+    ghost faults = { λ s. s.faults };
+
+    fn write(&mut self, piece: &[u8]) -> Result<usize, Failed> {
+        match self.writer.write(piece) {
+            Ok(count) if 0 < count || piece.is_empty() => Ok(count),
+            _ => {
+                self.faults = self.faults.saturating_add(1);
+                Err(Failed)
+            }
+        }
+    }
+}

@@ -1,0 +1,97 @@
+//! Where the bytes of a trace come from.
+ghost use Rattle.std.specs.Prelude.{◌≡◌, ◌<◌, ◌≤◌, ℕ, List, Option, Some, None, length, drop, IfOk, OnErr};
+ghost use Rattle.trace_replay.specs.Streams.{Rose, Gives, IsEndAt};
+
+use std::alloc::{AllocError, Global};
+use std::io::Read;
+use std::marker::Model;
+
+/// A read or a write that failed. The source or the sink counts it among its faults.
+#[derive(Clone, Copy, Debug, PartialEq, Eq)]
+pub struct Failed;
+
+/// A reader that counts its faults.
+pub trait Source {
+    // the bytes that are left, where that is told
+    ghost left: { Self → Option (List ℕ) };
+
+    // how many reads have failed
+    ghost faults: { Self → ℕ };
+
+    /// Reads at most the buffer's length. No byte, into a buffer with room, is the end of the input.
+    fn read(&mut self, into: &mut [u8]) -> Result<usize, Failed>
+        ensures within { IfOk result (λ n. n ≤ length into.new) }
+        ensures gives { (bytes : List ℕ) → left self.old ≡ Some bytes → Gives bytes (left self.new) into.new result }
+        ensures end { (bytes : List ℕ) → left self.old ≡ Some bytes → IsEndAt bytes into.new result }
+        ensures never_falls { faults self.old ≤ faults self.new }
+        ensures failed { OnErr result (Rose (faults self.old) (faults self.new)) };
+}
+
+/// A source over memory, none of whose reads fails. Clauses see it as the bytes that are left.
+#[derive(Drop)]
+pub struct SteadySource {
+    bytes: Vec<u8>,
+    at: usize,
+}
+
+impl Model for SteadySource {
+    ghost Value = { List ℕ };
+
+    ghost view = { λ s. drop s.at s.bytes.items };
+
+    ghost invariant = { λ s. s.at ≤ length s.bytes.items };
+}
+
+impl SteadySource {
+    /// A source that gives a copy of these bytes.
+    pub fn new(alloc: Global, bytes: &[u8]) -> Result<SteadySource, AllocError>
+        ensures { IfOk result (λ source. source ≡ bytes.now) }
+    {
+        let bytes = Vec::from_slice(alloc, bytes)?;
+        Ok(SteadySource { bytes, at: 0 })
+    }
+}
+
+impl Source for SteadySource {
+    ghost left = { λ s. Some s };
+
+    ghost faults = { λ _. 0 };
+
+    fn read(&mut self, into: &mut [u8]) -> Result<usize, Failed> {
+        let rest = &self.bytes.as_slice()[self.at..];
+        let count = rest.len().min(into.len());
+        into[..count].copy_from_slice(&rest[..count]);
+        self.at += count;
+        Ok(count)
+    }
+}
+
+/// A source over a reader of std, such as standard input. It tells no bytes.
+#[derive(Drop)]
+pub struct StreamSource<R> {
+    reader: R,
+    faults: u64,
+}
+
+impl<R: Read> StreamSource<R> {
+    /// A source that has had no fault yet. It takes no memory.
+    pub fn new(reader: R) -> StreamSource<R> {
+        StreamSource { reader, faults: 0 }
+    }
+}
+
+impl<R: Read> Source for StreamSource<R> {
+    ghost left = { λ _. None };
+
+    ghost faults = { λ s. s.faults };
+
+    fn read(&mut self, into: &mut [u8]) -> Result<usize, Failed> {
+        match self.reader.read(into) {
+            Ok(count) => Ok(count),
+            Err(_) => {
+                self.faults = self.faults.saturating_add(1);
+                Err(Failed)
+            }
+        }
+    }
+}
