@@ -9,3 +9,4 @@ pub mod Started
 pub mod ThinTraces
 pub mod Reported
 pub mod Told
+pub mod OneWord
