@@ -1,0 +1,34 @@
+//! Laws of the map in parts: a lock section reads and changes one region, and so sections over single regions give
+//! what the events over the whole map give.
+#![tactic(auto)]
+
+ghost use Rattle.std.specs.Prelude.{ℕ, Bool, Option, List};
+ghost use Rattle.map_parts.specs.Sections.{SectionsRun, KeepsLawful, StaysLawful, FindsTogether};
+
+/// Sections over regions and locals, whatever both are.
+pub fn sections<R, L>()
+    ensures { SectionsRun R L }
+{}
+
+/// Sections over regions and locals, and a fact about all of these that each section keeps.
+pub trait LawfulSections {
+    type Region;
+
+    type Local;
+
+    ghost wanted: { Self.Local → Option ℕ };
+
+    ghost moves: { Self.Local → Self.Region → Bool };
+
+    ghost after: { Self.Local → Self.Region → Self.Local × Self.Region };
+
+    ghost lawful: { List Self.Region → List Self.Local → Type 0 };
+
+    ghost keeps: { KeepsLawful wanted moves after lawful };
+}
+
+/// A fact that each section keeps holds after all sections, and where a local meets the region that it wants.
+pub fn lawful_sections<S: LawfulSections>()
+    ensures stays { StaysLawful S.wanted S.moves S.after S.lawful }
+    ensures together { FindsTogether S.wanted S.moves S.after S.lawful }
+{}
