@@ -5,3 +5,4 @@ pub use Rattle.vm_model.specs.History
 pub use Rattle.vm_model.specs.Run
 pub use Rattle.vm_model.specs.Parts
 pub mod Sections
+pub mod Locality

@@ -32,3 +32,10 @@ pub fn lawful_sections<S: LawfulSections>()
     ensures stays { StaysLawful S.wanted S.moves S.after S.lawful }
     ensures together { FindsTogether S.wanted S.moves S.after S.lawful }
 {}
+
+ghost use Rattle.map_parts.specs.Locality.{SectionsAreOverOneRegion};
+
+/// A section reads and changes the region that its ask names, and no other.
+pub fn locality()
+    ensures { SectionsAreOverOneRegion }
+{}
