@@ -1,6 +1,7 @@
 -- Filters and maps in either order.
-use Rattle.std.proofs.Common.{◌≡◌, ◌≢◌, ℕ, zero, suc, ◌+◌, ◌<◌, ◌≤◌, Bool, true, false, cond, ◌⊎◌, inl, inr, List, [], ◌∷◌, ◌++◌, map, filter, find, flat_map, option_map, slice_get, slice_set, Option, Some, None, refl, ap, sym, ◌∙◌, arith}
-use Rattle.vm_model.specs.Space.{count_from}
+use Rattle.std.proofs.Common.{◌≡◌, ◌≢◌, ℕ, zero, suc, ◌+◌, ◌<◌, ◌≤◌, Bool, true, false, cond, ◌&&◌, ◌||◌, ◌==◌, length, ◌⊎◌, inl, inr, List, [], ◌∷◌, ◌++◌, map, filter, find, flat_map, option_map, slice_get, slice_set, Option, Some, None, refl, ap, sym, ◌∙◌, arith}
+use Rattle.std.proofs.lemmas.Bool.Decides.{nat_tests}
+use Rattle.vm_model.specs.Space.{count_from, is_among}
 
 -- a filter of what another filter leaves
 filter_both : {X : Type 0} (p q : X → Bool) (x : X) (xs : List X) (b d : Bool) → p x ≡ b → q x ≡ d → filter p (filter q xs) ≡ filter q (filter p xs)
@@ -126,3 +127,58 @@ map_was f (x ∷ xs) (suc i) y h = map_was f xs i y h
 pub option_map_was : {X Y : Type 0} (f : X → Y) (o : Option X) (y : Y) → option_map f o ≡ Some y → (x : X) × (o ≡ Some x) × (f x ≡ y)
 option_map_was f None y h = absurd cc
 option_map_was f (Some x) y h = (x, refl, cc)
+
+-- a filter keeps what passes
+keeps_by : {X : Type 0} (p : X → Bool) (z x : X) (xs : List X) (b : Bool) → (n : ℕ) → slice_get (filter p xs) n ≡ Some x → (m : ℕ) × (slice_get (cond b (z ∷ filter p xs) (filter p xs)) m ≡ Some x)
+keeps_by p z x xs true n h = (suc n, h)
+keeps_by p z x xs false n h = (n, h)
+
+pub filter_keeps : {X : Type 0} (p : X → Bool) (xs : List X) (i : ℕ) (x : X) → slice_get xs i ≡ Some x → p x ≡ true → (n : ℕ) × (slice_get (filter p xs) n ≡ Some x)
+filter_keeps p [] i x h e = absurd cc
+filter_keeps p (z ∷ xs) zero x h e =
+    let same : z ≡ x = cc in (0, ap (λ b. slice_get (cond b (z ∷ filter p xs) (filter p xs)) 0) (ap p same ∙ e) ∙ h)
+filter_keeps p (z ∷ xs) (suc i) x h e = let w = filter_keeps p xs i x h e in keeps_by p z x xs (p z) w.0 w.1
+
+-- two filters are one
+twice_by : {X : Type 0} (p q : X → Bool) (x : X) (xs : List X) (b d : Bool) → q x ≡ d → filter q (filter p xs) ≡ filter (λ x. p x && q x) xs
+    → filter q (cond b (x ∷ filter p xs) (filter p xs)) ≡ cond (b && d) (x ∷ filter (λ x. p x && q x) xs) (filter (λ x. p x && q x) xs)
+twice_by p q x xs true d e rest = ap (λ t. cond t (x ∷ filter q (filter p xs)) (filter q (filter p xs))) e ∙ ap (λ ys. cond d (x ∷ ys) ys) rest
+twice_by p q x xs false d e rest = rest
+
+pub filter-filter : {X : Type 0} (p q : X → Bool) (xs : List X) → filter q (filter p xs) ≡ filter (λ x. p x && q x) xs
+filter-filter p q [] = refl
+filter-filter p q (x ∷ xs) = twice_by p q x xs (p x) (q x) refl (filter-filter p q xs)
+
+-- numbers that elements have
+or_first : (a b : Bool) → a ≡ true → (a || b) ≡ true
+or_first a b h = grind arith
+
+or_second : (a b : Bool) → b ≡ true → (a || b) ≡ true
+or_second a b h = grind arith
+
+is_itself : (n : ℕ) → (n == n) ≡ true
+is_itself n = grind (arith, nat_tests)
+
+pub among_map : {X : Type 0} (f : X → ℕ) (xs : List X) (i : ℕ) (x : X) → slice_get xs i ≡ Some x → is_among (map f xs) (f x) ≡ true
+among_map f [] i x h = absurd cc
+among_map f (z ∷ xs) zero x h = let same : z ≡ x = cc in or_first _ _ (ap (λ y. f y == f x) same ∙ is_itself (f x))
+among_map f (z ∷ xs) (suc i) x h = or_second (f z == f x) _ (among_map f xs i x h)
+
+among_by : {X : Type 0} (f : X → ℕ) (z : X) (xs : List X) (n : ℕ) (b : Bool) → (f z == n) ≡ b → (b || is_among (map f xs) n) ≡ true
+    → (is_among (map f xs) n ≡ true → (i : ℕ) × (x : X) × (slice_get xs i ≡ Some x) × (f x ≡ n)) → (i : ℕ) × (x : X) × (slice_get (z ∷ xs) i ≡ Some x) × (f x ≡ n)
+among_by f z xs n true e h more = (0, z, refl, (let same : f z ≡ n = grind (arith, nat_tests) in same))
+among_by f z xs n false e h more = let w = more h in (suc w.0, w.1, w.2, w.3)
+
+pub among_map_was : {X : Type 0} (f : X → ℕ) (xs : List X) (n : ℕ) → is_among (map f xs) n ≡ true → (i : ℕ) × (x : X) × (slice_get xs i ≡ Some x) × (f x ≡ n)
+among_map_was f [] n h = absurd cc
+among_map_was f (z ∷ xs) n h = among_by f z xs n (f z == n) refl h (among_map_was f xs n)
+
+-- what stands in the first part, and last
+pub append_first : {X : Type 0} (xs ys : List X) (k : ℕ) (z : X) → slice_get xs k ≡ Some z → slice_get (xs ++ ys) k ≡ Some z
+append_first [] ys k z h = absurd cc
+append_first (x ∷ xs) ys zero z h = h
+append_first (x ∷ xs) ys (suc k) z h = append_first xs ys k z h
+
+pub append_last : {X : Type 0} (xs : List X) (z : X) → slice_get (xs ++ z ∷ []) (length xs) ≡ Some z
+append_last [] z = refl
+append_last (x ∷ xs) z = append_last xs z

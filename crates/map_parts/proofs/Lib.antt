@@ -4,3 +4,11 @@ pub mod TakenPages
 pub mod OneRegion
 pub mod CpuRegion
 pub mod LocalityProofs
+pub mod Sums
+pub mod PoolMoves
+pub mod SearchedPages
+pub mod PartRows
+pub mod BlockMoves
+pub mod PoolParts
+pub mod SectionMoves
+pub mod PlaceMoves

@@ -6,3 +6,5 @@ pub use Rattle.vm_model.specs.Run
 pub use Rattle.vm_model.specs.Parts
 pub mod Sections
 pub mod Locality
+pub mod Owners
+pub mod Kept
