@@ -12,3 +12,10 @@ pub mod BlockMoves
 pub mod PoolParts
 pub mod SectionMoves
 pub mod PlaceMoves
+pub mod Beginnings
+pub mod MapKept
+pub mod PlaceSound
+pub mod StepKeeps
+pub mod KeptApart
+pub mod ReachedKept
+pub mod WholeRuns

@@ -1,5 +1,5 @@
 -- What every event keeps of the map and of the callers, so that the map falls apart into its regions.
-use Rattle.std.specs.Prelude.{◌≡◌, ℕ, ◌+◌, ◌<◌, ◌≤◌, true, false, List, [], ◌∷◌, length, Some, slice_get}
+use Rattle.std.specs.Prelude.{◌≡◌, ℕ, ◌+◌, ◌<◌, ◌≤◌, true, false, List, [], ◌∷◌, length, Some, None, slice_get}
 use Rattle.vm_model.specs.declared.areas.Area.{Area}
 use Rattle.vm_model.specs.declared.calls.Call.{Call}
 use Rattle.vm_model.specs.declared.calls.Call.TheVariants.{MapRam}
@@ -7,7 +7,7 @@ use Rattle.vm_model.specs.Setup.{Setup, cpus}
 use Rattle.vm_model.specs.PlainMap.{PlainMap, Block, Part, Life, InHand}
 use Rattle.vm_model.specs.Blocks.{PartAt, rounded, size_of, parts_size, is_spent}
 use Rattle.vm_model.specs.Events.{Search, ForPages}
-use Rattle.vm_model.specs.Places.{Made, MadeArea, MadePart, Aim, ForArea, ForBlock, Then, SearchAgain, Place, Finding, FindingAgain, MappingArea, SettlingArea, Removing, Waiting, PurgeTaking, PurgeFragmenting, PurgeUnlinking, PurgeWaiting, PurgeCollecting, PurgeFlushing, PurgeReturning, PurgeGiving, CuttingPart, SettlingBlock, AddingBlock, MappingPart, SettlingPart, BeginningUnmap, UnmappingPart, Retiring, LookingAtDirty, ask}
+use Rattle.vm_model.specs.Places.{Made, MadeArea, MadePart, Aim, ForArea, ForBlock, Then, SearchAgain, Place, Over, Finding, FindingAgain, MappingArea, SettlingArea, Removing, Waiting, PurgeTaking, PurgeFragmenting, PurgeUnlinking, PurgeWaiting, PurgeCollecting, PurgeFlushing, PurgeReturning, PurgeGiving, CuttingPart, SettlingBlock, AddingBlock, MappingPart, SettlingPart, BeginningUnmap, UnmappingPart, Retiring, LookingAtDirty, GivingAlloc, ask}
 use Rattle.vm_model.specs.Calls.{Answered}
 use Rattle.vm_model.specs.History.{World, Local, step}
 use Rattle.vm_model.specs.LegalHistory.{IsReached}
@@ -60,6 +60,12 @@ IsSoundThen c _ = Unit {0}
 abbrev pub IsSoundPart : Setup → PlainMap → (caller : ℕ) → PartAt → Type 0
 IsSoundPart c m k at = (at.cpu < cpus c) × HasPart m.blocks at (InHand k)
 
+-- what an answered call made: its processor is there, and its area is plain
+abbrev pub IsSoundMade : Setup → PlainMap → Made → Type 0
+IsSoundMade c m (MadeArea start serial) = IsPlainSerial m serial
+IsSoundMade c m (MadePart cpu page serial) = cpu < cpus c
+IsSoundMade c m _ = Unit {0}
+
 abbrev pub IsSoundPlace : Setup → PlainMap → (caller : ℕ) → Place → Type 0
 IsSoundPlace c m k (Finding search aim) = IsSoundAim c search aim
 IsSoundPlace c m k (FindingAgain search aim) = IsSoundAim c search aim
@@ -84,14 +90,10 @@ IsSoundPlace c m k (BeginningUnmap cpu page serial) = cpu < cpus c
 IsSoundPlace c m k (UnmappingPart at) = IsSoundPart c m k at
 IsSoundPlace c m k (Retiring at reply) = IsSoundPart c m k at
 IsSoundPlace c m k (LookingAtDirty cpu ranges) = cpu < cpus c
+IsSoundPlace c m k (GivingAlloc reply made) = IsSoundMade c m made
 IsSoundPlace c m k _ = Unit {0}
 
--- what answers made, and calls: their processors are there, and their areas are plain
-abbrev pub IsSoundMade : Setup → PlainMap → Made → Type 0
-IsSoundMade c m (MadeArea start serial) = IsPlainSerial m serial
-IsSoundMade c m (MadePart cpu page serial) = cpu < cpus c
-IsSoundMade c m _ = Unit {0}
-
+-- answers and calls: their processors are there; a caller that isn't over has a call at hand
 abbrev pub AreSoundAnswers : Setup → PlainMap → List Answered → Type 0
 AreSoundAnswers c m answers = (i : ℕ) (answer : Answered) → slice_get answers i ≡ Some answer → IsSoundMade c m answer.made
 
@@ -106,6 +108,7 @@ pub record IsSoundLocal (c : Setup) (m : PlainMap) (k : ℕ) (l : Local) : Type 
   pub opening : AreSoundAnswers c m l.opening
   pub answers : AreSoundAnswers c m l.answers
   pub place : IsSoundPlace c m k l.place
+  pub at_hand : slice_get l.calls (length l.answers) ≡ None → l.place ≡ Over
 
 -- the map by itself
 pub record IsWhole (c : Setup) (m : PlainMap) : Type 0 where
@@ -130,4 +133,4 @@ abbrev pub KeptWorldsFallApart : Type 0
 KeptWorldsFallApart = (c : Setup) (w : World) → IsSetup c → KeepsApart c w → FallsApart c w.map
 
 abbrev pub KeptCallersStayWithin : Type 0
-KeptCallersStayWithin = (c : Setup) (w : World) (k : ℕ) (l : Local) → KeepsApart c w → slice_get w.locals k ≡ Some l → StaysWithin c w.map (ask l.setup l.place)
+KeptCallersStayWithin = (c : Setup) (w : World) (k : ℕ) (l : Local) → IsSetup c → KeepsApart c w → slice_get w.locals k ≡ Some l → StaysWithin c w.map (ask l.setup l.place)

@@ -39,3 +39,22 @@ ghost use Rattle.map_parts.specs.Locality.{SectionsAreOverOneRegion};
 pub fn locality()
     ensures { SectionsAreOverOneRegion }
 {}
+
+ghost use Rattle.map_parts.specs.Kept.{ReachedWorldsKeepApart, StepsKeepApart, KeptWorldsFallApart, KeptCallersStayWithin};
+
+/// What every reached world has and every step keeps, so that the map falls apart into its regions and each caller's
+/// next section stays within one.
+pub fn kept()
+    ensures reached { ReachedWorldsKeepApart }
+    ensures steps { StepsKeepApart }
+    ensures falls_apart { KeptWorldsFallApart }
+    ensures stay_within { KeptCallersStayWithin }
+{}
+
+ghost use Rattle.vm_model.specs.Parts.{RunsArePartsOfTheMap};
+
+/// From a reached world, sections over single regions give the parts of the map that the events over the whole map
+/// give, for any callers in turn.
+pub fn runs_are_parts_of_the_map()
+    ensures { RunsArePartsOfTheMap }
+{}
