@@ -19,6 +19,7 @@ use Rattle.vm_model.specs.Calls.{Answered, is_bad_vmalloc_size, is_bad_vmalloc_a
 use Rattle.vm_model.specs.Rules.{IsSetup}
 use Rattle.map_parts.specs.Owners.{of_place}
 use Rattle.map_parts.specs.Kept.{IsSoundPlace, IsSoundMade, AreSoundAnswers, IsSoundCall}
+use Rattle.map_parts.proofs.Tests.{le_test}
 
 -- A part that the desk lets through has room in a block.
 
@@ -65,9 +66,6 @@ module _ (c : Setup) (m : PlainMap) (k : ℕ) where
       begins_if (is_bad_vmalloc_size c bytes) (Refusing reply.BadSize) _ (λ e. refusing reply.BadSize)
       (λ e. begins_if (is_bad_vmalloc_align align) (Refusing reply.BadAlign) (Finding (ForPages (pages_for bytes + 1) (align_pages align)) (ForArea kind.Vmalloc)) (λ f. refusing reply.BadAlign)
       (λ f. record { sound = refl; none = λ counts page. refl }))
-
-  le_test : (a b : ℕ) → nat_le a b ≡ true → a ≤ b
-  le_test a b h = grind (arith, nat_tests)
 
   begins_map_ram : IsSetup c → (cpu pages : ℕ) (opening own : List Answered) → cpu < cpus c → IsBeginning c m k (begin_call c opening own (MapRam cpu pages))
   begins_map_ram is cpu pages opening own l =

@@ -11,7 +11,7 @@ use Rattle.map_parts.specs.Kept.{AreInRow, IsBlockWhole, HasPart}
 use Rattle.map_parts.proofs.Filters.{filter_passes, filter_within, filter_keeps, found_there, flat_map_each, map_was, option_map_was, among_map_was, append_first, append_last}
 use Rattle.map_parts.proofs.Sums.{only_one}
 use Rattle.map_parts.proofs.PartRows.{row_once, unspent_with, unfragmented_with, whole_push, whole_life, row_life, size_life}
-use Rattle.map_parts.proofs.CpuRegion.{is_same, is_other}
+use Rattle.map_parts.proofs.Tests.{both_true, is_equal, is_other, is_same, le_test, not_true}
 
 abbrev pub AreWhole : Setup → List Block → Type 0
 AreWhole c blocks = (i : ℕ) (b : Block) → slice_get blocks i ≡ Some b → IsBlockWhole c b
@@ -95,9 +95,6 @@ module _ (c : Setup) (blocks : List Block) (some : 1 ≤ c.block_pages) (once : 
     pub room : rounded pages ≤ free_of c block
     pub is : cut_from c pages block ≡ at
 
-  le_test : (a b : ℕ) → nat_le a b ≡ true → a ≤ b
-  le_test a b h = grind (arith, nat_tests)
-
   pub is_cut : (cpu pages : ℕ) (at : PartAt) → part_to_cut c cpu pages blocks ≡ Some at → IsCut cpu pages at
   is_cut cpu pages at h =
       let w = option_map_was (cut_from c pages) (first_with_room c cpu pages blocks) at h in
@@ -152,17 +149,11 @@ module _ (c : Setup) (blocks : List Block) (some : 1 ≤ c.block_pages) (once : 
           lives = refl;
         },
       )
-    where
-      is_equal : (a b : ℕ) → a ≡ b → (a == b) ≡ true
-      is_equal a b e = grind (arith, nat_tests)
 
   -- A part whose life changes.
 
   life_at : (at : PartAt) (life : Life) (p : Part) → p.offset ≡ at.offset → (if p.offset == at.offset then record p { life = life } else p) ≡ record p { life = life }
   life_at at life p e = ap (λ t. if t then record p { life = life } else p) (is_equal p.offset at.offset e)
-    where
-      is_equal : (a b : ℕ) → a ≡ b → (a == b) ≡ true
-      is_equal a b e = grind (arith, nat_tests)
 
   life_elsewhere : (at : PartAt) (life : Life) (p : Part) → p.offset ≢ at.offset → (if p.offset == at.offset then record p { life = life } else p) ≡ p
   life_elsewhere at life p n = ap (λ t. if t then record p { life = life } else p) (is_other p.offset at.offset n)
@@ -193,9 +184,6 @@ module _ (c : Setup) (blocks : List Block) (some : 1 ≤ c.block_pages) (once : 
       has_after at.block (with_life at new) at old new (λ b. refl) (λ b. refl) has (record has.part { life = new }) has.place has.offset refl
       (ap (λ t. slice_get (if t then with_life at new has.block else has.block).parts has.place) (is_equal has.block.start at.block has.start)
       ∙ life_within at new has.block has.place has.part (record has.part { life = new }) has.within (life_at at new has.part has.offset))
-    where
-      is_equal : (a b : ℕ) → a ≡ b → (a == b) ≡ true
-      is_equal a b e = grind (arith, nat_tests)
 
   -- Blocks that leave the list.
 
@@ -237,9 +225,6 @@ module _ (c : Setup) (blocks : List Block) (some : 1 ≤ c.block_pages) (once : 
   lives_is serial (Lives own) h = ap (λ n. Lives n) (is_same own serial h)
   lives_is serial Ended h = absurd cc
 
-  second_true : (a b : Bool) → (a && b) ≡ true → b ≡ true
-  second_true a b h = grind arith
-
   pub is_named_part : (cpu page serial : ℕ) (at : PartAt) (parts : List PartAt) → named_parts cpu page serial blocks ≡ at ∷ parts → IsNamedPart cpu page serial at
   is_named_part cpu page serial at parts h =
       flat_map_each (IsNamedPart cpu page serial) (named_in page serial) (blocks_of cpu blocks)
@@ -260,7 +245,7 @@ module _ (c : Setup) (blocks : List Block) (some : 1 ≤ c.block_pages) (once : 
           place = within.0;
           within = within.1;
           offset = ap (λ (a : PartAt). a.offset) made.2;
-          lives = lives_is serial made.0.life (second_true _ _ (filter_passes (is_named page serial b) b.parts j made.0 made.1));
+          lives = lives_is serial made.0.life (both_true _ _ (filter_passes (is_named page serial b) b.parts j made.0 made.1)).1;
         };
       })
       0 at (ap (λ parts. slice_get parts 0) h)
@@ -281,9 +266,6 @@ module _ (c : Setup) (blocks : List Block) (some : 1 ≤ c.block_pages) (once : 
       by_test : (old : Block) (t : Bool) → IsBlockWhole c old → IsRow (if t then with_life at life old else old)
       by_test old true was = record { row = row_life at life old was.row; within = subst (λ n. n ≤ c.block_pages) (sym (size_life at life old)) was.within }
       by_test old false was = record { row = was.row; within = was.within }
-
-  not_true : (b : Bool) → not b ≡ true → b ≡ false
-  not_true b h = grind arith
 
   pub retire_whole : (at : PartAt) (life : Life) → AreWhole c blocks → AreWhole c (without_spent c (set_life at life blocks))
   retire_whole at life whole i b there =

@@ -1,6 +1,5 @@
 -- Sections over the blocks of one processor: each over these alone leaves what it leaves in the map.
 use Rattle.std.proofs.Common.{◌≡◌, ◌≢◌, ℕ, suc, ◌+◌, ◌<◌, Bool, true, false, not, cond, ◌&&◌, ◌==◌, if◌then◌else◌, List, [], ◌∷◌, ◌++◌, map, filter, find, flat_map, filter_map, option_map, nat_lt, nat_le, replicate, Option, Some, None, is_some, slice_get, slice_set, slice_index, refl, ap, sym, ◌∙◌, arith}
-use Rattle.std.proofs.lemmas.Bool.Decides.{nat_tests}
 use Rattle.std.proofs.lemmas.List.{length-replicate, length-set, append-nil, get_or-set_same, get_or-set_other}
 use Rattle.std.proofs.lemmas.List.Elements.{filter-append}
 use Rattle.vm_model.specs.Space.{is_among, hull}
@@ -14,14 +13,9 @@ use Rattle.vm_model.specs.Given.{cutting, beginning}
 use Rattle.vm_model.specs.Parts.{Region, Desk, PurgeTurn, AllocTurn, FreeRuns, LiveAreas, WaitingSpans, Pages, Percpu, CpuBlocks, regions_of, map_with, region_in, cpu_blocks}
 use Rattle.map_parts.specs.Locality.{FallsApart, IsOfCpu, IsOverOneRegion}
 use Rattle.map_parts.proofs.Filters.{filter_comm, filter_each, filter_passes, filter_within, filter_twice, filter-map, map_same, map-count_set, slice_get-map_count, found_there, find-filter, flat_map_each, map_was, option_map_was}
+use Rattle.map_parts.proofs.Tests.{both_true, is_equal, is_other, is_same}
 
 -- Blocks of one processor.
-
-pub is_same : (a b : ℕ) → (a == b) ≡ true → a ≡ b
-is_same a b h = grind (arith, nat_tests)
-
-pub is_other : (a b : ℕ) → a ≢ b → (a == b) ≡ false
-is_other a b h = grind (arith, nat_tests)
 
 keeps_cpu : (start cpu : ℕ) (change : Block → Block) → ((b : Block) → (change b).cpu ≡ b.cpu) → (b : Block) → ((if b.start == start then change b else b).cpu == cpu) ≡ (b.cpu == cpu)
 keeps_cpu start cpu change keeps b = by_test (b.start == start)
@@ -217,17 +211,11 @@ module _ (c : Setup) (m : PlainMap) (k : ℕ) where
         by_test old true is made same = sym (ap (λ (b : Block). b.cpu) made) ∙ same (is_same old.start at.block is)
         by_test old false is made same = sym (ap (λ (b : Block). b.cpu) made) ∙ same (ap (λ (b : Block). b.start) made ∙ e)
 
-    and_first : (a b : Bool) → (a && b) ≡ true → a ≡ true
-    and_first a b h = grind arith
-
     spends_alike : (at : PartAt) → IsOfCpu at.block at.cpu m.blocks → spends c at (set_life at Ended (blocks_of at.cpu m.blocks)) ≡ spends c at (set_life at Ended m.blocks)
     spends_alike at own =
         ap (spends c at) (sym (blocks_of-change at.cpu at.block (with_life at Ended) m.blocks (λ b. refl)))
         ∙ ap is_some (find-filter (λ (b : Block). (b.start == at.block) && is_spent c b) (λ (b : Block). b.cpu == at.cpu) (set_life at Ended m.blocks)
-        (λ i b there p. is_equal b.cpu at.cpu (still_of_cpu at Ended own i b there (is_same b.start at.block (and_first _ (is_spent c b) p)))))
-      where
-        is_equal : (a b : ℕ) → a ≡ b → (a == b) ≡ true
-        is_equal a b h = grind (arith, nat_tests)
+        (λ i b there p. is_equal b.cpu at.cpu (still_of_cpu at Ended own i b there (is_same b.start at.block (both_true _ (is_spent c b) p).0))))
 
     unspent_elsewhere : (other : ℕ) → without_spent c (blocks_of other m.blocks) ≡ blocks_of other m.blocks
     unspent_elsewhere other =

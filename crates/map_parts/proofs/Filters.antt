@@ -2,6 +2,7 @@
 use Rattle.std.proofs.Common.{◌≡◌, ◌≢◌, ℕ, zero, suc, ◌+◌, ◌<◌, ◌≤◌, Bool, true, false, cond, ◌&&◌, ◌||◌, ◌==◌, length, ◌⊎◌, inl, inr, List, [], ◌∷◌, ◌++◌, map, filter, find, flat_map, option_map, slice_get, slice_set, Option, Some, None, refl, ap, sym, ◌∙◌, arith}
 use Rattle.std.proofs.lemmas.Bool.Decides.{nat_tests}
 use Rattle.vm_model.specs.Space.{count_from, is_among}
+use Rattle.map_parts.proofs.Tests.{is_equal, or_first, or_second}
 
 -- a filter of what another filter leaves
 filter_both : {X : Type 0} (p q : X → Bool) (x : X) (xs : List X) (b d : Bool) → p x ≡ b → q x ≡ d → filter p (filter q xs) ≡ filter q (filter p xs)
@@ -105,10 +106,13 @@ pub find-filter : {X : Type 0} (p q : X → Bool) (xs : List X) → ((i : ℕ) (
 find-filter p q [] h = refl
 find-filter p q (x ∷ xs) h = find-filter_by p q x xs (p x) (q x) refl refl (h 0 x refl) (find-filter p q xs (λ i y e. h (suc i) y e))
 
+pub append_at : {X : Type 0} (xs ys : List X) (k : ℕ) (z : X) → slice_get (xs ++ ys) k ≡ Some z → (slice_get xs k ≡ Some z) ⊎ ((i : ℕ) × (k ≡ length xs + i) × (slice_get ys i ≡ Some z))
+append_at [] ys k z h = inr (k, (let e : k ≡ 0 + k = omega arith in e), h)
+append_at (x ∷ xs) ys zero z h = inl h
+append_at (x ∷ xs) ys (suc k) z h = elim (append_at xs ys k z h) [ inl e ↦ inl e | inr w ↦ inr (w.0, (let f : suc k ≡ suc (length xs) + w.0 = omega arith in f), w.2) ]
+
 pub append_cases : {X : Type 0} (xs ys : List X) (k : ℕ) (z : X) → slice_get (xs ++ ys) k ≡ Some z → ((i : ℕ) × (slice_get xs i ≡ Some z)) ⊎ ((j : ℕ) × (slice_get ys j ≡ Some z))
-append_cases [] ys k z h = inr (k, h)
-append_cases (x ∷ xs) ys zero z h = inl (0, h)
-append_cases (x ∷ xs) ys (suc k) z h = elim (append_cases xs ys k z h) [ inl w ↦ inl (suc w.0, w.1) | inr w ↦ inr w ]
+append_cases xs ys k z h = elim (append_at xs ys k z h) [ inl e ↦ inl (k, e) | inr w ↦ inr (w.0, w.2) ]
 
 pub flat_map_each : {X Y : Type 0} (P : Y → Type 0) (f : X → List Y) (xs : List X) → ((i : ℕ) (x : X) → slice_get xs i ≡ Some x → (j : ℕ) (y : Y) → slice_get (f x) j ≡ Some y → P y)
     → (j : ℕ) (y : Y) → slice_get (flat_map f xs) j ≡ Some y → P y
@@ -150,18 +154,9 @@ filter-filter p q [] = refl
 filter-filter p q (x ∷ xs) = twice_by p q x xs (p x) (q x) refl (filter-filter p q xs)
 
 -- numbers that elements have
-or_first : (a b : Bool) → a ≡ true → (a || b) ≡ true
-or_first a b h = grind arith
-
-or_second : (a b : Bool) → b ≡ true → (a || b) ≡ true
-or_second a b h = grind arith
-
-is_itself : (n : ℕ) → (n == n) ≡ true
-is_itself n = grind (arith, nat_tests)
-
 pub among_map : {X : Type 0} (f : X → ℕ) (xs : List X) (i : ℕ) (x : X) → slice_get xs i ≡ Some x → is_among (map f xs) (f x) ≡ true
 among_map f [] i x h = absurd cc
-among_map f (z ∷ xs) zero x h = let same : z ≡ x = cc in or_first _ _ (ap (λ y. f y == f x) same ∙ is_itself (f x))
+among_map f (z ∷ xs) zero x h = let same : z ≡ x = cc in or_first _ _ (ap (λ y. f y == f x) same ∙ is_equal (f x) (f x) refl)
 among_map f (z ∷ xs) (suc i) x h = or_second (f z == f x) _ (among_map f xs i x h)
 
 among_by : {X : Type 0} (f : X → ℕ) (z : X) (xs : List X) (n : ℕ) (b : Bool) → (f z == n) ≡ b → (b || is_among (map f xs) n) ≡ true
@@ -182,3 +177,8 @@ append_first (x ∷ xs) ys (suc k) z h = append_first xs ys k z h
 pub append_last : {X : Type 0} (xs : List X) (z : X) → slice_get (xs ++ z ∷ []) (length xs) ≡ Some z
 append_last [] z = refl
 append_last (x ∷ xs) z = append_last xs z
+
+-- the only element
+pub single : {X : Type 0} (x : X) (i : ℕ) (y : X) → slice_get (x ∷ []) i ≡ Some y → y ≡ x
+single x zero y h = cc
+single x (suc i) y h = absurd cc

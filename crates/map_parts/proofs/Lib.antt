@@ -1,4 +1,5 @@
 pub mod SectionProofs
+pub mod Tests
 pub mod Filters
 pub mod TakenPages
 pub mod OneRegion

@@ -1,5 +1,5 @@
 -- What each kind of section keeps of the map by itself, of serials that were given, and of parts that others have in hand.
-use Rattle.std.proofs.Common.{◌≡◌, ◌≢◌, ℕ, zero, suc, ◌<◌, ◌≤◌, inl, inr, Bool, true, false, not, ◌&&◌, ◌==◌, List, [], ◌∷◌, ◌++◌, length, slice_get, Some, refl, ap, sym, ◌∙◌, subst, arith}
+use Rattle.std.proofs.Common.{◌≡◌, ◌≢◌, ℕ, suc, ◌<◌, ◌≤◌, inl, inr, Bool, true, false, not, ◌&&◌, ◌==◌, List, [], ◌∷◌, ◌++◌, length, slice_get, Some, refl, ap, sym, ◌∙◌, subst, arith}
 use Rattle.std.proofs.lemmas.Bool.Decides.{nat_tests}
 use Rattle.std.proofs.lemmas.List.{length-set}
 use Rattle.vm_model.specs.declared.areas.Span.{Span}
@@ -16,7 +16,7 @@ use Rattle.vm_model.specs.Rules.{IsSetup}
 use Rattle.vm_model.proofs.PaintRuns.{length-paint}
 use Rattle.map_parts.specs.Owners.{is_plain}
 use Rattle.map_parts.specs.Kept.{IsBlockWhole, HasPart, IsPlainSerial, IsWhole}
-use Rattle.map_parts.proofs.Filters.{append_cases, append_first, append_last}
+use Rattle.map_parts.proofs.Filters.{single, append_cases, append_first, append_last}
 use Rattle.map_parts.proofs.PartRows.{whole_push}
 use Rattle.map_parts.proofs.PoolParts.{areas_then, areas_of_were}
 use Rattle.map_parts.proofs.BlockMoves.{AreWhole, AreOnce, cut_whole, cut_others, life_whole, life_others, filter_whole, fragment_has, retire_whole, retire_others}
@@ -100,10 +100,6 @@ module _ (c : Setup) (m : PlainMap) (k : ℕ) (whole : IsWhole c m) where
       | inr w ↦ let below = whole.serials w.0 a w.1 in absurd (omega arith)
     ];
   }
-    where
-      single : (x : Span × AreaKind) (i : ℕ) (y : Span × AreaKind) → slice_get (x ∷ []) i ≡ Some y → y ≡ x
-      single x zero y h = cc
-      single x (suc i) y h = absurd cc
 
   -- other blocks, where the areas stay
   pub keeps_blocks : (m' : PlainMap) → m'.marks ≡ m.marks → length m'.next_part ≡ length m.next_part → m'.areas ≡ m.areas → m'.next_area ≡ m.next_area → AreWhole c m'.blocks
@@ -147,10 +143,6 @@ module _ (c : Setup) (m : PlainMap) (k : ℕ) (whole : IsWhole c m) where
           | inl w ↦ whole.blocks w.0 b w.1
           | inr w ↦ subst (IsBlockWhole c) (sym (single new w.0 b w.1)) (whole_push c k at (record { start = at.block; cpu = at.cpu; parts = [] }) (empty_whole at) offset (omega arith))
         ]
-      where
-        single : (x : Block) (i : ℕ) (y : Block) → slice_get (x ∷ []) i ≡ Some y → y ≡ x
-        single x zero y h = cc
-        single x (suc i) y h = absurd cc
 
     pub keeps_added : (at : PartAt) → at.offset ≡ 0 → rounded at.pages ≤ c.block_pages → KeepsMap c m k (effect_as c m k (AddBlock at))
     keeps_added at offset room = keeps_blocks _ refl refl refl refl (added_whole at offset room) (λ j at' n has. record {

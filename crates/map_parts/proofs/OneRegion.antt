@@ -1,5 +1,5 @@
 -- Sections over the regions that all processors share: each over its region alone leaves what it leaves in the map.
-use Rattle.std.proofs.Common.{◌≡◌, ℕ, Bool, true, false, not, ◌||◌, if◌then◌else◌, List, [], ◌∷◌, ◌++◌, length, map, Option, Some, None, IfSome, slice_set, refl, ap, sym, ◌∙◌, arith, ℤ}
+use Rattle.std.proofs.Common.{◌≡◌, ℕ, Bool, true, false, not, List, [], ◌∷◌, ◌++◌, length, map, Option, Some, None, IfSome, slice_set, refl, ap, sym, ◌∙◌, ℤ}
 use Rattle.vm_model.specs.declared.areas.Span.{Span}
 use Rattle.vm_model.specs.declared.areas.Area.{Area}
 use Rattle.vm_model.specs.declared.areas.AreaKind.{AreaKind}
@@ -16,16 +16,12 @@ use Rattle.vm_model.specs.Parts.{Region, Desk, PurgeTurn, AllocTurn, FreeRuns, L
 use Rattle.map_parts.specs.Locality.{AreTaken, FallsApart, IsOverOneRegion}
 use Rattle.map_parts.proofs.TakenPages.{taken_in, taken_again, taken_stays, taken_stays-mark_live, spans_of-areas_of}
 use Rattle.vm_model.proofs.PaintRuns.{map-paint}
+use Rattle.map_parts.proofs.Tests.{of_two, or_first}
 
 module _ (c : Setup) (m : PlainMap) (k : ℕ) where
   -- what a section over one region has to leave
   abbrev pub LeavesAlike : (number : ℕ) → Region → Section → Type 0
   LeavesAlike number region s = regions_of c (effect_as c m k s) ≡ slice_set (regions_of c m) number (region_in (effect_as c (map_with c region) k s) region)
-
-  -- a section that is made in one of two ways
-  of_two : (P : Section → Type 0) (b : Bool) (s t : Section) → P s → P t → P (if b then s else t)
-  of_two P true s t p q = p
-  of_two P false s t p q = q
 
   if_taking : (P : Section → Type 0) (o : Option ℕ) (s : Section) → P s → IfSome (taking o s) P
   if_taking P None s p = p
@@ -117,10 +113,7 @@ module _ (c : Setup) (m : PlainMap) (k : ℕ) where
   unfolding regions_with
   removed_by start serial [] h = refl
   removed_by start serial (a ∷ found) h =
-      ap (regions_with (effect_as c m k (Remove start serial a))) (taken_stays (holds a.span) (Held k) m.marks refl (λ page e. h page (or_true (holds a.span page) _ e)))
-    where
-      or_true : (a b : Bool) → a ≡ true → (a || b) ≡ true
-      or_true a b e = grind arith
+      ap (regions_with (effect_as c m k (Remove start serial a))) (taken_stays (holds a.span) (Held k) m.marks refl (λ page e. h page (or_first (holds a.span page) _ e)))
 
   pub remove : (start serial : ℕ) → AreTaken m (spans_of (named_areas start serial m.areas)) → IsOverOneRegion c m k (AskRemove start serial) 4
   remove start serial h = record {

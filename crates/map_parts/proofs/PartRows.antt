@@ -1,6 +1,5 @@
 -- The parts of one block: they follow each other, and a block with a part that hasn't ended is neither spent nor fragmented.
-use Rattle.std.proofs.Common.{◌≡◌, ◌≢◌, ℕ, zero, suc, ◌+◌, ◌-◌, ◌≤◌, Bool, true, false, cond, ◌&&◌, ◌==◌, nat_lt, if◌then◌else◌, List, [], ◌∷◌, ◌++◌, map, filter, slice_get, Some, refl, ap, sym, ◌∙◌, subst, arith}
-use Rattle.std.proofs.lemmas.Bool.Decides.{nat_tests}
+use Rattle.std.proofs.Common.{◌≡◌, ℕ, zero, suc, ◌+◌, ◌-◌, ◌≤◌, Bool, true, false, cond, ◌==◌, nat_lt, if◌then◌else◌, List, [], ◌∷◌, ◌++◌, map, filter, slice_get, Some, refl, ap, sym, ◌∙◌, subst, arith}
 use Rattle.std.proofs.lemmas.Nat.{pow_pos}
 use Rattle.std.proofs.lemmas.List.{append-nil}
 use Rattle.std.proofs.lemmas.List.Sums.{sum_by-cons, sum_by_push}
@@ -11,6 +10,7 @@ use Rattle.vm_model.specs.Bits.{binary_digits}
 use Rattle.vm_model.specs.Blocks.{PartAt, rounded, size_of, parts_size, free_of, ended_parts, dirty_of, is_spent, is_fragmented, with_part, with_life}
 use Rattle.map_parts.specs.Kept.{AreInRow, IsBlockWhole}
 use Rattle.map_parts.proofs.Sums.{sum-filter_without}
+use Rattle.map_parts.proofs.Tests.{first_false, is_other, is_same}
 
 pub size_some : (p : Part) → 1 ≤ size_of p
 size_some p = omega (arith, pow_pos (binary_digits (p.pages - 1)))
@@ -77,25 +77,16 @@ life_keeps at life p = by_test (p.offset == at.offset)
     by_test true = (refl, refl)
     by_test false = (refl, refl)
 
-is_at : (a b : ℕ) → (a == b) ≡ true → a ≡ b
-is_at a b h = grind (arith, nat_tests)
-
 -- a part that hasn't ended takes its size from what the ended ones can have
 pub dirty_less : (b : Block) (i : ℕ) (p : Part) → slice_get b.parts i ≡ Some p → is_ended p.life ≡ false → dirty_of b + size_of p ≤ parts_size b.parts
 dirty_less b i p at e = sum-filter_without size_of (λ (p : Part). is_ended p.life) b.parts i p at e
 
-unequal : (a b : ℕ) → a ≢ b → (a == b) ≡ false
-unequal a b h = grind (arith, nat_tests)
-
 pub unspent_with : (c : Setup) (b : Block) (i : ℕ) (p : Part) → parts_size b.parts ≤ c.block_pages → slice_get b.parts i ≡ Some p → is_ended p.life ≡ false → is_spent c b ≡ false
-unspent_with c b i p room at e = unequal (dirty_of b) c.block_pages (λ h. absurd (omega (arith, dirty_less b i p at e, size_some p, h)))
-
-first_false : (a b : Bool) → a ≡ false → (a && b) ≡ false
-first_false a b h = grind arith
+unspent_with c b i p room at e = is_other (dirty_of b) c.block_pages (λ h. absurd (omega (arith, dirty_less b i p at e, size_some p, h)))
 
 pub unfragmented_with : (c : Setup) (b : Block) (i : ℕ) (p : Part) → parts_size b.parts ≤ c.block_pages → slice_get b.parts i ≡ Some p → is_ended p.life ≡ false → is_fragmented c b ≡ false
 unfragmented_with c b i p room at e =
-    first_false _ (nat_lt (dirty_of b) c.block_pages) (unequal (free_of c b + dirty_of b) c.block_pages (λ h. absurd (omega (arith, dirty_less b i p at e, size_some p, h))))
+    first_false _ (nat_lt (dirty_of b) c.block_pages) (is_other (free_of c b + dirty_of b) c.block_pages (λ h. absurd (omega (arith, dirty_less b i p at e, size_some p, h))))
 
 -- the block with one more part
 pub whole_push : (c : Setup) (k : ℕ) (at : PartAt) (b : Block) → IsBlockWhole c b → at.offset ≡ parts_size b.parts → parts_size b.parts + rounded at.pages ≤ c.block_pages → IsBlockWhole c (with_part k at b)
@@ -111,7 +102,7 @@ whole_push c k at b w offset room =
 -- the block with a part whose life changes, where neither life is an end
 life_ends : (at : PartAt) (life : Life) (p : Part) (b : Bool) → (p.offset == at.offset) ≡ b → is_ended life ≡ false → (p.offset ≡ at.offset → is_ended p.life ≡ false)
     → is_ended (if b then record p { life = life } else p).life ≡ is_ended p.life
-life_ends at life p true e f was = f ∙ sym (was (is_at p.offset at.offset e))
+life_ends at life p true e f was = f ∙ sym (was (is_same p.offset at.offset e))
 life_ends at life p false e f was = refl
 
 pub whole_life : (c : Setup) (at : PartAt) (life : Life) (b : Block) → IsBlockWhole c b → is_ended life ≡ false

@@ -1,6 +1,5 @@
 -- At each place, the section that the map gives takes pages from owner to owner.
 use Rattle.std.proofs.Common.{◌≡◌, ℕ, zero, suc, ◌+◌, ◌≤◌, Bool, true, false, not, ◌&&◌, ◌==◌, nat_lt, if◌then◌else◌, List, [], ◌∷◌, ◌++◌, filter, length, slice_get, slice_index, Option, Some, None, IfSome, option_to_list, refl, ap, sym, ◌∙◌, arith}
-use Rattle.std.proofs.lemmas.Bool.Decides.{nat_tests}
 use Rattle.std.proofs.lemmas.List.{map-id, map-append}
 use Rattle.std.proofs.lemmas.List.Sums.{sum_by-append, sum_by_push}
 use Rattle.vm_model.specs.declared.areas.Span.{Span}
@@ -27,6 +26,7 @@ use Rattle.map_parts.proofs.Filters.{filter_within, filter_passes, map_was, amon
 use Rattle.map_parts.proofs.PoolMoves.{of_next, MovesApart, moves_stay, times_from-le}
 use Rattle.map_parts.proofs.PoolParts.{blocks_changed, blocks_left, block_spent, blocks_leave, chunks_changed, chunk_spared, groups_not_plain, group_kinds_were, times_from-all, times_from-other}
 use Rattle.map_parts.proofs.SectionMoves.{carve_moves, carve_groups_moves, drop_moves, return_moves, wait_moves, take_waiting_moves, settle_plain_moves, settle_out_moves, remove_moves, unlink_moves, blocks_move, chunks_move}
+use Rattle.map_parts.proofs.Tests.{both_true, is_same, of_two}
 
 module _ (c : Setup) (m : PlainMap) (k : ℕ) where
   abbrev pub LeavesApart : Place → Section → Type 0
@@ -35,10 +35,6 @@ module _ (c : Setup) (m : PlainMap) (k : ℕ) where
   -- a section that moves no pages
   quiet : (own own' : (ℕ → Bool) → ℕ → ℕ) → ((counts : ℕ → Bool) (page : ℕ) → own' counts page ≤ own counts page) → MovesApart c (pool_of m) (pool_of m) own own'
   quiet own own' less = moves_stay c (pool_of m) own own' less
-
-  of_two : (P : Section → Type 0) (b : Bool) (s t : Section) → P s → P t → P (if b then s else t)
-  of_two P true s t p q = p
-  of_two P false s t p q = q
 
   -- Searches.
 
@@ -91,10 +87,7 @@ module _ (c : Setup) (m : PlainMap) (k : ℕ) where
       let first : slice_get (named_areas start serial m.areas) 0 ≡ Some a = ap (λ l. slice_get l 0) e in
       let w = filter_within (is_area start serial) m.areas 0 a first in
       let named = filter_passes (is_area start serial) m.areas 0 a first in
-      remove_moves c m k _ _ start serial a rest e (plain.plain w.0 a w.1 (second_same _ a.serial serial named)) (λ counts page. omega arith)
-    where
-      second_same : (b : Bool) (x y : ℕ) → (b && (x == y)) ≡ true → x ≡ y
-      second_same b x y h = grind (arith, nat_tests)
+      remove_moves c m k _ _ start serial a rest e (plain.plain w.0 a w.1 (is_same a.serial serial (both_true _ _ named).1)) (λ counts page. omega arith)
 
   -- the block whose area is settled
   one_block : (s : Span) → s.pages ≡ c.block_pages → block_spans c (s.start ∷ []) ≡ s ∷ []

@@ -1,6 +1,5 @@
 -- At each place, the section that the map gives leaves the map whole and its caller at a sound place.
 use Rattle.std.proofs.Common.{◌≡◌, ℕ, suc, ◌<◌, ◌≤◌, Bool, true, false, not, nat_lt, if◌then◌else◌, List, [], ◌∷◌, ◌++◌, length, slice_index, Option, Some, None, IfSome, option_to_list, refl, ap, sym, subst, arith}
-use Rattle.std.proofs.lemmas.Bool.Decides.{nat_tests}
 use Rattle.vm_model.specs.declared.areas.Span.{Span}
 use Rattle.vm_model.specs.declared.areas.Area.{Area}
 use Rattle.vm_model.specs.declared.areas.AreaKind.TheVariants as kind
@@ -22,6 +21,7 @@ use Rattle.map_parts.specs.Kept.{CanBePart, IsSoundAim, IsSoundThen, IsSoundPlac
 use Rattle.map_parts.proofs.Filters.{filter_within}
 use Rattle.map_parts.proofs.BlockMoves.{AreOnce, cut_own, is_named_part, life_own}
 use Rattle.map_parts.proofs.MapKept.{KeepsMap, keeps_lists, keeps_fewer, keeps_settled, settled_plain, keeps_cut, keeps_added, added_own, keeps_settled_part, keeps_begun, keeps_retired, keeps_fragmented}
+use Rattle.map_parts.proofs.Tests.{lt_test, of_two}
 
 abbrev pub IsSoundNext : Setup → PlainMap → (caller : ℕ) → Next → Type 0
 IsSoundNext c m k (Go place) = IsSoundPlace c m k place
@@ -32,16 +32,9 @@ module _ (c : Setup) (m : PlainMap) (k : ℕ) where
     pub map : KeepsMap c m k (effect_as c m k s)
     pub onward : IsSoundNext c (effect_as c m k s) k (next c place s)
 
-  of_two : (P : Section → Type 0) (b : Bool) (s t : Section) → P s → P t → P (if b then s else t)
-  of_two P true s t p q = p
-  of_two P false s t p q = q
-
   sound_if : (m' : PlainMap) (b : Bool) (n n' : Next) → (b ≡ true → IsSoundNext c m' k n) → (b ≡ false → IsSoundNext c m' k n') → IsSoundNext c m' k (if b then n else n')
   sound_if m' true n n' p q = p refl
   sound_if m' false n n' p q = q refl
-
-  lt_test : (a b : ℕ) → nat_lt a b ≡ true → a < b
-  lt_test a b h = grind (arith, nat_tests)
 
   go_on_sound : (m' : PlainMap) (after : Then) → IsSoundThen c after → IsSoundNext c m' k (go_on after)
   go_on_sound m' (SearchAgain search aim) sound = sound

@@ -13,6 +13,7 @@ use Rattle.vm_model.specs.Laws.{as_free}
 use Rattle.vm_model.proofs.Paint.{slice_get-paint}
 use Rattle.map_parts.specs.Owners.{is_plain, Pool, every, other_than, times_from, of_block, of_chunk, of_pool, of_place, out, HaveOneOwner}
 use Rattle.map_parts.proofs.Sums.{sum-le}
+use Rattle.map_parts.proofs.Tests.{and_less}
 
 -- what a caller has when it goes on, or answers
 abbrev pub of_next : Setup → Next → (ℕ → Bool) → ℕ → ℕ
@@ -59,19 +60,14 @@ pub moves_stay : (c : Setup) (p : Pool) (own own' : (ℕ → Bool) → ℕ → �
 moves_stay c p own own' less = moves_balanced c p p own own' (λ i a at. (i, at)) (λ counts page. let l = less counts page in omega arith)
 
 -- fewer starts count fewer
-if_counts : (a b : Bool) → one_if (a && b) ≤ one_if b
-if_counts true b = omega arith
-if_counts false true = omega arith
-if_counts false false = omega arith
-
 pub times_from-le : (counts : ℕ → Bool) (page : ℕ) (spans : List Span) → times_from counts page spans ≤ times page spans
-times_from-le counts page spans = sum-le (λ (s : Span). one_if (counts s.start && holds s page)) (λ (s : Span). one_if (holds s page)) spans (λ s. if_counts (counts s.start) (holds s page))
+times_from-le counts page spans = sum-le (λ (s : Span). one_if (counts s.start && holds s page)) (λ (s : Span). one_if (holds s page)) spans (λ s. and_less (counts s.start) (holds s page))
 
 pub of_place-le : (c : Setup) (place : Place) (counts : ℕ → Bool) (page : ℕ) → of_place c place counts page ≤ of_place c place every page
 of_place-le c place counts page = omega (arith, times_from-le counts page (out c place))
 
 pub of_block-le : (c : Setup) (counts : ℕ → Bool) (page : ℕ) (blocks : List Block) → sum_by (of_block c counts page) blocks ≤ sum_by (of_block c every page) blocks
-of_block-le c counts page blocks = sum-le (of_block c counts page) (of_block c every page) blocks (λ b. if_counts (counts b.start) (holds (span b.start c.block_pages) page))
+of_block-le c counts page blocks = sum-le (of_block c counts page) (of_block c every page) blocks (λ b. and_less (counts b.start) (holds (span b.start c.block_pages) page))
 
 pub of_chunk-le : (c : Setup) (counts : ℕ → Bool) (page : ℕ) (chunks : List Chunk) → sum_by (of_chunk c counts page) chunks ≤ sum_by (of_chunk c every page) chunks
 of_chunk-le c counts page chunks = sum-le (of_chunk c counts page) (of_chunk c every page) chunks (λ h. times_from-le counts page (groups_at c h.base))

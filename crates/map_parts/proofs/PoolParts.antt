@@ -1,7 +1,7 @@
 -- How often areas, blocks and chunks have a page after each change.
 use Rattle.std.proofs.Common.{◌≡◌, ℕ, zero, suc, ◌+◌, ◌<◌, ◌≤◌, ◌⊎◌, inl, inr, Bool, true, false, not, ◌&&◌, ◌==◌, nat_lt, if◌then◌else◌, List, [], ◌∷◌, map, filter, find, length, slice_get, sum_by, Option, Some, None, is_some, refl, ap, sym, ◌∙◌, arith}
-use Rattle.std.proofs.lemmas.Bool.Decides.{nat_tests}
 use Rattle.std.proofs.lemmas.List.Sums.{sum_by-cons}
+use Rattle.std.proofs.lemmas.Option.{same_Some}
 use Rattle.vm_model.specs.declared.areas.Span.{Span}
 use Rattle.vm_model.specs.declared.areas.Area.{Area}
 use Rattle.vm_model.specs.declared.areas.AreaKind.{AreaKind}
@@ -16,6 +16,7 @@ use Rattle.vm_model.specs.Places.{block_spans}
 use Rattle.map_parts.specs.Owners.{is_plain, other_than, times_from, of_area, of_block, of_chunk}
 use Rattle.map_parts.proofs.Filters.{filter_passes, filter_within, filter_keeps, filter-filter, found_there, among_map}
 use Rattle.map_parts.proofs.Sums.{sum-filter_parts, sum-filter-le, sum-filter_without, sum-map, sum-same, sum-le}
+use Rattle.map_parts.proofs.Tests.{and_less, both_true, is_equal, is_same}
 
 -- Blocks.
 
@@ -34,13 +35,6 @@ pub blocks_left : (c : Setup) (counts : ℕ → Bool) (page : ℕ) (at : PartAt)
 blocks_left c counts page at blocks =
     omega (arith, sum-filter-le (of_block c counts page) (λ (b : Block). not (is_spent c b)) (set_life at Ended blocks), blocks_changed c counts page at.block (with_life at Ended) blocks (λ b. refl))
 
-both_true : (a b : Bool) → (a && b) ≡ true → (a ≡ true) × (b ≡ true)
-both_true true b h = (refl, h)
-both_true false b h = absurd cc
-
-same_number : (a b : ℕ) → (a == b) ≡ true → a ≡ b
-same_number a b h = grind (arith, nat_tests)
-
 spent_by : (c : Setup) (counts : ℕ → Bool) (page : ℕ) (at : PartAt) (blocks : List Block) (o : Option Block) → find (λ (b : Block). (b.start == at.block) && is_spent c b) (set_life at Ended blocks) ≡ o → is_some o ≡ true
     → sum_by (of_block c counts page) (without_spent c (set_life at Ended blocks)) + one_if (counts at.block && holds (span at.block c.block_pages) page) ≤ sum_by (of_block c counts page) blocks
 spent_by c counts page at blocks None e h = absurd cc
@@ -50,7 +44,7 @@ spent_by c counts page at blocks (Some b) e h =
     omega (
       arith,
       sum-filter_without (of_block c counts page) (λ (b : Block). not (is_spent c b)) (set_life at Ended blocks) found.1.0 b found.1.1 (ap not is.1),
-      ap (λ s. one_if (counts s && holds (span s c.block_pages) page)) (same_number b.start at.block is.0),
+      ap (λ s. one_if (counts s && holds (span s c.block_pages) page)) (is_same b.start at.block is.0),
       blocks_changed c counts page at.block (with_life at Ended) blocks (λ b. refl),
     )
 
@@ -105,15 +99,12 @@ chunks_changed c counts page number change chunks keeps =
     by_test h true = ap (λ base. times_from counts page (groups_at c base)) (keeps h)
     by_test h false = refl
 
-equal_itself : (n : ℕ) → (n == n) ≡ true
-equal_itself n = grind (arith, nat_tests)
-
 -- a spare chunk passes to its caller
 pub chunk_spared : (c : Setup) (counts : ℕ → Bool) (page : ℕ) (chunks : List Chunk) (h : Chunk) → spare_chunk chunks ≡ Some h
     → sum_by (of_chunk c counts page) (filter (λ (other : Chunk). not (other.number == h.number)) chunks) + times_from counts page (groups_at c h.base) ≤ sum_by (of_chunk c counts page) chunks
 chunk_spared c counts page chunks h e =
     let w = filter_within (λ (h : Chunk). length h.objects == 0) chunks 1 h e in
-    sum-filter_without (of_chunk c counts page) (λ (other : Chunk). not (other.number == h.number)) chunks w.0 h w.1 (ap not (equal_itself h.number))
+    sum-filter_without (of_chunk c counts page) (λ (other : Chunk). not (other.number == h.number)) chunks w.0 h w.1 (ap not (is_equal h.number h.number refl))
 
 -- Areas.
 
@@ -167,11 +158,8 @@ groups_not_plain page caller serial chunk group (s ∷ spans) =
 pub areas_of_were : (caller serial : ℕ) (ps : List (Span × AreaKind)) (i : ℕ) (a : Area) → slice_get (areas_of caller serial ps) i ≡ Some a → (p : Span × AreaKind) × (slice_get ps i ≡ Some p) × (a.span ≡ p.0) × (a.kind ≡ p.1) × (serial ≤ a.serial) × (a.serial < serial + length ps)
 areas_of_were caller serial [] i a h = absurd cc
 areas_of_were caller serial (p ∷ ps) zero a h =
-    let same : record { span = p.0; kind = p.1; caller = caller; serial = serial } ≡ a = is_same (record { span = p.0; kind = p.1; caller = caller; serial = serial }) a h in
+    let same : record { span = p.0; kind = p.1; caller = caller; serial = serial } ≡ a = same_Some (record { span = p.0; kind = p.1; caller = caller; serial = serial }) a h in
     (p, refl, ap (λ (a : Area). a.span) (sym same), ap (λ (a : Area). a.kind) (sym same), omega (arith, ap (λ (a : Area). a.serial) same), omega (arith, ap (λ (a : Area). a.serial) same))
-  where
-    is_same : (x y : Area) → Some x ≡ Some y → x ≡ y
-    is_same x y e = cc
 areas_of_were caller serial (p ∷ ps) (suc i) a h = let w = areas_of_were caller (suc serial) ps i a h in (w.0, w.1, w.2, w.3, omega (arith, w.4), omega (arith, w.5))
 
 pub group_kinds_were : (chunk group : ℕ) (spans : List Span) (i : ℕ) (p : Span × AreaKind) → slice_get (group_kinds chunk group spans) i ≡ Some p → slice_get spans i ≡ Some p.0
@@ -212,20 +200,12 @@ times_from-all counts page (s ∷ spans) h =
       times_from-all counts page spans (λ i t at. h (suc i) t at),
     )
 
-counts_less : (counts : ℕ → Bool) (page : ℕ) (s : Span) → one_if (counts s.start && holds s page) ≤ one_if (holds s page)
-counts_less counts page s = by_test (counts s.start) (holds s page)
-  where
-    by_test : (a b : Bool) → one_if (a && b) ≤ one_if b
-    by_test true b = omega arith
-    by_test false true = omega arith
-    by_test false false = omega arith
-
 -- a span that has the page doesn't count where its start doesn't
 pub times_from-other : (page : ℕ) (spans : List Span) (i : ℕ) (s : Span) → slice_get spans i ≡ Some s → holds s page ≡ true → times_from (other_than s.start) page spans + 1 ≤ times page spans
 times_from-other page [] i s h on = absurd cc
 times_from-other page (t ∷ spans) zero s h on =
     let same : t ≡ s = cc in
-    let out : one_if (other_than s.start t.start && holds t page) ≡ 0 = ap (λ (t : Span). one_if (other_than s.start t.start && holds t page)) same ∙ ap (λ b. one_if (not b && holds s page)) (equal_itself s.start) in
+    let out : one_if (other_than s.start t.start && holds t page) ≡ 0 = ap (λ (t : Span). one_if (other_than s.start t.start && holds t page)) same ∙ ap (λ b. one_if (not b && holds s page)) (is_equal s.start s.start refl) in
     let one : one_if (holds t page) ≡ 1 = ap (λ (t : Span). one_if (holds t page)) same ∙ ap one_if on in
     omega (
       arith,
@@ -233,13 +213,13 @@ times_from-other page (t ∷ spans) zero s h on =
       sum_by-cons (λ (u : Span). one_if (other_than s.start u.start && holds u page)) t spans,
       out,
       one,
-      sum-le (λ (u : Span). one_if (other_than s.start u.start && holds u page)) (λ (u : Span). one_if (holds u page)) spans (counts_less (other_than s.start) page),
+      sum-le (λ (u : Span). one_if (other_than s.start u.start && holds u page)) (λ (u : Span). one_if (holds u page)) spans (λ u. and_less (other_than s.start u.start) (holds u page)),
     )
 times_from-other page (t ∷ spans) (suc i) s h on =
     omega (
       arith,
       sum_by-cons (λ (s : Span). one_if (holds s page)) t spans,
       sum_by-cons (λ (u : Span). one_if (other_than s.start u.start && holds u page)) t spans,
-      counts_less (other_than s.start) page t,
+      and_less (other_than s.start t.start) (holds t page),
       times_from-other page spans i s h on,
     )

@@ -1,10 +1,10 @@
 -- Every reached world keeps apart: the first one does, each legal event is a step, and the callers begin without pages.
-use Rattle.std.proofs.Common.{◌≡◌, ℕ, zero, suc, ◌+◌, ◌≤◌, ◌⊎◌, inl, inr, Bool, true, false, List, [], ◌∷◌, ◌++◌, length, replicate, slice_get, Option, Some, None, refl, ap, sym, ◌∙◌, subst, arith}
+use Rattle.std.proofs.Common.{◌≡◌, ℕ, zero, suc, ◌+◌, ◌≤◌, inl, inr, Bool, List, [], ◌∷◌, ◌++◌, length, replicate, slice_get, Option, Some, None, refl, ap, sym, ◌∙◌, subst, arith}
 use Rattle.std.proofs.lemmas.List.{length-replicate, length-set}
 use Rattle.std.proofs.lemmas.List.Sums.{sum_by-cons, sum_by-append}
+use Rattle.std.proofs.lemmas.Option.{same_Some}
 use Rattle.vm_model.specs.declared.calls.Call.{Call}
 use Rattle.vm_model.specs.declared.calls.Call.TheVariants.{MapRam}
-use Rattle.vm_model.specs.Space.{one_if}
 use Rattle.vm_model.specs.Setup.{Setup, cpus}
 use Rattle.vm_model.specs.PlainMap.{PlainMap, Mark, Free, is_free, at_first}
 use Rattle.vm_model.specs.Laws.{as_free}
@@ -20,6 +20,8 @@ use Rattle.map_parts.specs.Owners.{pool_of, every, of_place, of_locals, HaveOneO
 use Rattle.map_parts.specs.Kept.{AreSoundAnswers, IsSoundCall, IsSoundLocal, IsWhole, KeepsApart, ReachedWorldsKeepApart}
 use Rattle.map_parts.proofs.Beginnings.{IsBeginning, begins}
 use Rattle.map_parts.proofs.StepKeeps.{steps_keep_apart}
+use Rattle.map_parts.proofs.Tests.{one_at_most}
+use Rattle.map_parts.proofs.Filters.{append_at}
 
 -- the calls of a trace are sound
 sound_if_ruled : (c : Setup) (opening before : List Call) (call : Call) → IsRuled c opening before call → IsSoundCall c call
@@ -58,10 +60,6 @@ starts c m opening k calls is answers sound =
 free_at_most : (o : Option Mark) → as_free o ≤ 1
 free_at_most None = omega arith
 free_at_most (Some mark) = one_at_most (is_free mark)
-  where
-    one_at_most : (b : Bool) → one_if b ≤ 1
-    one_at_most true = omega arith
-    one_at_most false = omega arith
 
 first_whole : (c : Setup) (room : ℕ) → IsWhole c (at_first c room)
 first_whole c room = record {
@@ -115,10 +113,7 @@ from_callers : (c : Setup) (opening : List Answered) (k : ℕ) (lists : List (Li
     → (own : List Call) × (slice_get lists i ≡ Some own) × (l ≡ started c opening (k + i) own)
 from_callers c opening k [] i l at = absurd cc
 from_callers c opening k (own ∷ lists) zero l at =
-    let same : l ≡ started c opening k own = is_same l (started c opening k own) at in let first : k ≡ k + 0 = omega arith in (own, refl, same ∙ ap (λ n. started c opening n own) first)
-  where
-    is_same : (x y : Local) → Some y ≡ Some x → x ≡ y
-    is_same x y e = cc
+    let same : l ≡ started c opening k own = sym (same_Some (started c opening k own) l at) in let first : k ≡ k + 0 = omega arith in (own, refl, same ∙ ap (λ n. started c opening n own) first)
 from_callers c opening k (own ∷ lists) (suc i) l at =
     let w = from_callers c opening (suc k) lists i l at in let later : suc k + i ≡ k + suc i = omega arith in (w.0, w.1, w.2 ∙ ap (λ n. started c opening n w.0) later)
 
@@ -126,11 +121,6 @@ none_yet : (c : Setup) (counts : ℕ → Bool) (page : ℕ) (locals : List Local
 none_yet c counts page [] h = refl
 none_yet c counts page (l ∷ locals) h =
     omega (arith, sum_by-cons (λ (l : Local). of_place c l.place counts page) l locals, h 0 l refl, none_yet c counts page locals (λ i x at. h (suc i) x at))
-
-append_at : {X : Type 0} (xs ys : List X) (k : ℕ) (z : X) → slice_get (xs ++ ys) k ≡ Some z → (slice_get xs k ≡ Some z) ⊎ ((i : ℕ) × (k ≡ length xs + i) × (slice_get ys i ≡ Some z))
-append_at [] ys k z h = inr (k, (let e : k ≡ 0 + k = omega arith in e), h)
-append_at (x ∷ xs) ys zero z h = inl h
-append_at (x ∷ xs) ys (suc k) z h = elim (append_at xs ys k z h) [ inl e ↦ inl e | inr w ↦ inr (w.0, (let f : suc k ≡ suc (length xs) + w.0 = omega arith in f), w.2) ]
 
 opening_sound : (c : Setup) (m : PlainMap) (locals : List Local) → ((k : ℕ) (l : Local) → slice_get locals k ≡ Some l → IsSoundLocal c m k l) → AreSoundAnswers c m (opening_answers locals)
 opening_sound c m [] h = λ i answer at. absurd cc

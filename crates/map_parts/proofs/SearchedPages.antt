@@ -1,5 +1,5 @@
 -- The pages that a search finds are free, and each of them is found once.
-use Rattle.std.proofs.Common.{◌≡◌, ℕ, zero, suc, ◌+◌, ◌-◌, ◌%◌, ◌<◌, ◌≤◌, Bool, true, false, not, ◌&&◌, ◌||◌, ◌==◌, nat_le, List, [], ◌∷◌, map, filter, length, slice_get, slice_index, Option, Some, None, refl, ap, sym, ◌∙◌, subst, arith, option_map}
+use Rattle.std.proofs.Common.{◌≡◌, ℕ, zero, suc, ◌+◌, ◌-◌, ◌%◌, ◌<◌, ◌≤◌, Bool, true, false, not, ◌||◌, ◌==◌, nat_le, List, [], ◌∷◌, map, filter, length, slice_get, slice_index, Option, Some, None, refl, ap, sym, ◌∙◌, subst, arith, option_map}
 use Rattle.std.specs.List.{list_all}
 use Rattle.std.proofs.lemmas.Bool.Decides.{nat_tests}
 use Rattle.std.proofs.lemmas.Option.{slice_get-map}
@@ -13,6 +13,7 @@ use Rattle.vm_model.specs.Rules.{AreApart, AreDisjoint, IsSetup}
 use Rattle.vm_model.proofs.PaintRuns.{lowest_is_free}
 use Rattle.map_parts.proofs.Filters.{filter_passes, map_was}
 use Rattle.map_parts.proofs.PoolMoves.{free-painted, free-painted_here}
+use Rattle.map_parts.proofs.Tests.{both_true, le_test, one_at_most}
 
 pub holds_bounds : (s : Span) (page : ℕ) → holds s page ≡ true → (s.start ≤ page) × (page < s.start + s.pages)
 holds_bounds s page h = (grind (arith, nat_tests), grind (arith, nat_tests))
@@ -67,14 +68,10 @@ last_passes P [] x h e = absurd cc
 last_passes P (y ∷ []) x h e = let same : y ≡ x = cc in subst P same (h 0 y refl)
 last_passes P (y ∷ z ∷ xs) x h e = last_passes P (z ∷ xs) x (λ i w at. h (suc i) w at) e
 
-and_both : (a b : Bool) → (a && b) ≡ true → (a ≡ true) × (b ≡ true)
-and_both true b h = (refl, h)
-and_both false b h = absurd cc
-
 all_pass : {X : Type 0} (test : X → Bool) (xs : List X) → list_all test xs ≡ true → (i : ℕ) (x : X) → slice_get xs i ≡ Some x → test x ≡ true
 all_pass test [] h i x at = absurd cc
-all_pass test (y ∷ xs) h zero x at = let same : y ≡ x = cc in ap test (sym same) ∙ (and_both _ _ h).0
-all_pass test (y ∷ xs) h (suc i) x at = all_pass test xs (and_both (test y) _ h).1 i x at
+all_pass test (y ∷ xs) h zero x at = let same : y ≡ x = cc in ap test (sym same) ∙ (both_true _ _ h).0
+all_pass test (y ∷ xs) h (suc i) x at = all_pass test xs (both_true (test y) _ h).1 i x at
 
 or_cases : {A : Type 0} (a b : Bool) → (a || b) ≡ true → (a ≡ true → A) → (b ≡ true → A) → A
 or_cases true b h f g = f refl
@@ -85,16 +82,13 @@ pub covered_by : {A : Type 0} (spans : List Span) (page : ℕ) → covers spans 
 covered_by [] page h f = absurd cc
 covered_by (s ∷ spans) page h f = or_cases (holds s page) (covers spans page) h (λ e. f 0 s refl e) (λ e. covered_by spans page e (λ i t at on. f (suc i) t at on))
 
-le_test : (a b : ℕ) → nat_le a b ≡ true → a ≤ b
-le_test a b h = grind (arith, nat_tests)
-
 pub groups_free : (c : Setup) (m : PlainMap) (base page : ℕ) → highest c (taken m) ≡ Some base → covers (groups_at c base) page ≡ true → as_free (slice_get m.marks page) ≡ 1
 groups_free c m base page h on =
     let fit : groups_fit c (free_from (taken m)) base ≡ true =
     last_passes (λ base. groups_fit c (free_from (taken m)) base ≡ true) (filter (groups_fit c (free_from (taken m))) (count_from (length (taken m)) 0)) base
     (filter_passes (groups_fit c (free_from (taken m))) (count_from (length (taken m)) 0)) h in
     covered_by (groups_at c base) page on (λ i s at inside.
-    let room = le_test s.pages (slice_index (free_from (taken m)) s.start) (all_pass (λ (s : Span). nat_le s.pages (slice_index (free_from (taken m)) s.start)) (groups_at c base) (and_both (base % c.atom == 0) _ fit).1 i s at) in
+    let room = le_test s.pages (slice_index (free_from (taken m)) s.start) (all_pass (λ (s : Span). nat_le s.pages (slice_index (free_from (taken m)) s.start)) (groups_at c base) (both_true (base % c.atom == 0) _ fit).1 i s at) in
     let bounds = holds_bounds s page inside in
     let there : s.start + (page - s.start) ≡ page = omega arith in
     not_taken m.marks page (ap (slice_get (taken m)) (sym there) ∙ free_run (taken m) s.start (page - s.start) (omega arith)))
@@ -157,7 +151,3 @@ carved_balance test mark marks spans page f same once free = carved_by test mark
 
 pub one_span_once : (s : Span) (page : ℕ) → times page (s ∷ []) ≤ 1
 one_span_once s page = omega (arith, one_at_most (holds s page))
-  where
-    one_at_most : (b : Bool) → one_if b ≤ 1
-    one_at_most true = omega arith
-    one_at_most false = omega arith

@@ -1,6 +1,5 @@
 -- What each kind of section does to the owners of pages.
-use Rattle.std.proofs.Common.{◌≡◌, ℕ, zero, suc, ◌+◌, ◌≤◌, inl, inr, Bool, true, false, not, ◌&&◌, ◌||◌, ◌==◌, List, [], ◌∷◌, slice_get, sum_by, Some, refl, ap, sym, ◌∙◌, subst, arith}
-use Rattle.std.proofs.lemmas.Bool.Decides.{nat_tests}
+use Rattle.std.proofs.Common.{◌≡◌, ℕ, ◌+◌, ◌≤◌, inl, inr, Bool, true, false, not, ◌&&◌, ◌||◌, ◌==◌, List, [], ◌∷◌, slice_get, sum_by, Some, refl, ap, sym, ◌∙◌, subst, arith}
 use Rattle.vm_model.specs.declared.areas.Span.{Span}
 use Rattle.vm_model.specs.declared.areas.Area.{Area}
 use Rattle.vm_model.specs.declared.areas.AreaKind.{AreaKind}
@@ -12,15 +11,12 @@ use Rattle.vm_model.specs.Events.{Carve, CarveGroups, Drop, Return, Settle, Remo
 use Rattle.vm_model.specs.Effects.{effect_as}
 use Rattle.vm_model.specs.Rules.{IsSetup}
 use Rattle.map_parts.specs.Owners.{is_plain, pool_of, every, other_than, of_area, of_block, of_chunk}
-use Rattle.map_parts.proofs.Filters.{filter_passes, filter_within}
+use Rattle.map_parts.proofs.Filters.{single, filter_passes, filter_within}
 use Rattle.map_parts.proofs.Sums.{sum-filter-le}
 use Rattle.map_parts.proofs.PoolMoves.{MovesApart, IsBalanced, moves_balanced, of_block-le, of_chunk-le, free-painted, free-freed, free-mark_live, covers-le-times, times-append}
 use Rattle.map_parts.proofs.PoolParts.{areas_added, areas_then, areas_of_were, area_removed}
 use Rattle.map_parts.proofs.SearchedPages.{found_free, groups_free, groups_once, carved_balance, one_span_once}
-
-single : {X : Type 0} (x : X) (i : ℕ) (y : X) → slice_get (x ∷ []) i ≡ Some y → y ≡ x
-single x zero y h = cc
-single x (suc i) y h = absurd cc
+use Rattle.map_parts.proofs.Tests.{is_same, not_true}
 
 module _ (c : Setup) (m : PlainMap) (k : ℕ) (own own' : (ℕ → Bool) → ℕ → ℕ) where
   same_areas : (i : ℕ) (a : Area) → slice_get m.areas i ≡ Some a → (j : ℕ) × (slice_get m.areas j ≡ Some a)
@@ -134,15 +130,9 @@ module _ (c : Setup) (m : PlainMap) (k : ℕ) (own own' : (ℕ → Bool) → ℕ
   not_among : (starts : List ℕ) (other start : ℕ) → is_among starts other ≡ false → is_among starts start ≡ true → other_than other start ≡ true
   not_among starts other start isnt is = by_test (start == other) refl
     where
-      same_start : (a b : ℕ) → (a == b) ≡ true → a ≡ b
-      same_start a b h = grind (arith, nat_tests)
-
       by_test : (b : Bool) → (start == other) ≡ b → not b ≡ true
-      by_test true e = let clash : is_among starts other ≡ true = ap (is_among starts) (sym (same_start start other e)) ∙ is in absurd cc
+      by_test true e = let clash : is_among starts other ≡ true = ap (is_among starts) (sym (is_same start other e)) ∙ is in absurd cc
       by_test false e = refl
-
-  not_false : (b : Bool) → not b ≡ true → b ≡ false
-  not_false b h = grind arith
 
   pub unlink_moves : (starts : List ℕ) → ((counts : ℕ → Bool) (page : ℕ) → ((start : ℕ) → is_among starts start ≡ true → counts start ≡ true) → own' counts page ≤ own counts page)
       → MovesApart c (pool_of m) (pool_of (effect_as c m k (Unlink starts))) own own'
@@ -159,7 +149,7 @@ module _ (c : Setup) (m : PlainMap) (k : ℕ) (own own' : (ℕ → Bool) → ℕ
         once = λ page. balanced every page (λ start e. refl);
         areas = λ i a at isnt page on.
             let w = filter_within (λ (a : Area). not (is_among starts a.span.start)) m.areas i a at in
-            let stays = not_false _ (filter_passes (λ (a : Area). not (is_among starts a.span.start)) m.areas i a at) in
+            let stays = not_true _ (filter_passes (λ (a : Area). not (is_among starts a.span.start)) m.areas i a at) in
             inl (w.0, w.1, balanced (other_than a.span.start) page (λ start e. not_among starts a.span.start start stays e));
       }
 

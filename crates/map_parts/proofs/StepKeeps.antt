@@ -17,7 +17,7 @@ use Rattle.vm_model.specs.Rules.{IsSetup}
 use Rattle.map_parts.specs.Owners.{pool_of, every, other_than, of_place, of_locals, HaveOneOwner}
 use Rattle.map_parts.specs.Kept.{HasPart, IsPlainSerial, IsSoundPlace, IsSoundMade, AreSoundAnswers, IsSoundLocal, KeepsApart, StepsKeepApart}
 use Rattle.map_parts.proofs.Sums.{sum-set, sum-le}
-use Rattle.map_parts.proofs.Filters.{append_cases}
+use Rattle.map_parts.proofs.Filters.{single, append_cases}
 use Rattle.map_parts.proofs.PoolMoves.{of_next, MovesApart, one_owner_moves, of_place-le}
 use Rattle.map_parts.proofs.PlaceMoves.{place_moves}
 use Rattle.map_parts.proofs.Beginnings.{IsBeginning, begins}
@@ -122,10 +122,6 @@ module _ (w : World) (l : Local) (is : IsSetup l.setup) (kept : KeepsApart l.set
       | inl v ↦ answers_sound v.0 other v.1
       | inr v ↦ subst (λ (a : Answered). IsSoundMade l.setup (effect_as l.setup w.map l.caller s) a.made) (sym (single answer v.0 other v.1)) made
     ]
-      where
-        single : (x : Answered) (i : ℕ) (y : Answered) → slice_get (x ∷ []) i ≡ Some y → y ≡ x
-        single x zero y h = cc
-        single x (suc i) y h = absurd cc
 
     answered_moved : (reply : Reply) (made : Made) (call : Call) → IsSoundMade l.setup (effect_as l.setup w.map l.caller s) made
         → IsMoved (Answer reply made) (answered l (record { call = call; reply = reply; made = made; own_event = suc l.events }))

@@ -1,5 +1,5 @@
 -- Which pages a search may not take, in the map and in the free runs alone, and where marks that aren't free change none.
-use Rattle.std.proofs.Common.{◌≡◌, ℕ, zero, suc, Bool, true, false, not, ◌||◌, if◌then◌else◌, List, [], ◌∷◌, map, replicate, length, slice_get, Option, Some, None, refl, ap, sym, ◌∙◌, arith, option_map}
+use Rattle.std.proofs.Common.{◌≡◌, ℕ, zero, suc, Bool, true, false, not, if◌then◌else◌, List, [], ◌∷◌, map, replicate, length, slice_get, Option, Some, None, refl, ap, sym, ◌∙◌, option_map}
 use Rattle.std.proofs.lemmas.Option.{slice_get-map}
 use Rattle.std.proofs.lemmas.List.{length-map}
 use Rattle.vm_model.specs.declared.areas.Span.{Span}
@@ -14,6 +14,7 @@ use Rattle.vm_model.proofs.Elements.{same_by_get}
 use Rattle.vm_model.proofs.Paint.{slice_get-paint}
 use Rattle.vm_model.proofs.PaintRuns.{map-paint, paint_there}
 use Rattle.vm_model.proofs.Runs.{covers-runs}
+use Rattle.map_parts.proofs.Tests.{or_first, or_second}
 
 abbrev pub taken_in : List Mark → List Bool
 taken_in marks = map (λ mark. not (is_free mark)) marks
@@ -55,18 +56,12 @@ taken_stays test mark marks f h =
     ∙ paint_there test true (taken_in marks) (λ page b at passes. is_taken b (ap is_open (sym at) ∙ h page passes))
 
 -- the same for the pages of areas that are marked live
-or_left : (a b : Bool) → a ≡ true → (a || b) ≡ true
-or_left a b h = grind arith
-
-or_right : (a b : Bool) → b ≡ true → (a || b) ≡ true
-or_right a b h = grind arith
-
 pub taken_stays-mark_live : (areas : List Area) (marks : List Mark) → ((page : ℕ) → covers (spans_of areas) page ≡ true → is_free_at (taken_in marks) page ≡ false)
     → taken_in (mark_live areas marks) ≡ taken_in marks
 taken_stays-mark_live [] marks h = refl
 taken_stays-mark_live (a ∷ areas) marks h =
-    let here : taken_in (paint (holds a.span) (Live a.serial) marks) ≡ taken_in marks = taken_stays (holds a.span) (Live a.serial) marks refl (λ page e. h page (or_left _ _ e)) in
-    taken_stays-mark_live areas (paint (holds a.span) (Live a.serial) marks) (λ page e. ap (λ bits. is_free_at bits page) here ∙ h page (or_right (holds a.span page) _ e)) ∙ here
+    let here : taken_in (paint (holds a.span) (Live a.serial) marks) ≡ taken_in marks = taken_stays (holds a.span) (Live a.serial) marks refl (λ page e. h page (or_first _ _ e)) in
+    taken_stays-mark_live areas (paint (holds a.span) (Live a.serial) marks) (λ page e. ap (λ bits. is_free_at bits page) here ∙ h page (or_second (holds a.span page) _ e)) ∙ here
 
 pub spans_of-areas_of : (caller serial : ℕ) (areas : List (Span × AreaKind)) → spans_of (areas_of caller serial areas) ≡ map (λ a. a.0) areas
 spans_of-areas_of caller serial [] = refl
