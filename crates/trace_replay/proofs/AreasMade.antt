@@ -95,7 +95,7 @@ found config m s place k keeps least =
     let places = lowest_is_free (map is_taken s.marks) place.pages k place.start least in
     let wide : length (map is_taken s.marks) ≡ config.space = length-map s.marks is_taken ∙ keeps.marks_wide in
     let free : (page : ℕ) → holds place page ≡ true → slice_get s.marks page ≡ Some Free
-        = λ page h. free_mark s.marks page (places.free page (bounds place page h).0 (bounds place page h).1) in
+    = λ page h. free_mark s.marks page (places.free page (bounds place page h).0 (bounds place page h).1) in
     record {
       inside = let low = places.within in omega arith;
       free = free;
@@ -207,16 +207,20 @@ settles config old mid new bytes align k place room calls s keeps least leaves s
     let t : Stage = settled_stage config place k s in
     let after : Stage = ended t (Vmalloc bytes align) (reply.Address (address_of place.start)) (MadeArea place.start s.next) (settle_event place s) in
     let all : after.events ≡ s.events ++ by_caller (Carve place k) ∷ by_caller (MapPages (span place.start (place.pages - 1))) ∷ by_caller (settle_event place s) ∷ []
-        = three_more s.events _ _ _ in
+    = three_more s.events _ _ _ in
     let enough : place.pages - 1 ≤ length (free_frames (setup_of config) s.frames) = let e = settled.enough in let n = ap (λ (m : OneCaller). m.free_frames) leaves.1 in let was = keeps.free_frames in omega arith in
     record {
       after = after;
       events = by_caller (Carve place k) ∷ by_caller (MapPages (span place.start (place.pages - 1))) ∷ by_caller (settle_event place s) ∷ [];
       own = MadeArea place.start s.next;
       keeps = keeps_settled config old mid new s after place k keeps f leaves settled some refl refl refl refl refl (three_counted s.made s.events after.events _ _ _ keeps.made all);
-      run = ((inl (place.start, refl), least),
-          ((inl refl, ((λ page h. bare config s place room None (paint (holds place) (Held 0) s.marks) f page (in_place place page (covers_one (span place.start (place.pages - 1)) page h))), enough)),
-          (((s.next, refl), ((λ page h. carved config s place f page (covers_one place page h)), refl)), tt)));
+      run = (
+        (inl (place.start, refl), least),
+        (
+          (inl refl, ((λ page h. bare config s place room None (paint (holds place) (Held 0) s.marks) f page (in_place place page (covers_one (span place.start (place.pages - 1)) page h))), enough)),
+          (((s.next, refl), ((λ page h. carved config s place f page (covers_one place page h)), refl)), tt),
+        ),
+      );
       leads = ends config room calls t (SettlingArea place kind.Vmalloc) (Vmalloc bytes align) (reply.Address (address_of place.start)) (MadeArea place.start s.next) (settle_event place s) at;
       all = all;
       few = omega arith;
@@ -283,9 +287,13 @@ drops config old mid new bytes align k place room calls s keeps least leaves dro
       events = by_caller (Carve place k) ∷ by_caller (NoFrames (place.pages - 1)) ∷ by_caller (Drop place) ∷ [];
       own = MadeNothing;
       keeps = keeps_dropped config old mid new s after place k keeps f leaves dropped (marks_again config s place f) refl refl refl refl (three_counted s.made s.events after.events _ _ _ keeps.made all);
-      run = ((inl (place.start, refl), least),
-          ((inr refl, few),
-          ((refl, ((λ page h. carved config s place f page (covers_one place page h)), (λ page h. bare config s place room None (paint (holds place) (Held 0) s.marks) f page (covers_one place page h)))), tt)));
+      run = (
+        (inl (place.start, refl), least),
+        (
+          (inr refl, few),
+          ((refl, ((λ page h. carved config s place f page (covers_one place page h)), (λ page h. bare config s place room None (paint (holds place) (Held 0) s.marks) f page (covers_one place page h)))), tt),
+        ),
+      );
       leads = ends config room calls t (Dropping place) (Vmalloc bytes align) reply.NoFrames MadeNothing (Drop place) at;
       all = all;
       few = omega arith;

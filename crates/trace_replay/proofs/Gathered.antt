@@ -40,10 +40,11 @@ pub sends_more : (E : Type 0) (first taken after : Option (List ℕ)) (room left
     → HasSent first after left before later text (drop n rest)
 sends_more E first taken after room left before now later n text rest held takes fills untold rises = record {
   sent = λ told is.
-    let (front, took, whole) = held.sent told is in
-    (front ++ take n rest,
-    takes (told ++ front) took ∙ ap Some (append_assoc told front (take n rest)),
-    whole ∙ ap (λ r. front ++ r) (sym (take-append-drop n rest)) ∙ sym (append_assoc front (take n rest) (drop n rest)));
+      let (front, took, whole) = held.sent told is in (
+        front ++ take n rest,
+        takes (told ++ front) took ∙ ap Some (append_assoc told front (take n rest)),
+        whole ∙ ap (λ r. front ++ r) (sym (take-append-drop n rest)) ∙ sym (append_assoc front (take n rest) (drop n rest)),
+      );
   fits = fits_still E room left n rest held.fits fills untold;
   counted = omega arith;
 }

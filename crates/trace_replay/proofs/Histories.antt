@@ -88,7 +88,7 @@ tables_are config calls m entries has =
     let numbered : AreNumbered (length s.events) s.answers = subst (λ n. AreNumbered n s.answers) has.keeps.made has.numbered in
     let callers : AreByFirst s.events = first_makes s.events (map_of config (room_of calls) None (first_stage config)) (local_of config calls (first_stage config) (next_place config calls [])) [] refl has.run in
     let replies : entries ≡ tables.entries_from (numbers_of 0 1 s.events) 0 1 s.answers ++ []
-        = has.replies ∙ sym (same_entries s.answers (length s.events) 1 numbered) ∙ ap (λ ns. tables.entries_from ns 0 1 s.answers) (sym (numbers_by s.events 1 callers)) ∙ sym (append-nil _) in
+    = has.replies ∙ sym (same_entries s.answers (length s.events) 1 numbered) ∙ ap (λ ns. tables.entries_from ns 0 1 s.answers) (sym (numbers_by s.events 1 callers)) ∙ sym (append-nil _) in
     let events : m.events ≡ length s.events = has.keeps.events ∙ has.keeps.made in
     let free : m.free.blocks ≡ runs (map is_taken s.marks) = has.keeps.free in
     let stale : 0 ≡ count_by (λ (b : Bool). b) (replicate config.space false) = sym (none_stale config.space) in
@@ -120,7 +120,7 @@ history_is_legal config calls m entries has few =
     let s : Stage = has.stage in
     let is = history_is config calls m entries has few in
     let opened : world_after (opening_world (setup_of config) calls ([] ∷ [])) s.events ≡ world_of config (room_of calls) calls None s Over
-        = has.leads ∙ ap (world_of config (room_of calls) calls None s) (over config calls s.answers has.answered) in
+    = has.leads ∙ ap (world_of config (room_of calls) calls None s) (over config calls s.answers has.answered) in
     record {
       first = s.events;
       events = [];

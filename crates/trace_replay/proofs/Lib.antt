@@ -10,3 +10,4 @@ pub mod ThinTraces
 pub mod Reported
 pub mod Told
 pub mod OneWord
+pub mod ReplayTexts

@@ -5,3 +5,4 @@ pub mod OneCaller
 pub mod Found
 pub mod Headline
 pub mod Thin
+pub mod WorkedReplays

@@ -51,12 +51,7 @@ fn tell<K: Sink>(sink: &mut K, outcome: Outcome) -> Status
 
 /// Reads a trace to its end and writes its report, or the line that tells what is wrong with it. The whole text is made
 /// before its first byte is written, and the first failed read or write ends the command.
-pub fn replay<S: Source, K: Sink>(
-    alloc: Global,
-    mode: Mode,
-    source: &mut S,
-    sink: &mut K,
-) -> Status
+pub fn replay<S: Source, K: Sink>(alloc: Global, mode: Mode, source: &mut S, sink: &mut K) -> Status
     requires { HasRoomFor (S.left source.old) (K.room sink.old) }
     ensures written { (bytes before : List ℕ) → S.left source.old ≡ Some bytes → K.taken sink.old ≡ Some before → IsWritten bytes result before (K.taken sink.new) }
     ensures answers { (bytes : List ℕ) → S.left source.old ≡ Some bytes → Answers bytes result }

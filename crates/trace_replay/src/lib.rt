@@ -9,8 +9,10 @@ mod send;
 mod sink;
 mod source;
 mod status;
+mod worked;
 
 pub use commands::{Mode, replay, run};
 pub use sink::{Sink, SteadySink, StreamSink};
 pub use source::{Failed, Source, SteadySource, StreamSource};
 pub use status::Status;
+pub use worked::worked_replays;

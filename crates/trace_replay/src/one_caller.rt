@@ -17,7 +17,8 @@ ghost use Rattle.vm_model.specs.declared.calls.Call.TheVariants.{Vmalloc};
 use augmented_tree::FreeSide;
 use std::alloc::{AllocError, Global};
 use vm_model::{
-    Area, AreaKind, AreaList, BlockList, Call, ChunkAuditList, ChunkList, Config, Entry, EntryList, HintList, ObjectList, PartList, Reply, Span, SpanList, Tables,
+    Area, AreaKind, AreaList, BlockList, Call, ChunkAuditList, ChunkList, Config, Entry, EntryList,
+    HintList, ObjectList, PartList, Reply, Span, SpanList, Tables,
 };
 
 /// The bytes of a page.
@@ -251,11 +252,7 @@ fn start(alloc: Global, config: &Config) -> Result<OneCaller, AllocError>
 }
 
 /// The replies and tables of one caller's calls, all of which are `vmalloc`.
-pub fn tables_of_calls(
-    alloc: Global,
-    config: &Config,
-    calls: &[Call],
-) -> Result<Tables, AllocError>
+pub fn tables_of_calls(alloc: Global, config: &Config, calls: &[Call]) -> Result<Tables, AllocError>
     requires small { IsSmall config.now }
     requires few { length calls.now ≤ 100000 }
     requires built { AreVmalloc calls.now }

@@ -8,8 +8,10 @@ use Rattle.trace_replay.proofs.Reported.{no_counters}
 use Rattle.trace_replay.proofs.answer.report.Goals as goal
 
 pub returns : goal.returns
-returns c = λ reading thin tells.
-    (refl, c.in_ok-tables.ensures.legal reading thin tells,
-    c.in_ok-text.ensures
-    ∙ ap (λ (t : Tables). report t c.of-counters.result false) (c.in_ok-tables.ensures.tables reading thin tells)
-    ∙ ap (λ (rows : List CounterRow). report (tables_of (setup reading) (history_of_trace reading)) rows false) (c.of-counters.ensures ∙ c.new.ensures.items ∙ sym (no_counters reading thin)))
+returns c = λ reading thin tells. (
+  refl,
+  c.in_ok-tables.ensures.legal reading thin tells,
+  c.in_ok-text.ensures
+      ∙ ap (λ (t : Tables). report t c.of-counters.result false) (c.in_ok-tables.ensures.tables reading thin tells)
+      ∙ ap (λ (rows : List CounterRow). report (tables_of (setup reading) (history_of_trace reading)) rows false) (c.of-counters.ensures ∙ c.new.ensures.items ∙ sym (no_counters reading thin)),
+)

@@ -23,7 +23,7 @@ returns-then-bytes-eq0 c = λ config room calls s keeps at.
     let space = keeps.space in
     let pages = c.div_ceil-pages.ensures in
     let bad : is_bad_vmalloc_size (setup_of config) c.args.bytes ≡ true
-        = size_is_bad config c.args.bytes (elim c.then-bytes-eq0.branch [ then-bytes-eq0-via-then-bytes-eq0 w ↦ inl w.if-bytes-eq0.true | then-bytes-eq0-via-else-bytes-eq0+then-self-pages w ↦ inr (let l = w.if-self-pages.true in omega arith) ]) in
+    = size_is_bad config c.args.bytes (elim c.then-bytes-eq0.branch [ then-bytes-eq0-via-then-bytes-eq0 w ↦ inl w.if-bytes-eq0.true | then-bytes-eq0-via-else-bytes-eq0+then-self-pages w ↦ inr (let l = w.if-self-pages.true in omega arith) ]) in
     subst (λ r. IsAnsweredAt config c.args.self.now c.refuse.new.self (Vmalloc c.args.bytes c.args.align) r room calls s (next_place config calls s.answers)) (sym c.refuse.ensures.reply)
     (subst (IsAnsweredAt config c.args.self.now c.refuse.new.self (Vmalloc c.args.bytes c.args.align) reply.BadSize room calls s) (sym (bad_size config calls s.answers c.args.bytes c.args.align at bad))
     (refused config c.args.self.now c.refuse.new.self c.args.bytes c.args.align reply.BadSize room calls s keeps c.refuse.ensures.event at))
@@ -31,7 +31,7 @@ returns-then-bytes-eq0 c = λ config room calls s keeps at.
 pub returns-then-not-is_alignment : goal.returns-then-not-is_alignment
 returns-then-not-is_alignment c = λ config room calls s keeps at.
     let good : is_bad_vmalloc_size (setup_of config) c.args.bytes ≡ false
-        = size_is_good config c.args.bytes c.if-bytes-eq0.false (let space = keeps.space in let pages = c.div_ceil-pages.ensures in let l = c.if-self-pages.false in omega arith) in
+    = size_is_good config c.args.bytes c.if-bytes-eq0.false (let space = keeps.space in let pages = c.div_ceil-pages.ensures in let l = c.if-self-pages.false in omega arith) in
     let bad : is_bad_vmalloc_align c.args.align ≡ true = ap not (sym c.is_alignment.ensures ∙ c.if-not-is_alignment.true) in
     subst (λ r. IsAnsweredAt config c.args.self.now c.refuse-then-not-is_alignment.new.self (Vmalloc c.args.bytes c.args.align) r room calls s (next_place config calls s.answers)) (sym c.refuse-then-not-is_alignment.ensures.reply)
     (subst (IsAnsweredAt config c.args.self.now c.refuse-then-not-is_alignment.new.self (Vmalloc c.args.bytes c.args.align) reply.BadAlign room calls s) (sym (bad_align config calls s.answers c.args.bytes c.args.align at good bad))
@@ -58,16 +58,16 @@ make_area-requires c =
 pub returns-in-Some : goal.returns-in-Some
 returns-in-Some c =
     IfOk-weaker c.make_area.result _ _ (λ answer makes. λ config room calls s keeps at.
-        let taken = map is_taken s.marks in
-        let found = found_some c.args.self.now c.find.new.self (c.div_ceil-pages.result + 1) c.align_in_pages.result taken c.in_ok-place.field-0 c.in-Some.place (c.in_ok-place.ensures taken keeps.free) c.in-Some.is in
-        let good = size_is_good config c.args.bytes c.if-bytes-eq0.false (let space = keeps.space in let pages = c.div_ceil-pages.ensures in let l = c.if-self-pages.false in omega arith) in
-        let fine : is_bad_vmalloc_align c.args.align ≡ false = ap not (sym c.is_alignment.ensures ∙ c.if-not-is_alignment.false) in
-        let begins = searches config calls s.answers c.args.bytes c.args.align at good fine in
-        let pages : c.div_ceil-pages.result + 1 ≡ pages_for c.args.bytes + 1 = ap (λ n. n + 1) (c.div_ceil-pages.ensures ∙ pages_of_bytes c.args.bytes) in
-        let same : Finding (ForPages (c.div_ceil-pages.result + 1) c.align_in_pages.result) (ForArea kind.Vmalloc) ≡ next_place config calls s.answers
-            = ap (λ n. Finding (ForPages n c.align_in_pages.result) (ForArea kind.Vmalloc)) pages ∙ ap (λ k. Finding (ForPages (pages_for c.args.bytes + 1) k) (ForArea kind.Vmalloc)) c.align_in_pages.ensures.pages ∙ sym begins in
-        subst (IsAnsweredAt config c.args.self.now c.make_area.new.self (Vmalloc c.args.bytes c.args.align) answer room calls s) same
-        (answered_at config c.args.self.now c.find.new.self c.make_area.new.self c.args.bytes c.args.align (c.div_ceil-pages.result + 1) c.align_in_pages.result c.in-Some.place answer room calls s keeps found.0 found.1 found.2 makes (omega arith) at))
+    let taken = map is_taken s.marks in
+    let found = found_some c.args.self.now c.find.new.self (c.div_ceil-pages.result + 1) c.align_in_pages.result taken c.in_ok-place.field-0 c.in-Some.place (c.in_ok-place.ensures taken keeps.free) c.in-Some.is in
+    let good = size_is_good config c.args.bytes c.if-bytes-eq0.false (let space = keeps.space in let pages = c.div_ceil-pages.ensures in let l = c.if-self-pages.false in omega arith) in
+    let fine : is_bad_vmalloc_align c.args.align ≡ false = ap not (sym c.is_alignment.ensures ∙ c.if-not-is_alignment.false) in
+    let begins = searches config calls s.answers c.args.bytes c.args.align at good fine in
+    let pages : c.div_ceil-pages.result + 1 ≡ pages_for c.args.bytes + 1 = ap (λ n. n + 1) (c.div_ceil-pages.ensures ∙ pages_of_bytes c.args.bytes) in
+    let same : Finding (ForPages (c.div_ceil-pages.result + 1) c.align_in_pages.result) (ForArea kind.Vmalloc) ≡ next_place config calls s.answers
+    = ap (λ n. Finding (ForPages n c.align_in_pages.result) (ForArea kind.Vmalloc)) pages ∙ ap (λ k. Finding (ForPages (pages_for c.args.bytes + 1) k) (ForArea kind.Vmalloc)) c.align_in_pages.ensures.pages ∙ sym begins in
+    subst (IsAnsweredAt config c.args.self.now c.make_area.new.self (Vmalloc c.args.bytes c.args.align) answer room calls s) same
+    (answered_at config c.args.self.now c.find.new.self c.make_area.new.self c.args.bytes c.args.align (c.div_ceil-pages.result + 1) c.align_in_pages.result c.in-Some.place answer room calls s keeps found.0 found.1 found.2 makes (omega arith) at))
     c.make_area.ensures
 
 pub returns-in-None : goal.returns-in-None
@@ -79,6 +79,6 @@ returns-in-None c = λ config room calls s keeps at.
     let begins = searches config calls s.answers c.args.bytes c.args.align at good fine in
     let pages : c.div_ceil-pages.result + 1 ≡ pages_for c.args.bytes + 1 = ap (λ n. n + 1) (c.div_ceil-pages.ensures ∙ pages_of_bytes c.args.bytes) in
     let same : Finding (ForPages (c.div_ceil-pages.result + 1) c.align_in_pages.result) (ForArea kind.Vmalloc) ≡ next_place config calls s.answers
-        = ap (λ n. Finding (ForPages n c.align_in_pages.result) (ForArea kind.Vmalloc)) pages ∙ ap (λ k. Finding (ForPages (pages_for c.args.bytes + 1) k) (ForArea kind.Vmalloc)) c.align_in_pages.ensures.pages ∙ sym begins in
+    = ap (λ n. Finding (ForPages n c.align_in_pages.result) (ForArea kind.Vmalloc)) pages ∙ ap (λ k. Finding (ForPages (pages_for c.args.bytes + 1) k) (ForArea kind.Vmalloc)) c.align_in_pages.ensures.pages ∙ sym begins in
     subst (IsAnsweredAt config c.args.self.now c.find.new.self (Vmalloc c.args.bytes c.args.align) reply.NoSpace room calls s) same
     (without_space config c.args.self.now c.find.new.self c.args.bytes c.args.align (c.div_ceil-pages.result + 1) c.align_in_pages.result room calls s keeps found.1 at found.0)

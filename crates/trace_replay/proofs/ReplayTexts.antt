@@ -1,0 +1,55 @@
+-- The worked traces are traces, their reports compute, and what may be written for them is short.
+use Rattle.std.proofs.Common.{◌≡◌, ◌≤◌, List, ℕ, length, refl, sym, ap, ◌∙◌, subst, arith, lit≤}
+use lib.Count.{ones}
+use Rattle.std.specs.Fmt.{digits}
+use Rattle.vm_model.specs.History.{finish, history_of}
+use Rattle.trace_text.specs.Reading.{Reading, unread}
+use Rattle.trace_text.specs.Grammar.{IsTraceOf, IsFirstBadLine}
+use Rattle.trace_text.specs.Built.{built_for_vmalloc}
+use Rattle.trace_text.proofs.Outcomes.{Outcome, Whole, Bad, reads, reads-whole}
+use Rattle.trace_text.proofs.Exclusive.{one_trace, trace_or_bad}
+use Rattle.trace_replay.specs.declared.status.Status.{Status}
+use Rattle.trace_replay.specs.declared.status.Status.TheVariants.{Done, BadTrace, Unbuilt, Usage, OutOfMemory, ReadFault, WriteFault, TooLong}
+use Rattle.trace_replay.specs.Headline.{report_of, Writes, most_bytes}
+use Rattle.trace_replay.specs.WorkedReplays.{IsReplayedAs, free_space, free_space_report, OneFreeSpace, two_areas, two_areas_report, TwoAreasWithGuards}
+
+abbrev reading_of : Outcome → Reading
+reading_of (Whole r) = r
+reading_of (Bad number rest) = unread
+
+replayed_as : (bytes text : List ℕ) → reads built_for_vmalloc bytes ≡ Whole (reading_of (reads built_for_vmalloc bytes)) → report_of (reading_of (reads built_for_vmalloc bytes)) ≡ text → IsReplayedAs bytes text
+replayed_as bytes text whole same =
+    let r : Reading = reading_of (reads built_for_vmalloc bytes) in
+    let trace : IsTraceOf built_for_vmalloc bytes r = reads-whole built_for_vmalloc bytes r whole in
+    record {
+      trace = (r, trace);
+      report = λ other is. ap report_of (one_trace built_for_vmalloc bytes other r is trace) ∙ same;
+    }
+
+pub one_free_space : OneFreeSpace
+unfolding digits ones history_of finish
+one_free_space = replayed_as free_space free_space_report refl refl
+
+pub two_areas_with_guards : TwoAreasWithGuards
+unfolding digits ones history_of finish
+two_areas_with_guards = replayed_as two_areas two_areas_report refl refl
+
+-- what may be written for a trace is its report
+pub only_report : (bytes text : List ℕ) (room : ℕ) → IsReplayedAs bytes text → length bytes ≤ most_bytes → length text ≤ room → (status : Status) (written : List ℕ) → Writes bytes status written → length written ≤ room
+only_report bytes text room is short low Done written w = let (r, trace, legal, same) = w.1 in omega (arith, ap length (same ∙ is.report r trace))
+only_report bytes text room is short low (BadTrace line) written w = let (rest, stops, other) = w.1 in absurd (trace_or_bad built_for_vmalloc bytes is.trace.0 line is.trace.1 (rest, stops))
+only_report bytes text room is short low (Unbuilt line) written w = let (rest, stops, other) = w.1 in absurd (trace_or_bad built_for_vmalloc bytes is.trace.0 line is.trace.1 (rest, stops))
+only_report bytes text room is short low TooLong written w = absurd (omega arith)
+only_report bytes text room is short low Usage written w = absurd w
+only_report bytes text room is short low OutOfMemory written w = absurd w
+only_report bytes text room is short low ReadFault written w = absurd w
+only_report bytes text room is short low WriteFault written w = absurd w
+
+-- room for 400 bytes is enough for them
+pub room_for_free_space : (bytes : List ℕ) (room : ℕ) → bytes ≡ free_space → 400 ≤ room → (status : Status) (written : List ℕ) → Writes bytes status written → length written ≤ room
+room_for_free_space bytes room same wide status written w =
+    only_report free_space free_space_report room one_free_space (lit≤ tt) (let l : length free_space_report ≤ 400 = lit≤ tt in omega arith) status written (subst (λ b. Writes b status written) same w)
+
+pub room_for_two_areas : (bytes : List ℕ) (room : ℕ) → bytes ≡ two_areas → 400 ≤ room → (status : Status) (written : List ℕ) → Writes bytes status written → length written ≤ room
+room_for_two_areas bytes room same wide status written w =
+    only_report two_areas two_areas_report room two_areas_with_guards (lit≤ tt) (let l : length two_areas_report ≤ 400 = lit≤ tt in omega arith) status written (subst (λ b. Writes b status written) same w)
