@@ -1,12 +1,16 @@
 -- What is said and written of an outcome once it was told to a sink.
 use Rattle.std.proofs.Common.{◌≡◌, ◌≢◌, ◌≤◌, ◌<◌, ◌⊎◌, inl, inr, ℕ, List, [], ◌∷◌, ◌++◌, length, take, Option, Some, None, refl, sym, ap, ◌∙◌, subst, arith}
 use Rattle.trace_text.specs.declared.faults.Fault.TheVariants as fault
+use Rattle.trace_text.specs.Reading.{Reading}
+use Rattle.trace_text.specs.Grammar.{IsTraceOf}
+use Rattle.trace_text.specs.Built.{built_for_vmalloc}
 use Rattle.trace_text.specs.Report.{fault_line}
+use Rattle.trace_text.proofs.Exclusive.{trace_or_bad}
 use Rattle.trace_replay.specs.Streams.{Rose}
 use Rattle.trace_replay.specs.declared.answer.Outcome.{Outcome}
 use Rattle.trace_replay.specs.declared.status.Status.{Status}
 use Rattle.trace_replay.specs.declared.status.Status.TheVariants.{Done, BadTrace, Unbuilt, Usage, OutOfMemory, ReadFault, WriteFault, TooLong}
-use Rattle.trace_replay.specs.Headline.{Writes, IsWritten, IsRead, Answers, HasRoomFor, IsTold, IsRefused, most_bytes}
+use Rattle.trace_replay.specs.Headline.{Writes, IsWritten, IsRead, Answers, HasRoomFor, IsTold, IsRefused, IsSilent, most_bytes}
 
 -- a source that gave too many bytes
 
@@ -78,3 +82,32 @@ write_fault status text answer first after b n s (inr failed) = λ e. failed.1
 pub no_usage : (status : Status) (text : List ℕ) (answer : Status) (first after : Option (List ℕ)) (b n : ℕ) → status ≢ Usage → IsTold status text answer first after b n → answer ≢ Usage
 no_usage status text answer first after b n s (inl told) = λ e. s (sym told.0 ∙ e)
 no_usage status text answer first after b n s (inr failed) = λ e. let no = failed.0 in cc
+
+-- what was told is not silent
+pub not_silent : (status : Status) (text : List ℕ) (answer : Status) (first after : Option (List ℕ)) (b n : ℕ) → status ≢ ReadFault → status ≢ OutOfMemory → IsTold status text answer first after b n → IsSilent answer → ⊥
+not_silent status text answer first after b n read memory told silent = loud answer silent (no_read_fault status text answer first after b n read told) (no_memory status text answer first after b n memory told)
+  where
+    loud : (answer : Status) → IsSilent answer → answer ≢ ReadFault → answer ≢ OutOfMemory → ⊥
+    loud ReadFault silent read memory = read refl
+    loud OutOfMemory silent read memory = memory refl
+    loud Done silent read memory = silent
+    loud (BadTrace line) silent read memory = silent
+    loud (Unbuilt line) silent read memory = silent
+    loud TooLong silent read memory = silent
+    loud Usage silent read memory = silent
+    loud WriteFault silent read memory = silent
+    no_memory : (status : Status) (text : List ℕ) (answer : Status) (first after : Option (List ℕ)) (b n : ℕ) → status ≢ OutOfMemory → IsTold status text answer first after b n → answer ≢ OutOfMemory
+    no_memory status text answer first after b n s (inl told) = λ e. s (sym told.0 ∙ e)
+    no_memory status text answer first after b n s (inr failed) = λ e. let no = failed.0 in cc
+
+-- a short trace and no fault leave two statuses
+pub complete : (bytes : List ℕ) (r : Reading) (status : Status) → Answers bytes status → length bytes ≤ most_bytes → IsTraceOf built_for_vmalloc bytes r → status ≢ ReadFault → status ≢ WriteFault
+    → (status ≡ Done) ⊎ (status ≡ OutOfMemory)
+complete bytes r Done says short trace read write = inl refl
+complete bytes r OutOfMemory says short trace read write = inr refl
+complete bytes r (BadTrace line) says short trace read write = let (text, writes) = says in let (rest, stops, other) = writes.1 in absurd (trace_or_bad built_for_vmalloc bytes r line trace (rest, stops))
+complete bytes r (Unbuilt line) says short trace read write = let (text, writes) = says in let (rest, stops, other) = writes.1 in absurd (trace_or_bad built_for_vmalloc bytes r line trace (rest, stops))
+complete bytes r TooLong says short trace read write = let (text, writes) = says in let long = writes.0 in absurd (omega arith)
+complete bytes r Usage says short trace read write = absurd says
+complete bytes r ReadFault says short trace read write = absurd (read refl)
+complete bytes r WriteFault says short trace read write = absurd (write refl)

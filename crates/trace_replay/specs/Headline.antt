@@ -83,6 +83,12 @@ Answers bytes ReadFault = Unit {0}
 Answers bytes WriteFault = Unit {0}
 Answers bytes status = (text : List ℕ) × Writes bytes status text
 
+-- a status under which nothing is written
+abbrev pub IsSilent : Status → Type 0
+IsSilent ReadFault = Unit {0}
+IsSilent OutOfMemory = Unit {0}
+IsSilent _ = ⊥
+
 -- the outcome's text was taken whole; or a write failed, and a prefix of it was taken
 abbrev pub IsTold : (status : Status) (text : List ℕ) (answer : Status) (first after : Option (List ℕ)) (before now : ℕ) → Type 0
 IsTold status text answer first after before now =

@@ -5,7 +5,7 @@ ghost use Rattle.trace_text.specs.Reading.{Reading};
 ghost use Rattle.trace_text.specs.Grammar.{IsTraceOf};
 ghost use Rattle.trace_text.specs.Built.{built_for_vmalloc};
 ghost use Rattle.trace_replay.specs.Streams.{Rose};
-ghost use Rattle.trace_replay.specs.Headline.{Writes, IsWritten, IsRead, Answers, HasRoomFor, IsTold, ReplayWords, IsRefused, HasRoomForUsage, most_bytes};
+ghost use Rattle.trace_replay.specs.Headline.{Writes, IsWritten, IsRead, Answers, HasRoomFor, IsTold, ReplayWords, IsRefused, IsSilent, HasRoomForUsage, most_bytes};
 
 use crate::answer::{Outcome, answer, too_long, usage};
 use crate::gather::{Cut, gather};
@@ -58,7 +58,12 @@ pub fn replay<S: Source, K: Sink>(alloc: Global, mode: Mode, source: &mut S, sin
     ensures read { (bytes : List ℕ) → S.left source.old ≡ Some bytes → IsRead result (S.left source.new) }
     ensures read_fault { result ≡ Status.ReadFault → Rose (S.faults source.old) (S.faults source.new) }
     ensures write_fault { result ≡ Status.WriteFault → Rose (K.faults sink.old) (K.faults sink.new) }
+    ensures silent { IsSilent result → K.taken sink.new ≡ K.taken sink.old }
     ensures usage { result ≢ Status.Usage }
+
+    // A trace of the built words that is short enough, and no fault.
+    ensures complete { (bytes : List ℕ) (reading : Reading) → S.left source.old ≡ Some bytes → length bytes ≤ most_bytes → IsTraceOf built_for_vmalloc bytes reading
+        → ¬ Rose (S.faults source.old) (S.faults source.new) → ¬ Rose (K.faults sink.old) (K.faults sink.new) → (result ≡ Status.Done) ⊎ (result ≡ Status.OutOfMemory) }
 {
     match mode {
         Mode::Replay => match outcome_of(alloc, source) {
@@ -84,6 +89,7 @@ fn refuse<K: Sink>(alloc: Global, sink: &mut K) -> Status
     requires { HasRoomForUsage (K.room sink.old) }
     ensures written { (before : List ℕ) → K.taken sink.old ≡ Some before → IsRefused result before (K.taken sink.new) }
     ensures refusal { (result ≡ Status.Usage) ⊎ ((result ≡ Status.OutOfMemory) ⊎ (result ≡ Status.WriteFault)) }
+    ensures silent { IsSilent result → K.taken sink.new ≡ K.taken sink.old }
     ensures write_fault { result ≡ Status.WriteFault → Rose (K.faults sink.old) (K.faults sink.new) }
 {
     match usage(alloc) {
@@ -121,6 +127,9 @@ pub fn run<S: Source, K: Sink>(
     ensures unread { ¬ ReplayWords (map string_bytes words.now) → S.left source.new ≡ S.left source.old }
 
     ensures usage { result ≡ Status.Usage → ¬ ReplayWords (map string_bytes words.now) }
+    ensures silent { IsSilent result → K.taken sink.new ≡ K.taken sink.old }
+    ensures complete { ReplayWords (map string_bytes words.now) → (bytes : List ℕ) (reading : Reading) → S.left source.old ≡ Some bytes → length bytes ≤ most_bytes → IsTraceOf built_for_vmalloc bytes reading
+        → ¬ Rose (S.faults source.old) (S.faults source.new) → ¬ Rose (K.faults sink.old) (K.faults sink.new) → (result ≡ Status.Done) ⊎ (result ≡ Status.OutOfMemory) }
     ensures read_fault { result ≡ Status.ReadFault → Rose (S.faults source.old) (S.faults source.new) }
     ensures write_fault { result ≡ Status.WriteFault → Rose (K.faults sink.old) (K.faults sink.new) }
 {

@@ -1,4 +1,4 @@
-use Rattle.trace_replay.proofs.Told.{room_for, written, answers, reads, no_read_fault, write_fault, no_usage}
+use Rattle.trace_replay.proofs.Told.{room_for, written, answers, reads, no_read_fault, write_fault, no_usage, not_silent, complete}
 use Rattle.trace_replay.proofs.commands.replay.Goals as goal
 
 pub tell-requires : goal.tell-requires
@@ -17,5 +17,10 @@ returns-in-Ok g c =
       read = λ bytes told. reads (g.S.Source.left c.outcome_of.new.source) c.in-Ok.outcome.status c.in-Ok.outcome.text c.tell.result first after before now (c.in-Ok.ensures.read bytes told) c.tell.ensures;
       read_fault = λ e. absurd (no_read_fault c.in-Ok.outcome.status c.in-Ok.outcome.text c.tell.result first after before now says.0 c.tell.ensures e);
       write_fault = write_fault c.in-Ok.outcome.status c.in-Ok.outcome.text c.tell.result first after before now says.1 c.tell.ensures;
+      silent = λ silent. absurd (not_silent c.in-Ok.outcome.status c.in-Ok.outcome.text c.tell.result first after before now says.0 says.2 c.tell.ensures silent);
+      complete = λ bytes reading told short trace unread unwritten.
+          complete bytes reading c.tell.result (answers bytes c.in-Ok.outcome.status c.in-Ok.outcome.text c.tell.result first after before now (c.in-Ok.ensures.writes bytes told) c.tell.ensures) short trace
+          (no_read_fault c.in-Ok.outcome.status c.in-Ok.outcome.text c.tell.result first after before now says.0 c.tell.ensures)
+          (λ e. unwritten (write_fault c.in-Ok.outcome.status c.in-Ok.outcome.text c.tell.result first after before now says.1 c.tell.ensures e));
       usage = no_usage c.in-Ok.outcome.status c.in-Ok.outcome.text c.tell.result first after before now says.3 c.tell.ensures;
     }
