@@ -4,9 +4,9 @@ use Rattle.std.proofs.lemmas.Bool.{and_parts}
 use Rattle.std.proofs.lemmas.Bool.Decides.{nat_tests}
 use Rattle.vm_model.specs.declared.areas.Span.{Span}
 use Rattle.vm_model.specs.Space.{span, end_of, holds, covers, AreSeparateFrom}
-use Rattle.vm_model.proofs.Runs.{covers-below}
+use Rattle.vm_model.proofs.Runs.{AreSeparateFrom-weaken, covers-below}
 use Rattle.augmented_tree.specs.Blocks.{AreBlocks, IsInside, unless_empty, LeavesOut}
-use Rattle.augmented_tree.proofs.SeparateBlocks.{covers-append, AreSeparateFrom-weaken, separate-tail, covers-before, separate-replace, ends_from_cover, cover_from_ends}
+use Rattle.augmented_tree.proofs.SeparateBlocks.{covers-append, separate-tail, covers-before, separate-replace, ends_from_cover, cover_from_ends}
 
 -- the pages of a block before a place in it, and those after it
 abbrev pub part_before : (block place : Span) → Span

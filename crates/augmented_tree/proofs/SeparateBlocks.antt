@@ -6,15 +6,11 @@ use Rattle.std.proofs.lemmas.Bool.Decides.{nat_tests}
 use Rattle.std.proofs.lemmas.List.Elements.{All-nil, All-cons, All-head, All-tail}
 use Rattle.vm_model.specs.declared.areas.Span.{Span}
 use Rattle.vm_model.specs.Space.{end_of, holds, covers, AreSeparateFrom}
-use Rattle.vm_model.proofs.Runs.{holds-above, covers-head}
+use Rattle.vm_model.proofs.Runs.{AreSeparateFrom-weaken, holds-above, covers-head}
 
 pub covers-append : (xs ys : List Span) (page : ℕ) → covers (xs ++ ys) page ≡ (covers xs page || covers ys page)
 covers-append [] ys page = refl
 covers-append (x ∷ xs) ys page = ap (λ b. holds x page || b) (covers-append xs ys page) ∙ sym (or_assoc (holds x page) (covers xs page) (covers ys page))
-
-pub AreSeparateFrom-weaken : (low low' : ℕ) (spans : List Span) → low ≤ low' → AreSeparateFrom low' spans → AreSeparateFrom low spans
-AreSeparateFrom-weaken low low' [] h n = tt
-AreSeparateFrom-weaken low low' (s ∷ spans) h n = (omega arith, n.1, n.2)
 
 -- a block and what follows it
 pub separate-tail : (low : ℕ) (xs : List Span) (b : Span) (ys : List Span) → AreSeparateFrom low (xs ++ b ∷ ys) → AreSeparateFrom b.start (b ∷ ys)

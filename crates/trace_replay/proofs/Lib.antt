@@ -8,3 +8,5 @@ pub mod Histories
 pub mod Started
 pub mod ThinTraces
 pub mod Reported
+pub mod Told
+pub mod OneWord

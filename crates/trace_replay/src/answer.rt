@@ -55,7 +55,7 @@ fn fault(alloc: Global, status: Status, fault: &Fault) -> Result<Outcome, AllocE
 /// The answer to all bytes of a source.
 pub fn answer(alloc: Global, bytes: &[u8]) -> Result<Outcome, AllocError>
     requires { length bytes.now ≤ most_bytes }
-    ensures { IfOk result (λ answer. Writes bytes.now answer.status answer.text) }
+    ensures { IfOk result (λ outcome. Writes bytes.now outcome.status outcome.text) }
 {
     match read_trace(alloc, bytes) {
         Ok(trace) => report(alloc, &trace),
@@ -71,7 +71,7 @@ pub fn answer(alloc: Global, bytes: &[u8]) -> Result<Outcome, AllocError>
 
 /// The answer to a source with too many bytes.
 pub fn too_long(alloc: Global) -> Result<Outcome, AllocError>
-    ensures { IfOk result (λ answer. (bytes : List ℕ) → most_bytes < length bytes → Writes bytes answer.status answer.text) }
+    ensures { IfOk result (λ outcome. (outcome.status ≡ Status.TooLong) × (outcome.text ≡ fault_line Fault.Length)) }
 {
     fault(alloc, Status::TooLong, &Fault::Length)
 }

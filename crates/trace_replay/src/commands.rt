@@ -88,11 +88,49 @@ fn is_replay(words: &[String]) -> bool
 fn refuse<K: Sink>(alloc: Global, sink: &mut K) -> Status
     requires { HasRoomForUsage (K.room sink.old) }
     ensures written { (before : List ℕ) → K.taken sink.old ≡ Some before → IsRefused result before (K.taken sink.new) }
-    ensures status { (result ≡ Status.Usage) ⊎ ((result ≡ Status.OutOfMemory) ⊎ (result ≡ Status.WriteFault)) }
+    ensures refusal { (result ≡ Status.Usage) ⊎ ((result ≡ Status.OutOfMemory) ⊎ (result ≡ Status.WriteFault)) }
     ensures write_fault { result ≡ Status.WriteFault → Rose (K.faults sink.old) (K.faults sink.new) }
 {
     match usage(alloc) {
         Ok(outcome) => tell(sink, outcome),
         Err(_) => Status::OutOfMemory,
     }
+}
+
+/// Does the named command: `replay` reads a trace and writes its report. Other words are refused before anything is
+/// read.
+///
+/// | Status | Written |
+/// |---|---|
+/// | `Done` | the report |
+/// | `BadTrace`, `Unbuilt`, `Usage`, `TooLong` | the line that tells the fault |
+/// | `WriteFault` | a prefix of the text that was being written |
+/// | `ReadFault`, `OutOfMemory` | nothing |
+pub fn run<S: Source, K: Sink>(
+    alloc: Global,
+    words: &[String],
+    source: &mut S,
+    sink: &mut K,
+) -> Status
+    requires room { ReplayWords (map string_bytes words.now) → HasRoomFor (S.left source.old) (K.room sink.old) }
+    requires usage_room { HasRoomForUsage (K.room sink.old) }
+
+    // The words are those of `replay`: as there.
+    ensures written { ReplayWords (map string_bytes words.now) → (bytes before : List ℕ) → S.left source.old ≡ Some bytes → K.taken sink.old ≡ Some before → IsWritten bytes result before (K.taken sink.new) }
+    ensures answers { ReplayWords (map string_bytes words.now) → (bytes : List ℕ) → S.left source.old ≡ Some bytes → Answers bytes result }
+    ensures read { (bytes : List ℕ) → S.left source.old ≡ Some bytes → IsRead result (S.left source.new) }
+
+    // They are not: nothing is read.
+    ensures refused { ¬ ReplayWords (map string_bytes words.now) → (before : List ℕ) → K.taken sink.old ≡ Some before → IsRefused result before (K.taken sink.new) }
+    ensures refusal { ¬ ReplayWords (map string_bytes words.now) → (result ≡ Status.Usage) ⊎ ((result ≡ Status.OutOfMemory) ⊎ (result ≡ Status.WriteFault)) }
+    ensures unread { ¬ ReplayWords (map string_bytes words.now) → S.left source.new ≡ S.left source.old }
+
+    ensures usage { result ≡ Status.Usage → ¬ ReplayWords (map string_bytes words.now) }
+    ensures read_fault { result ≡ Status.ReadFault → Rose (S.faults source.old) (S.faults source.new) }
+    ensures write_fault { result ≡ Status.WriteFault → Rose (K.faults sink.old) (K.faults sink.new) }
+{
+    if is_replay(words) {
+        return replay(alloc, Mode::Replay, source, sink);
+    }
+    refuse(alloc, sink)
 }

@@ -10,7 +10,7 @@ mod sink;
 mod source;
 mod status;
 
-pub use commands::{Mode, replay};
+pub use commands::{Mode, replay, run};
 pub use sink::{Sink, SteadySink, StreamSink};
 pub use source::{Failed, Source, SteadySource, StreamSource};
 pub use status::Status;

@@ -214,7 +214,7 @@ fn faults_and_schedule(rt: HostRuntime) -> Result<(), Fail> {
         ),
         (Fault::Length, b"fault length\n".as_slice()),
     ] {
-        assert_eq!(rt; write_fault(alloc, &fault)?.as_slice(), line);
+        assert_eq!(rt; write_fault(alloc, &fault)?.into_vec().as_slice(), line);
     }
     assert_eq!(rt;
         write_schedule(alloc, &[5, 6, 3])?.as_slice(),

@@ -106,7 +106,8 @@ normal-joined : (p : ℕ) (spans : List Span) → AreSeparateFrom (suc p) spans 
 normal-joined p [] n = (omega arith, omega arith, tt)
 normal-joined p (s ∷ spans) n = normal-joined_by p s spans _ refl n
 
-AreSeparateFrom-weaken : (low low' : ℕ) (spans : List Span) → low ≤ low' → AreSeparateFrom low' spans → AreSeparateFrom low spans
+-- separate spans begin from any lower number on
+pub AreSeparateFrom-weaken : (low low' : ℕ) (spans : List Span) → low ≤ low' → AreSeparateFrom low' spans → AreSeparateFrom low spans
 AreSeparateFrom-weaken low low' [] h n = tt
 AreSeparateFrom-weaken low low' (s ∷ spans) h n = (omega arith, n.1, n.2)
 

@@ -1,0 +1,264 @@
+-- Sections over the blocks of one processor: each over these alone leaves what it leaves in the map.
+use Rattle.std.proofs.Common.{◌≡◌, ◌≢◌, ℕ, suc, ◌+◌, ◌<◌, Bool, true, false, not, cond, ◌&&◌, ◌==◌, if◌then◌else◌, List, [], ◌∷◌, ◌++◌, map, filter, find, flat_map, filter_map, option_map, nat_lt, nat_le, replicate, Option, Some, None, is_some, slice_get, slice_set, slice_index, refl, ap, sym, ◌∙◌, arith}
+use Rattle.std.proofs.lemmas.List.{length-replicate, length-set, append-nil, get_or-set_same, get_or-set_other}
+use Rattle.std.proofs.lemmas.List.Elements.{filter-append}
+use Rattle.vm_model.specs.Space.{is_among, hull}
+use Rattle.vm_model.specs.Setup.{Setup, cpus}
+use Rattle.vm_model.specs.PlainMap.{PlainMap, free_runs, Block, Life, InHand, Lives, Ended}
+use Rattle.vm_model.specs.Blocks.{PartAt, rounded, free_of, is_named, dirty_range, blocks_of, queue_of, part_to_cut, first_with_room, cut_from, named_parts, named_in, fragmented, is_fragmented, change_block, with_part, with_life, set_life, spends, is_spent, without_spent}
+use Rattle.vm_model.specs.Events.{SettlePart, Retire, Fragment, Dirty}
+use Rattle.vm_model.specs.Effects.{effect_as}
+use Rattle.vm_model.specs.Places.{AskPart, AskAddBlock, AskSettlePart, AskBegin, AskRetire, AskFragment, AskDirty}
+use Rattle.vm_model.specs.Given.{cutting, beginning}
+use Rattle.vm_model.specs.Parts.{Region, Desk, PurgeTurn, AllocTurn, FreeRuns, LiveAreas, WaitingSpans, Pages, Percpu, CpuBlocks, regions_of, map_with, region_in, cpu_blocks}
+use Rattle.map_parts.specs.Locality.{FallsApart, IsOfCpu, IsOverOneRegion}
+use Rattle.map_parts.proofs.Filters.{filter_comm, filter_each, filter_passes, filter_within, filter_twice, filter-map, map_same, map-count_set, slice_get-map_count, found_there, find-filter, flat_map_each, map_was, option_map_was}
+use Rattle.map_parts.proofs.Tests.{both_true, is_equal, is_other, is_same}
+
+-- Blocks of one processor.
+
+keeps_cpu : (start cpu : ℕ) (change : Block → Block) → ((b : Block) → (change b).cpu ≡ b.cpu) → (b : Block) → ((if b.start == start then change b else b).cpu == cpu) ≡ (b.cpu == cpu)
+keeps_cpu start cpu change keeps b = by_test (b.start == start)
+  where
+    by_test : (t : Bool) → ((if t then change b else b).cpu == cpu) ≡ (b.cpu == cpu)
+    by_test true = ap (λ n. n == cpu) (keeps b)
+    by_test false = refl
+
+pub blocks_of-change : (cpu start : ℕ) (change : Block → Block) (blocks : List Block) → ((b : Block) → (change b).cpu ≡ b.cpu)
+    → blocks_of cpu (change_block start change blocks) ≡ change_block start change (blocks_of cpu blocks)
+blocks_of-change cpu start change blocks keeps = filter-map (λ (b : Block). b.cpu == cpu) (λ (b : Block). if b.start == start then change b else b) blocks (keeps_cpu start cpu change keeps)
+
+-- the blocks of this processor alone, changed
+own_changed : (cpu start : ℕ) (change : Block → Block) (blocks : List Block) → ((b : Block) → (change b).cpu ≡ b.cpu)
+    → blocks_of cpu (change_block start change (blocks_of cpu blocks)) ≡ blocks_of cpu (change_block start change blocks)
+own_changed cpu start change blocks keeps =
+    blocks_of-change cpu start change (blocks_of cpu blocks) keeps ∙ ap (change_block start change) (filter_twice (λ (b : Block). b.cpu == cpu) blocks) ∙ sym (blocks_of-change cpu start change blocks keeps)
+
+-- those of another processor stay
+unchanged : (start : ℕ) (change : Block → Block) (b : Block) → b.start ≢ start → (if b.start == start then change b else b) ≡ b
+unchanged start change b n = ap (λ t. if t then change b else b) (is_other b.start start n)
+
+others_changed : (cpu other start : ℕ) (change : Block → Block) (blocks : List Block) → ((b : Block) → (change b).cpu ≡ b.cpu) → IsOfCpu start cpu blocks → other ≢ cpu
+    → blocks_of other (change_block start change blocks) ≡ blocks_of other blocks
+others_changed cpu other start change blocks keeps own n =
+    blocks_of-change other start change blocks keeps
+    ∙ map_same (λ (b : Block). if b.start == start then change b else b) (blocks_of other blocks)
+    (λ i b at. unchanged start change b (λ e.
+    let w = filter_within (λ (b : Block). b.cpu == other) blocks i b at in
+    n (sym (is_same b.cpu other (filter_passes (λ (b : Block). b.cpu == other) blocks i b at)) ∙ own w.0 b w.1 e)))
+
+-- The list of regions.
+
+from_eight : (k : ℕ) → 8 + k ≡ suc (suc (suc (suc (suc (suc (suc (suc k)))))))
+from_eight k = omega arith
+
+module _ (c : Setup) (m : PlainMap) (k : ℕ) where
+  slice_get-cpu : (cpu : ℕ) → cpu < cpus c → slice_get (regions_of c m) (8 + cpu) ≡ Some (cpu_blocks m cpu)
+  slice_get-cpu cpu l = ap (slice_get (regions_of c m)) (from_eight cpu) ∙ slice_get-map_count (cpu_blocks m) (cpus c) 0 cpu l ∙ ap (λ i. Some (cpu_blocks m i)) (let e : 0 + cpu ≡ cpu = omega arith in e)
+
+  -- a change of the blocks and next serials of one processor
+  set-cpu : (cpu : ℕ) (blocks : List Block) (nexts : List ℕ) (r : Region) → cpu_blocks (record m { blocks = blocks; next_part = nexts }) cpu ≡ r
+      → ((other : ℕ) → other ≢ cpu → cpu_blocks (record m { blocks = blocks; next_part = nexts }) other ≡ cpu_blocks m other)
+      → regions_of c (record m { blocks = blocks; next_part = nexts }) ≡ slice_set (regions_of c m) (8 + cpu) r
+  set-cpu cpu blocks nexts r own others =
+      let start : 0 + cpu ≡ cpu = omega arith in
+      ap (λ rest. Desk ∷ PurgeTurn m.purge_turn ∷ AllocTurn m.alloc_turn ∷ FreeRuns (free_runs m) ∷ LiveAreas m.areas m.next_area ∷ WaitingSpans m.waiting
+      ∷ Pages m.frames m.stale m.cells ∷ Percpu m.chunks m.next_object m.next_chunk m.room ∷ rest)
+      (map-count_set (cpu_blocks m) (cpu_blocks (record m { blocks = blocks; next_part = nexts })) (cpus c) 0 cpu r (ap (cpu_blocks (record m { blocks = blocks; next_part = nexts })) start ∙ own)
+      (λ i n. others i (λ e. n (e ∙ sym start))))
+      ∙ ap (λ n. slice_set (regions_of c m) n r) (sym (from_eight cpu))
+
+  module _ (whole : FallsApart c m) where
+    next_alone : (cpu next : ℕ) → cpu < cpus c → slice_index (slice_set (replicate (cpus c) 1) cpu next) cpu ≡ next
+    next_alone cpu next l = get_or-set_same (replicate (cpus c) 1) cpu next 0 (omega (arith, length-replicate {A = ℕ} (cpus c) 1))
+
+    -- the region alone has itself
+    again : (cpu : ℕ) → cpu < cpus c → cpu_blocks m cpu ≡ cpu_blocks (map_with c (cpu_blocks m cpu)) cpu
+    again cpu l =
+        ap (λ blocks. CpuBlocks cpu blocks (slice_index m.next_part cpu)) (sym (filter_twice (λ (b : Block). b.cpu == cpu) m.blocks))
+        ∙ ap (CpuBlocks cpu (blocks_of cpu (blocks_of cpu m.blocks))) (sym (next_alone cpu (slice_index m.next_part cpu) l))
+
+    left_by_none : (cpu : ℕ) → cpu < cpus c → regions_of c m ≡ slice_set (regions_of c m) (8 + cpu) (cpu_blocks (map_with c (cpu_blocks m cpu)) cpu)
+    left_by_none cpu l = set-cpu cpu m.blocks m.next_part _ (again cpu l) (λ other n. refl)
+
+    -- one block of the processor changed
+    left_by_change : (cpu start : ℕ) (change : Block → Block) → cpu < cpus c → ((b : Block) → (change b).cpu ≡ b.cpu) → IsOfCpu start cpu m.blocks
+        → regions_of c (record m { blocks = change_block start change m.blocks })
+        ≡ slice_set (regions_of c m) (8 + cpu) (cpu_blocks (record (map_with c (cpu_blocks m cpu)) { blocks = change_block start change (blocks_of cpu m.blocks) }) cpu)
+    left_by_change cpu start change l keeps own =
+        set-cpu cpu (change_block start change m.blocks) m.next_part _
+        (ap (λ blocks. CpuBlocks cpu blocks (slice_index m.next_part cpu)) (sym (own_changed cpu start change m.blocks keeps))
+        ∙ ap (CpuBlocks cpu (blocks_of cpu (change_block start change (blocks_of cpu m.blocks)))) (sym (next_alone cpu (slice_index m.next_part cpu) l)))
+        (λ other n. ap (λ blocks. CpuBlocks other blocks (slice_index m.next_part other)) (others_changed cpu other start change m.blocks keeps own n))
+
+    -- the part that is cut is in a block of the processor
+    cut_of_cpu : (cpu pages : ℕ) (at : PartAt) → part_to_cut c cpu pages m.blocks ≡ Some at → IsOfCpu at.block cpu m.blocks
+    cut_of_cpu cpu pages at h =
+        let w = option_map_was (cut_from c pages) (first_with_room c cpu pages m.blocks) at h in
+        let found = found_there _ (queue_of c cpu m.blocks) w.0 w.1 in
+        let queued = filter_within _ (blocks_of cpu m.blocks) found.1.0 w.0 found.1.1 in
+        let there = filter_within _ m.blocks queued.0 w.0 queued.1 in
+        let is : w.0.cpu ≡ cpu = is_same w.0.cpu cpu (filter_passes (λ (b : Block). b.cpu == cpu) m.blocks queued.0 w.0 queued.1) in
+        λ i b at' e. whole.own_starts there.0 w.0 there.1 i b at' (e ∙ ap (λ (a : PartAt). a.block) (sym w.2)) ∙ is
+
+    after_cut : (cpu pages : ℕ) → cpu < cpus c → (o : Option PartAt) → part_to_cut c cpu pages m.blocks ≡ o
+        → regions_of c (effect_as c m k (cutting cpu pages o)) ≡ slice_set (regions_of c m) (8 + cpu) (region_in (effect_as c (map_with c (cpu_blocks m cpu)) k (cutting cpu pages o)) (cpu_blocks m cpu))
+    after_cut cpu pages l None e = left_by_none cpu l
+    after_cut cpu pages l (Some at) e = left_by_change cpu at.block (with_part k at) l (λ b. refl) (cut_of_cpu cpu pages at e)
+
+    pub cut : (cpu pages : ℕ) → cpu < cpus c → IsOverOneRegion c m k (AskPart cpu pages) (8 + cpu)
+    cut cpu pages l = record {
+      region = cpu_blocks m cpu;
+      here = slice_get-cpu cpu l;
+      moves_alike = refl;
+      gives_alike = ap (λ blocks. Some (cutting cpu pages (option_map (cut_from c pages) (find (λ (b : Block). nat_le (rounded pages) (free_of c b)) (filter (λ (b : Block). nat_lt 0 (free_of c b)) blocks)))))
+          (filter_twice (λ (b : Block). b.cpu == cpu) m.blocks);
+      leaves_alike = after_cut cpu pages l (part_to_cut c cpu pages m.blocks) refl;
+    }
+
+    -- a live part that is named is in a block of the processor
+    named_of_cpu : (cpu page serial : ℕ) (at : PartAt) (parts : List PartAt) → named_parts cpu page serial m.blocks ≡ at ∷ parts → IsOfCpu at.block cpu m.blocks
+    named_of_cpu cpu page serial at parts h =
+        flat_map_each (λ (at : PartAt). IsOfCpu at.block cpu m.blocks) (named_in page serial) (blocks_of cpu m.blocks)
+        (λ i b there j at' e.
+        let w = filter_within _ m.blocks i b there in
+        let made = map_was _ (filter (is_named page serial b) b.parts) j at' e in
+        let is : b.cpu ≡ cpu = is_same b.cpu cpu (filter_passes (λ (b : Block). b.cpu == cpu) m.blocks i b there) in
+        λ i' b' there' f. whole.own_starts w.0 b w.1 i' b' there' (f ∙ ap (λ (a : PartAt). a.block) (sym made.2)) ∙ is)
+        0 at (ap (λ parts. slice_get parts 0) h)
+
+    after_begin : (cpu page serial : ℕ) → cpu < cpus c → (parts : List PartAt) → named_parts cpu page serial m.blocks ≡ parts
+        → regions_of c (effect_as c m k (beginning cpu page serial parts)) ≡ slice_set (regions_of c m) (8 + cpu) (region_in (effect_as c (map_with c (cpu_blocks m cpu)) k (beginning cpu page serial parts)) (cpu_blocks m cpu))
+    after_begin cpu page serial l [] e = left_by_none cpu l
+    after_begin cpu page serial l (at ∷ parts) e = left_by_change cpu at.block (with_life at (InHand k)) l (λ b. refl) (named_of_cpu cpu page serial at parts e)
+
+    pub begin_unmap : (cpu page serial : ℕ) → cpu < cpus c → IsOverOneRegion c m k (AskBegin cpu page serial) (8 + cpu)
+    begin_unmap cpu page serial l = record {
+      region = cpu_blocks m cpu;
+      here = slice_get-cpu cpu l;
+      moves_alike = refl;
+      gives_alike = ap (λ blocks. Some (beginning cpu page serial (flat_map (named_in page serial) blocks))) (filter_twice (λ (b : Block). b.cpu == cpu) m.blocks);
+      leaves_alike = after_begin cpu page serial l (named_parts cpu page serial m.blocks) refl;
+    }
+
+    pub dirty : (cpu : ℕ) → cpu < cpus c → IsOverOneRegion c m k (AskDirty cpu) (8 + cpu)
+    dirty cpu l = record {
+      region = cpu_blocks m cpu;
+      here = slice_get-cpu cpu l;
+      moves_alike = refl;
+      gives_alike = ap (λ blocks. Some (Dirty cpu (hull (filter_map dirty_range blocks)))) (filter_twice (λ (b : Block). b.cpu == cpu) m.blocks);
+      leaves_alike = left_by_none cpu l;
+    }
+
+    -- a block that is added
+    only_here : (cpu other : ℕ) (b : Block) → b.cpu ≡ cpu → other ≢ cpu → blocks_of other (b ∷ []) ≡ []
+    only_here cpu other b e n = ap (λ t. cond t (b ∷ []) []) (is_other b.cpu other (λ f. n (sym f ∙ e)))
+
+    added_elsewhere : (cpu other : ℕ) (b : Block) → b.cpu ≡ cpu → other ≢ cpu → blocks_of other (m.blocks ++ b ∷ []) ≡ blocks_of other m.blocks
+    added_elsewhere cpu other b e n = filter-append (λ (b : Block). b.cpu == other) m.blocks (b ∷ []) ∙ ap (λ more. blocks_of other m.blocks ++ more) (only_here cpu other b e n) ∙ append-nil (blocks_of other m.blocks)
+
+    added_here : (cpu : ℕ) (b : Block) → blocks_of cpu (m.blocks ++ b ∷ []) ≡ blocks_of cpu (blocks_of cpu m.blocks ++ b ∷ [])
+    added_here cpu b =
+        filter-append (λ (b : Block). b.cpu == cpu) m.blocks (b ∷ []) ∙ ap (λ blocks. blocks ++ blocks_of cpu (b ∷ [])) (sym (filter_twice (λ (b : Block). b.cpu == cpu) m.blocks))
+        ∙ sym (filter-append (λ (b : Block). b.cpu == cpu) (blocks_of cpu m.blocks) (b ∷ []))
+
+    new_block : PartAt → Block
+    new_block at = with_part k at (record { start = at.block; cpu = at.cpu; parts = [] })
+
+    pub add_block : (at : PartAt) → at.cpu < cpus c → IsOverOneRegion c m k (AskAddBlock at) (8 + at.cpu)
+    unfolding new_block
+    add_block at l = record {
+      region = cpu_blocks m at.cpu;
+      here = slice_get-cpu at.cpu l;
+      moves_alike = refl;
+      gives_alike = refl;
+      leaves_alike = set-cpu at.cpu (m.blocks ++ new_block at ∷ []) m.next_part _
+          (ap (λ blocks. CpuBlocks at.cpu blocks (slice_index m.next_part at.cpu)) (added_here at.cpu (new_block at))
+          ∙ ap (CpuBlocks at.cpu (blocks_of at.cpu (blocks_of at.cpu m.blocks ++ new_block at ∷ []))) (sym (next_alone at.cpu (slice_index m.next_part at.cpu) l)))
+          (λ other n. ap (λ blocks. CpuBlocks other blocks (slice_index m.next_part other)) (added_elsewhere at.cpu other (new_block at) refl n));
+    }
+
+    -- a part that is settled takes the next serial
+    next_set : (cpu serial : ℕ) → cpu < cpus c → slice_index (slice_set m.next_part cpu serial) cpu ≡ serial
+    next_set cpu serial l = get_or-set_same m.next_part cpu serial 0 (omega (arith, whole.next_parts))
+
+    next_set_alone : (cpu next serial : ℕ) → cpu < cpus c → slice_index (slice_set (slice_set (replicate (cpus c) 1) cpu next) cpu serial) cpu ≡ serial
+    next_set_alone cpu next serial l =
+        get_or-set_same (slice_set (replicate (cpus c) 1) cpu next) cpu serial 0 (omega (arith, length-set {A = ℕ} (replicate (cpus c) 1) cpu next, length-replicate {A = ℕ} (cpus c) 1))
+
+    pub settle_part : (at : PartAt) → at.cpu < cpus c → IsOfCpu at.block at.cpu m.blocks → IsOverOneRegion c m k (AskSettlePart at) (8 + at.cpu)
+    settle_part at l own =
+        let serial : ℕ = slice_index m.next_part at.cpu in
+        record {
+          region = cpu_blocks m at.cpu;
+          here = slice_get-cpu at.cpu l;
+          moves_alike = refl;
+          gives_alike = ap (λ n. Some (SettlePart at n)) (next_alone at.cpu (slice_index m.next_part at.cpu) l);
+          leaves_alike = set-cpu at.cpu (set_life at (Lives serial) m.blocks) (slice_set m.next_part at.cpu (suc serial)) _
+              (ap (λ blocks. CpuBlocks at.cpu blocks (slice_index (slice_set m.next_part at.cpu (suc serial)) at.cpu)) (sym (own_changed at.cpu at.block (with_life at (Lives serial)) m.blocks (λ b. refl)))
+              ∙ ap (CpuBlocks at.cpu (blocks_of at.cpu (set_life at (Lives serial) (blocks_of at.cpu m.blocks)))) (next_set at.cpu (suc serial) l ∙ sym (next_set_alone at.cpu serial (suc serial) l)))
+              (λ other n. ap (λ blocks. CpuBlocks other blocks (slice_index (slice_set m.next_part at.cpu (suc serial)) other)) (others_changed at.cpu other at.block (with_life at (Lives serial)) m.blocks (λ b. refl) own n)
+              ∙ ap (CpuBlocks other (blocks_of other m.blocks)) (get_or-set_other m.next_part at.cpu other (suc serial) 0 n));
+        }
+
+    -- a part that ends may spend its block
+    still_of_cpu : (at : PartAt) (life : Life) → IsOfCpu at.block at.cpu m.blocks → IsOfCpu at.block at.cpu (set_life at life m.blocks)
+    still_of_cpu at life own i b there e =
+        let w = map_was (λ (b : Block). if b.start == at.block then with_life at life b else b) m.blocks i b there in
+        by_test w.0 (w.0.start == at.block) refl w.2 (own i w.0 w.1)
+      where
+        by_test : (old : Block) (t : Bool) → (old.start == at.block) ≡ t → (if t then with_life at life old else old) ≡ b → (old.start ≡ at.block → old.cpu ≡ at.cpu) → b.cpu ≡ at.cpu
+        by_test old true is made same = sym (ap (λ (b : Block). b.cpu) made) ∙ same (is_same old.start at.block is)
+        by_test old false is made same = sym (ap (λ (b : Block). b.cpu) made) ∙ same (ap (λ (b : Block). b.start) made ∙ e)
+
+    spends_alike : (at : PartAt) → IsOfCpu at.block at.cpu m.blocks → spends c at (set_life at Ended (blocks_of at.cpu m.blocks)) ≡ spends c at (set_life at Ended m.blocks)
+    spends_alike at own =
+        ap (spends c at) (sym (blocks_of-change at.cpu at.block (with_life at Ended) m.blocks (λ b. refl)))
+        ∙ ap is_some (find-filter (λ (b : Block). (b.start == at.block) && is_spent c b) (λ (b : Block). b.cpu == at.cpu) (set_life at Ended m.blocks)
+        (λ i b there p. is_equal b.cpu at.cpu (still_of_cpu at Ended own i b there (is_same b.start at.block (both_true _ (is_spent c b) p).0))))
+
+    unspent_elsewhere : (other : ℕ) → without_spent c (blocks_of other m.blocks) ≡ blocks_of other m.blocks
+    unspent_elsewhere other =
+        filter_each (λ (b : Block). not (is_spent c b)) (blocks_of other m.blocks)
+        (λ i b there. let w = filter_within (λ (b : Block). b.cpu == other) m.blocks i b there in ap not (whole.unspent w.0 b w.1))
+
+    pub retire : (at : PartAt) → at.cpu < cpus c → IsOfCpu at.block at.cpu m.blocks → IsOverOneRegion c m k (AskRetire at) (8 + at.cpu)
+    retire at l own = record {
+      region = cpu_blocks m at.cpu;
+      here = slice_get-cpu at.cpu l;
+      moves_alike = refl;
+      gives_alike = ap (λ b. Some (Retire at b)) (spends_alike at own);
+      leaves_alike = set-cpu at.cpu (without_spent c (set_life at Ended m.blocks)) m.next_part _
+          (ap (λ blocks. CpuBlocks at.cpu blocks (slice_index m.next_part at.cpu))
+          (filter_comm (λ (b : Block). b.cpu == at.cpu) (λ (b : Block). not (is_spent c b)) (set_life at Ended m.blocks)
+          ∙ ap (without_spent c) (sym (own_changed at.cpu at.block (with_life at Ended) m.blocks (λ b. refl)))
+          ∙ filter_comm (λ (b : Block). not (is_spent c b)) (λ (b : Block). b.cpu == at.cpu) (set_life at Ended (blocks_of at.cpu m.blocks)))
+          ∙ ap (CpuBlocks at.cpu (blocks_of at.cpu (without_spent c (set_life at Ended (blocks_of at.cpu m.blocks))))) (sym (next_alone at.cpu (slice_index m.next_part at.cpu) l)))
+          (λ other n. ap (λ blocks. CpuBlocks other blocks (slice_index m.next_part other))
+          (filter_comm (λ (b : Block). b.cpu == other) (λ (b : Block). not (is_spent c b)) (set_life at Ended m.blocks)
+          ∙ ap (without_spent c) (others_changed at.cpu other at.block (with_life at Ended) m.blocks (λ b. refl) own n) ∙ unspent_elsewhere other));
+    }
+
+    -- fragmented blocks of the processor that go
+    kept_elsewhere : (cpu other : ℕ) (gone : List ℕ) → other ≢ cpu → filter (λ (b : Block). not ((b.cpu == cpu) && is_among gone b.start)) (blocks_of other m.blocks) ≡ blocks_of other m.blocks
+    kept_elsewhere cpu other gone n =
+        filter_each (λ (b : Block). not ((b.cpu == cpu) && is_among gone b.start)) (blocks_of other m.blocks)
+        (λ i b there. let is = is_same b.cpu other (filter_passes (λ (b : Block). b.cpu == other) m.blocks i b there) in
+        ap (λ t. not (t && is_among gone b.start)) (is_other b.cpu cpu (λ e. n (sym is ∙ e))))
+
+    pub fragment : (cpu : ℕ) → cpu < cpus c → IsOverOneRegion c m k (AskFragment cpu) (8 + cpu)
+    fragment cpu l =
+        let gone : List ℕ = fragmented c cpu m.blocks in
+        let stays : Block → Bool = λ b. not ((b.cpu == cpu) && is_among gone b.start) in
+        record {
+          region = cpu_blocks m cpu;
+          here = slice_get-cpu cpu l;
+          moves_alike = refl;
+          gives_alike = ap (λ blocks. Some (Fragment cpu (map (λ (b : Block). b.start) (filter (is_fragmented c) (filter (λ (b : Block). nat_lt 0 (free_of c b)) blocks))))) (filter_twice (λ (b : Block). b.cpu == cpu) m.blocks);
+          leaves_alike = set-cpu cpu (filter stays m.blocks) m.next_part _
+              (ap (λ blocks. CpuBlocks cpu blocks (slice_index m.next_part cpu))
+              (filter_comm (λ (b : Block). b.cpu == cpu) stays m.blocks ∙ ap (filter stays) (sym (filter_twice (λ (b : Block). b.cpu == cpu) m.blocks))
+              ∙ filter_comm stays (λ (b : Block). b.cpu == cpu) (blocks_of cpu m.blocks))
+              ∙ ap (CpuBlocks cpu (blocks_of cpu (filter stays (blocks_of cpu m.blocks)))) (sym (next_alone cpu (slice_index m.next_part cpu) l)))
+              (λ other n. ap (λ blocks. CpuBlocks other blocks (slice_index m.next_part other)) (filter_comm (λ (b : Block). b.cpu == other) stays m.blocks ∙ kept_elsewhere cpu other gone n));
+        }

@@ -1,0 +1,68 @@
+-- Which pages a search may not take, in the map and in the free runs alone, and where marks that aren't free change none.
+use Rattle.std.proofs.Common.{◌≡◌, ℕ, zero, suc, Bool, true, false, not, if◌then◌else◌, List, [], ◌∷◌, map, replicate, length, slice_get, Option, Some, None, refl, ap, sym, ◌∙◌, option_map}
+use Rattle.std.proofs.lemmas.Option.{slice_get-map}
+use Rattle.std.proofs.lemmas.List.{length-map}
+use Rattle.vm_model.specs.declared.areas.Span.{Span}
+use Rattle.vm_model.specs.declared.areas.Area.{Area}
+use Rattle.vm_model.specs.declared.areas.AreaKind.{AreaKind}
+use Rattle.vm_model.specs.Space.{holds, covers, runs, paint, is_open, is_free_at}
+use Rattle.vm_model.specs.Setup.{Setup}
+use Rattle.vm_model.specs.PlainMap.{PlainMap, Mark, Free, Held, Live, taken, is_free, free_runs}
+use Rattle.vm_model.specs.Areas.{areas_of, mark_live, spans_of}
+use Rattle.vm_model.specs.Parts.{FreeRuns, map_with}
+use Rattle.vm_model.proofs.Elements.{same_by_get}
+use Rattle.vm_model.proofs.Paint.{slice_get-paint}
+use Rattle.vm_model.proofs.PaintRuns.{map-paint, paint_there}
+use Rattle.vm_model.proofs.Runs.{covers-runs}
+use Rattle.map_parts.proofs.Tests.{or_first, or_second}
+
+abbrev pub taken_in : List Mark → List Bool
+taken_in marks = map (λ mark. not (is_free mark)) marks
+
+-- what a list of free pages has at a place, where another list as long has something
+filled : {X Y : Type 0} (x : X) (ys : List Y) (k : ℕ) → slice_get (replicate (length ys) x) k ≡ option_map (λ _. x) (slice_get ys k)
+filled x [] k = refl
+filled x (y ∷ ys) zero = refl
+filled x (y ∷ ys) (suc k) = filled x ys k
+
+taken_there : (o : Option Bool) → option_map (λ mark. not (is_free mark)) (option_map (λ y. if not (is_open o) then Held 0 else y) (option_map (λ _. Free) o)) ≡ o
+taken_there None = refl
+taken_there (Some true) = refl
+taken_there (Some false) = refl
+
+taken_again_at : (bits : List Bool) (k : ℕ) → slice_get (taken_in (paint (λ page. not (covers (runs bits) page)) (Held 0) (replicate (length bits) Free))) k ≡ slice_get bits k
+taken_again_at bits k =
+    slice_get-map (λ mark. not (is_free mark)) _ k
+    ∙ ap (option_map (λ mark. not (is_free mark))) (slice_get-paint (λ page. not (covers (runs bits) page)) (Held 0) (replicate (length bits) Free) k)
+    ∙ ap (λ o. option_map (λ mark. not (is_free mark)) (option_map (λ y. if not (covers (runs bits) k) then Held 0 else y) o)) (filled Free bits k)
+    ∙ ap (λ b. option_map (λ mark. not (is_free mark)) (option_map (λ y. if not b then Held 0 else y) (option_map (λ _. Free) (slice_get bits k)))) (covers-runs bits k)
+    ∙ taken_there (slice_get bits k)
+
+-- the free runs alone tell which pages are taken
+pub taken_again : (c : Setup) (m : PlainMap) → length m.marks ≡ c.space → taken (map_with c (FreeRuns (free_runs m))) ≡ taken m
+taken_again c m e =
+    ap (λ n. taken_in (paint (λ page. not (covers (free_runs m) page)) (Held 0) (replicate n Free))) (sym e ∙ sym (length-map m.marks (λ mark. not (is_free mark))))
+    ∙ same_by_get _ _ (taken_again_at (taken m))
+
+-- a mark that isn't free, on pages that weren't free
+is_taken : (b : Bool) → is_open (Some b) ≡ false → b ≡ true
+is_taken true h = refl
+is_taken false h = cc
+
+pub taken_stays : (test : ℕ → Bool) (mark : Mark) (marks : List Mark) → is_free mark ≡ false → ((page : ℕ) → test page ≡ true → is_free_at (taken_in marks) page ≡ false)
+    → taken_in (paint test mark marks) ≡ taken_in marks
+taken_stays test mark marks f h =
+    map-paint (λ mark. not (is_free mark)) test mark marks ∙ ap (λ b. paint test (not b) (taken_in marks)) f
+    ∙ paint_there test true (taken_in marks) (λ page b at passes. is_taken b (ap is_open (sym at) ∙ h page passes))
+
+-- the same for the pages of areas that are marked live
+pub taken_stays-mark_live : (areas : List Area) (marks : List Mark) → ((page : ℕ) → covers (spans_of areas) page ≡ true → is_free_at (taken_in marks) page ≡ false)
+    → taken_in (mark_live areas marks) ≡ taken_in marks
+taken_stays-mark_live [] marks h = refl
+taken_stays-mark_live (a ∷ areas) marks h =
+    let here : taken_in (paint (holds a.span) (Live a.serial) marks) ≡ taken_in marks = taken_stays (holds a.span) (Live a.serial) marks refl (λ page e. h page (or_first _ _ e)) in
+    taken_stays-mark_live areas (paint (holds a.span) (Live a.serial) marks) (λ page e. ap (λ bits. is_free_at bits page) here ∙ h page (or_second (holds a.span page) _ e)) ∙ here
+
+pub spans_of-areas_of : (caller serial : ℕ) (areas : List (Span × AreaKind)) → spans_of (areas_of caller serial areas) ≡ map (λ a. a.0) areas
+spans_of-areas_of caller serial [] = refl
+spans_of-areas_of caller serial (a ∷ areas) = ap (λ spans. a.0 ∷ spans) (spans_of-areas_of caller (suc serial) areas)

@@ -1,0 +1,80 @@
+-- What is said and written of an outcome once it was told to a sink.
+use Rattle.std.proofs.Common.{◌≡◌, ◌≢◌, ◌≤◌, ◌<◌, ◌⊎◌, inl, inr, ℕ, List, [], ◌∷◌, ◌++◌, length, take, Option, Some, None, refl, sym, ap, ◌∙◌, subst, arith}
+use Rattle.trace_text.specs.declared.faults.Fault.TheVariants as fault
+use Rattle.trace_text.specs.Report.{fault_line}
+use Rattle.trace_replay.specs.Streams.{Rose}
+use Rattle.trace_replay.specs.declared.answer.Outcome.{Outcome}
+use Rattle.trace_replay.specs.declared.status.Status.{Status}
+use Rattle.trace_replay.specs.declared.status.Status.TheVariants.{Done, BadTrace, Unbuilt, Usage, OutOfMemory, ReadFault, WriteFault, TooLong}
+use Rattle.trace_replay.specs.Headline.{Writes, IsWritten, IsRead, Answers, HasRoomFor, IsTold, IsRefused, most_bytes}
+
+-- a source that gave too many bytes
+
+pub too_long_writes : (bytes : List ℕ) (o : Outcome) → o.status ≡ TooLong → o.text ≡ fault_line fault.Length → most_bytes < length bytes → Writes bytes o.status o.text
+too_long_writes bytes o e text long = subst (λ s. Writes bytes s o.text) (sym e) (long, text)
+
+pub too_long_reads : (o : Outcome) (left : Option (List ℕ)) → o.status ≡ TooLong → IsRead o.status left
+too_long_reads o left e = subst (λ s. IsRead s left) (sym e) tt
+
+-- a status that goes with a text
+
+pub record IsSaid (status : Status) : Type 0 where
+  pub read : status ≢ ReadFault
+  pub write : status ≢ WriteFault
+  pub memory : status ≢ OutOfMemory
+  pub usage : status ≢ Usage
+
+pub room_for : (left : Option (List ℕ)) (room : Option ℕ) (status : Status) (text : List ℕ) → HasRoomFor left room → ((bytes : List ℕ) → left ≡ Some bytes → Writes bytes status text) → (x : ℕ) → room ≡ Some x → length text ≤ x
+room_for left None status text h w x e = cc
+room_for None (Some room) status text h w x e = absurd h
+room_for (Some bytes) (Some room) status text h w x e =
+    let same : room ≡ x = cc in
+    let low = h status text (w bytes refl) in
+    omega arith
+
+written_whole : (bytes before : List ℕ) (status : Status) (text : List ℕ) (after : Option (List ℕ)) → Writes bytes status text → after ≡ Some (before ++ text) → IsWritten bytes status before after
+written_whole bytes before Done text after w is = (text, w, is)
+written_whole bytes before (BadTrace line) text after w is = (text, w, is)
+written_whole bytes before (Unbuilt line) text after w is = (text, w, is)
+written_whole bytes before TooLong text after w is = (text, w, is)
+written_whole bytes before Usage text after w is = absurd w
+written_whole bytes before OutOfMemory text after w is = absurd w
+written_whole bytes before ReadFault text after w is = absurd w
+written_whole bytes before WriteFault text after w is = absurd w
+
+pub written : (bytes before : List ℕ) (status : Status) (text : List ℕ) (answer : Status) (first after : Option (List ℕ)) (b n : ℕ) → Writes bytes status text → IsTold status text answer first after b n → first ≡ Some before
+    → IsWritten bytes answer before after
+written bytes before status text answer first after b n w (inl told) is = subst (λ s. IsWritten bytes s before after) (sym told.0) (written_whole bytes before status text after w (told.1 before is))
+written bytes before status text answer first after b n w (inr failed) is =
+    let (k, prefix) = failed.2 before is in
+    subst (λ s. IsWritten bytes s before after) (sym failed.0) (status, text, k, w, prefix)
+
+answers_whole : (bytes : List ℕ) (status : Status) (text : List ℕ) → Writes bytes status text → Answers bytes status
+answers_whole bytes Done text w = (text, w)
+answers_whole bytes (BadTrace line) text w = (text, w)
+answers_whole bytes (Unbuilt line) text w = (text, w)
+answers_whole bytes TooLong text w = (text, w)
+answers_whole bytes Usage text w = absurd w
+answers_whole bytes OutOfMemory text w = absurd w
+answers_whole bytes ReadFault text w = absurd w
+answers_whole bytes WriteFault text w = absurd w
+
+pub answers : (bytes : List ℕ) (status : Status) (text : List ℕ) (answer : Status) (first after : Option (List ℕ)) (b n : ℕ) → Writes bytes status text → IsTold status text answer first after b n → Answers bytes answer
+answers bytes status text answer first after b n w (inl told) = subst (Answers bytes) (sym told.0) (answers_whole bytes status text w)
+answers bytes status text answer first after b n w (inr failed) = subst (Answers bytes) (sym failed.0) tt
+
+pub reads : (left : Option (List ℕ)) (status : Status) (text : List ℕ) (answer : Status) (first after : Option (List ℕ)) (b n : ℕ) → IsRead status left → IsTold status text answer first after b n → IsRead answer left
+reads left status text answer first after b n r (inl told) = subst (λ s. IsRead s left) (sym told.0) r
+reads left status text answer first after b n r (inr failed) = subst (λ s. IsRead s left) (sym failed.0) tt
+
+pub no_read_fault : (status : Status) (text : List ℕ) (answer : Status) (first after : Option (List ℕ)) (b n : ℕ) → status ≢ ReadFault → IsTold status text answer first after b n → answer ≢ ReadFault
+no_read_fault status text answer first after b n s (inl told) = λ e. s (sym told.0 ∙ e)
+no_read_fault status text answer first after b n s (inr failed) = λ e. let no = failed.0 in cc
+
+pub write_fault : (status : Status) (text : List ℕ) (answer : Status) (first after : Option (List ℕ)) (b n : ℕ) → status ≢ WriteFault → IsTold status text answer first after b n → answer ≡ WriteFault → Rose b n
+write_fault status text answer first after b n s (inl told) = λ e. absurd (s (sym told.0 ∙ e))
+write_fault status text answer first after b n s (inr failed) = λ e. failed.1
+
+pub no_usage : (status : Status) (text : List ℕ) (answer : Status) (first after : Option (List ℕ)) (b n : ℕ) → status ≢ Usage → IsTold status text answer first after b n → answer ≢ Usage
+no_usage status text answer first after b n s (inl told) = λ e. s (sym told.0 ∙ e)
+no_usage status text answer first after b n s (inr failed) = λ e. let no = failed.0 in cc

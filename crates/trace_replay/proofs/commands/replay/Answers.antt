@@ -1,0 +1,21 @@
+use Rattle.trace_replay.proofs.Told.{room_for, written, answers, reads, no_read_fault, write_fault, no_usage}
+use Rattle.trace_replay.proofs.commands.replay.Goals as goal
+
+pub tell-requires : goal.tell-requires
+tell-requires g c = room_for (g.S.Source.left c.args.source.now) (g.K.Sink.room c.args.sink.now) c.in-Ok.outcome.status c.in-Ok.outcome.text c.requires c.in-Ok.ensures.writes
+
+pub returns-in-Ok : goal.returns-in-Ok
+returns-in-Ok g c =
+    let first = g.K.Sink.taken c.args.sink.now in
+    let after = g.K.Sink.taken c.tell.new.sink in
+    let before = g.K.Sink.faults c.args.sink.now in
+    let now = g.K.Sink.faults c.tell.new.sink in
+    let says = c.in-Ok.ensures.says in
+    record {
+      written = λ bytes taken told is. written bytes taken c.in-Ok.outcome.status c.in-Ok.outcome.text c.tell.result first after before now (c.in-Ok.ensures.writes bytes told) c.tell.ensures is;
+      answers = λ bytes told. answers bytes c.in-Ok.outcome.status c.in-Ok.outcome.text c.tell.result first after before now (c.in-Ok.ensures.writes bytes told) c.tell.ensures;
+      read = λ bytes told. reads (g.S.Source.left c.outcome_of.new.source) c.in-Ok.outcome.status c.in-Ok.outcome.text c.tell.result first after before now (c.in-Ok.ensures.read bytes told) c.tell.ensures;
+      read_fault = λ e. absurd (no_read_fault c.in-Ok.outcome.status c.in-Ok.outcome.text c.tell.result first after before now says.0 c.tell.ensures e);
+      write_fault = write_fault c.in-Ok.outcome.status c.in-Ok.outcome.text c.tell.result first after before now says.1 c.tell.ensures;
+      usage = no_usage c.in-Ok.outcome.status c.in-Ok.outcome.text c.tell.result first after before now says.3 c.tell.ensures;
+    }

@@ -1,0 +1,30 @@
+//! `vmreplay`: replays a trace of allocator calls from standard input, and writes its report to standard output.
+#![tactic(auto)]
+
+use std::env::{self, Env};
+use std::io::{self, ErrorKind};
+use std::process::ExitCode;
+use trace_replay::{Status, StreamSink, StreamSource, run};
+
+/// The arguments after the program's name.
+fn words<R: Env + AllocGlobal>(rt: &R) -> io::Result<Vec<String>> {
+    let mut words = Vec::new(rt.alloc());
+    for word in env::args(rt)?.skip(1) {
+        words.push(word)?;
+    }
+    Ok(words)
+}
+
+fn main(rt: HostRuntime) -> ExitCode {
+    let mut sink = StreamSink::new(io::writer(&rt));
+    let mut source = StreamSource::new(rt.reader());
+    let words = match words(&rt) {
+        Ok(words) => words,
+        Err(error) if error.kind() == ErrorKind::OutOfMemory => {
+            return ExitCode::from(Status::OutOfMemory.code());
+        }
+        Err(_) => Vec::new(rt.alloc()),
+    };
+    let status = run(rt.alloc(), words.as_slice(), &mut source, &mut sink);
+    ExitCode::from(status.code())
+}
