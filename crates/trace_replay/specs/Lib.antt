@@ -1,5 +1,7 @@
 pub mod Streams
 pub mod Held
+pub mod FailingCalls
+pub mod MemoryStreams
 pub mod Status
 pub mod OneCaller
 pub mod Found

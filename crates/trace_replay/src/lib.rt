@@ -3,7 +3,10 @@
 
 mod answer;
 mod commands;
+mod failing_calls;
 mod gather;
+mod memory_sink;
+mod memory_source;
 mod one_caller;
 mod send;
 mod sink;
@@ -12,6 +15,8 @@ mod status;
 mod worked;
 
 pub use commands::{Mode, replay, run};
+pub use memory_sink::MemorySink;
+pub use memory_source::MemorySource;
 pub use sink::{Sink, SteadySink, StreamSink};
 pub use source::{Failed, Source, SteadySource, StreamSource};
 pub use status::Status;

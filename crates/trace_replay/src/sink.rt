@@ -1,12 +1,12 @@
 //! Where the text of an answer goes.
-ghost use Rattle.std.specs.Prelude.{◌≡◌, ◌<◌, ◌≤◌, ◌-◌, ℕ, List, Option, Some, None, length, vec_len, vec_capacity, IfOk, OnOk, OnErr, [], ◌++◌};
+ghost use Rattle.std.specs.Prelude.{◌≡◌, ◌<◌, ◌≤◌, ◌-◌, ℕ, List, Option, Some, None, length, vec_len, vec_capacity, min, take, IfOk, OnOk, OnErr, IfSome, [], ◌++◌};
 ghost use Rattle.std.specs.Option.{ForSome};
 ghost use Rattle.trace_replay.specs.Streams.{Rose, Takes, Fills};
 ghost use Rattle.trace_replay.specs.Held.{Held};
 
 use crate::source::Failed;
 use std::alloc::{AllocError, Global};
-use std::io::Write;
+use std::io::{ErrorKind, Write};
 use std::marker::Model;
 
 /// A writer that counts its faults.
@@ -78,6 +78,22 @@ impl SteadySink {
     {
         self.bytes.as_slice()
     }
+
+    /// Takes what fits in the room.
+    pub(crate) fn take(&mut self, piece: &[u8]) -> usize
+        ensures count { result ≡ min (length piece.now) self.old.room }
+        ensures taken { self.new.taken ≡ self.old.taken ++ take result piece.now }
+        ensures room { self.new.room ≡ self.old.room - result }
+    {
+        let count = piece.len().min(self.room);
+        match self.bytes.extend_from_slice(&piece[..count]) {
+            Ok(()) => {
+                self.room -= count;
+                count
+            }
+            Err(_) => unreachable!(),
+        }
+    }
 }
 
 impl Sink for SteadySink {
@@ -88,18 +104,27 @@ impl Sink for SteadySink {
     ghost faults = { λ _. 0 };
 
     fn write(&mut self, piece: &[u8]) -> Result<usize, Failed> {
-        let count = piece.len().min(self.room);
-        match self.bytes.extend_from_slice(&piece[..count]) {
-            Ok(()) => {
-                self.room -= count;
-                Ok(count)
-            }
-            Err(_) => unreachable!(),
-        }
+        Ok(self.take(piece))
     }
 }
 
-/// A sink over a writer of std, such as standard output. It tells neither bytes nor room.
+/// One write of a writer, tried again where a signal interrupts it. `None` where it fails, or takes nothing of a piece.
+fn write_retrying<W: Write>(writer: &mut W, piece: &[u8]) -> Option<usize>
+    ensures within { IfSome result (λ count. count ≤ length piece.now) }
+    ensures some { 0 < length piece.now → IfSome result (λ count. 0 < count) }
+{
+    for _ in 0..u64::MAX {
+        match writer.write(piece) {
+            Ok(count) if 0 < count || piece.is_empty() => return Some(count),
+            Err(error) if error.kind() == ErrorKind::Interrupted => {}
+            _ => break,
+        }
+    }
+    None
+}
+
+/// A sink over a writer of std, such as standard output. It tells neither bytes nor room. A write that a signal
+/// interrupts is tried again, and one that takes nothing of a piece is a fault.
 #[derive(Drop)]
 pub struct StreamSink<W> {
     writer: W,
@@ -111,6 +136,13 @@ impl<W: Write> StreamSink<W> {
     pub fn new(writer: W) -> StreamSink<W> {
         StreamSink { writer, faults: 0 }
     }
+
+    /// The writer, without the count of faults.
+    pub fn into_writer(self) -> W
+        ensures { result ≡ self.writer }
+    {
+        self.writer
+    }
 }
 
 impl<W: Write> Sink for StreamSink<W> {
@@ -121,9 +153,9 @@ impl<W: Write> Sink for StreamSink<W> {
     ghost faults = { λ s. s.faults };
 
     fn write(&mut self, piece: &[u8]) -> Result<usize, Failed> {
-        match self.writer.write(piece) {
-            Ok(count) if 0 < count || piece.is_empty() => Ok(count),
-            _ => {
+        match write_retrying(&mut self.writer, piece) {
+            Some(count) => Ok(count),
+            None => {
                 self.faults = self.faults.saturating_add(1);
                 Err(Failed)
             }

@@ -1,9 +1,9 @@
 //! Where the bytes of a trace come from.
-ghost use Rattle.std.specs.Prelude.{◌≡◌, ◌<◌, ◌≤◌, ℕ, List, Option, Some, None, length, drop, IfOk, OnErr};
+ghost use Rattle.std.specs.Prelude.{◌≡◌, ◌<◌, ◌≤◌, ℕ, List, Option, Some, None, length, min, take, drop, IfOk, OnErr, IfSome};
 ghost use Rattle.trace_replay.specs.Streams.{Rose, Gives, IsEndAt};
 
 use std::alloc::{AllocError, Global};
-use std::io::Read;
+use std::io::{ErrorKind, Read};
 use std::marker::Model;
 
 /// A read or a write that failed. The source or the sink counts it among its faults.
@@ -50,6 +50,19 @@ impl SteadySource {
         let bytes = Vec::from_slice(alloc, bytes)?;
         Ok(SteadySource { bytes, at: 0 })
     }
+
+    /// Gives the next bytes, at most so many and no more than fit.
+    pub(crate) fn give(&mut self, into: &mut [u8], most: usize) -> usize
+        ensures count { result ≡ min most (min (length into.old) (length self.old)) }
+        ensures given { take result into.new ≡ take result self.old }
+        ensures left { self.new ≡ drop result self.old }
+    {
+        let rest = &self.bytes.as_slice()[self.at..];
+        let count = most.min(into.len().min(rest.len()));
+        into[..count].copy_from_slice(&rest[..count]);
+        self.at += count;
+        count
+    }
 }
 
 impl Source for SteadySource {
@@ -58,15 +71,26 @@ impl Source for SteadySource {
     ghost faults = { λ _. 0 };
 
     fn read(&mut self, into: &mut [u8]) -> Result<usize, Failed> {
-        let rest = &self.bytes.as_slice()[self.at..];
-        let count = rest.len().min(into.len());
-        into[..count].copy_from_slice(&rest[..count]);
-        self.at += count;
-        Ok(count)
+        Ok(self.give(into, into.len()))
     }
 }
 
-/// A source over a reader of std, such as standard input. It tells no bytes.
+/// One read of a reader, tried again where a signal interrupts it. `None` where it fails.
+fn read_retrying<R: Read>(reader: &mut R, into: &mut [u8]) -> Option<usize>
+    ensures { IfSome result (λ count. count ≤ length into.new) }
+{
+    for _ in 0..u64::MAX {
+        match reader.read(into) {
+            Ok(count) => return Some(count),
+            Err(error) if error.kind() == ErrorKind::Interrupted => {}
+            Err(_) => break,
+        }
+    }
+    None
+}
+
+/// A source over a reader of std, such as standard input. It tells no bytes. A read that a signal interrupts is tried
+/// again.
 #[derive(Drop)]
 pub struct StreamSource<R> {
     reader: R,
@@ -86,9 +110,9 @@ impl<R: Read> Source for StreamSource<R> {
     ghost faults = { λ s. s.faults };
 
     fn read(&mut self, into: &mut [u8]) -> Result<usize, Failed> {
-        match self.reader.read(into) {
-            Ok(count) => Ok(count),
-            Err(_) => {
+        match read_retrying(&mut self.reader, into) {
+            Some(count) => Ok(count),
+            None => {
                 self.faults = self.faults.saturating_add(1);
                 Err(Failed)
             }
