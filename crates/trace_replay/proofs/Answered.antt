@@ -1,18 +1,15 @@
 -- Calls that are answered one after another.
-use Rattle.std.proofs.Common.{◌≡◌, ℕ, suc, ◌+◌, ◌*◌, ◌^◌, ◌<◌, ◌≤◌, List, [], ◌∷◌, ◌++◌, length, map, slice_get, replicate, Option, Some, None, refl, sym, ap, ◌∙◌, subst, arith, length-append}
-use Rattle.std.proofs.lemmas.List.{append_assoc, length-map}
+use Rattle.std.proofs.Common.{◌≡◌, ℕ, suc, ◌+◌, ◌≤◌, List, [], ◌∷◌, ◌++◌, length, map, slice_get, Some, refl, sym, ap, ◌∙◌, subst, arith, length-append}
+use Rattle.std.proofs.lemmas.List.{length-map}
 use Rattle.vm_model.specs.declared.calls.Call.{Call}
 use Rattle.vm_model.specs.declared.calls.Reply.{Reply}
 use Rattle.vm_model.specs.declared.calls.Entry.{Entry}
 use Rattle.vm_model.specs.declared.config.Config.{Config}
-use Rattle.vm_model.specs.Config.{setup_of}
-use Rattle.vm_model.specs.Places.{Made, Place}
 use Rattle.vm_model.specs.Calls.{Answered}
 use Rattle.vm_model.specs.LegalHistory.{IsRun, world_after}
-use Rattle.vm_model.specs.History.{World}
 use Rattle.vm_model.proofs.Finishes.{world_after-append, run-append}
 use Rattle.trace_replay.specs.declared.one_caller.OneCaller.{OneCaller}
-use Rattle.trace_replay.specs.OneCaller.{Stage, world_of, world_between, next_place, is_taken, Keeps, HasRoom, HasAnswered, IsAnsweredAt, Answers, IsSmall, AreNumbered, first_stage, entries_from, room_of}
+use Rattle.trace_replay.specs.OneCaller.{world_between, next_place, is_taken, Keeps, HasRoom, HasAnswered, IsAnsweredAt, Answers, IsSmall, AreNumbered, first_stage, entries_from, room_of}
 
 pub none_answered : (config : Config) (calls : List Call) (m : OneCaller) → Keeps config m (first_stage config) → HasAnswered config calls 0 m []
 none_answered config calls m keeps = record {

@@ -1,5 +1,5 @@
 -- The runs of events of a vmalloc call that finds a place.
-use Rattle.std.proofs.Common.{All, ◌≡◌, ℕ, zero, suc, ◌+◌, ◌-◌, ◌*◌, ◌^◌, ◌<◌, ◌≤◌, Bool, true, false, not, cond, ◌&&◌, ◌||◌, ◌==◌, if◌then◌else◌, List, [], ◌∷◌, ◌++◌, length, map, drop, replicate, slice_get, count_by, is_some, Option, Some, None, option_map, refl, sym, ap, ◌∙◌, subst, arith, length-append, inl, inr}
+use Rattle.std.proofs.Common.{All, ◌≡◌, ℕ, zero, suc, ◌+◌, ◌-◌, ◌<◌, ◌≤◌, Bool, true, false, ◌||◌, ◌==◌, if◌then◌else◌, List, [], ◌∷◌, ◌++◌, length, map, slice_get, count_by, is_some, Option, Some, None, option_map, refl, sym, ap, ◌∙◌, subst, arith, length-append, inl, inr}
 use Rattle.std.proofs.lemmas.List.{append_assoc, length-map}
 use Rattle.std.proofs.lemmas.Option.{slice_get-map}
 use Rattle.std.proofs.lemmas.Bool.Decides.{nat_tests}
@@ -12,21 +12,20 @@ use Rattle.vm_model.specs.declared.calls.Reply.{Reply}
 use Rattle.vm_model.specs.declared.calls.Reply.TheVariants as reply
 use Rattle.vm_model.specs.declared.config.Config.{Config}
 use Rattle.vm_model.specs.Config.{setup_of}
-use Rattle.vm_model.specs.Space.{span, end_of, holds, covers, count_from, pages_of, is_among, paint, put_by, lowest, runs, address_of}
+use Rattle.vm_model.specs.Space.{span, end_of, holds, covers, count_from, is_among, paint, put_by, lowest, runs, address_of}
 use Rattle.vm_model.specs.PlainMap.{Mark, Free, Held, Live, Waits, Flushing, is_free}
 use Rattle.vm_model.specs.Frames.{free_frames, give_frames}
 use Rattle.vm_model.specs.Events.{Section, Event, ForPages, Carve, Drop, Settle, MapPages, NoFrames}
-use Rattle.vm_model.specs.Legal.{OnEach, IsBare, IsMarked}
-use Rattle.vm_model.specs.Places.{Made, MadeNothing, MadeArea, Place, Finding, MappingArea, Dropping, SettlingArea, ForArea}
-use Rattle.vm_model.specs.LegalHistory.{IsRun, world_after}
+use Rattle.vm_model.specs.Legal.{IsBare}
+use Rattle.vm_model.specs.Places.{MadeNothing, MadeArea, Finding, Dropping, SettlingArea, ForArea}
 use Rattle.vm_model.proofs.Elements.{slice_get-replicate}
 use Rattle.vm_model.proofs.Paint.{slice_get-paint}
-use Rattle.vm_model.proofs.PaintRuns.{map-paint, paint_twice, paint_there, length-paint, AreFreePlaces, lowest_is_free}
+use Rattle.vm_model.proofs.PaintRuns.{map-paint, paint_twice, paint_there, length-paint, lowest_is_free}
 use Rattle.vm_model.proofs.FramesGiven.{AreUnmappedOnce, unmapped_in_order, length-give_frames, slice_get-give_frames_other, count-give_frames, count-free_frames-give_frames}
 use Rattle.vm_model.proofs.Search.{length-count_from}
 use Rattle.augmented_tree.specs.FreeBlocks.{AreFreeRuns}
 use Rattle.trace_replay.specs.declared.one_caller.OneCaller.{OneCaller}
-use Rattle.trace_replay.specs.OneCaller.{Stage, map_of, local_of, world_of, world_between, is_taken, Keeps, IsAnsweredAt}
+use Rattle.trace_replay.specs.OneCaller.{Stage, map_of, is_taken, Keeps, IsAnsweredAt}
 use Rattle.trace_replay.specs.Found.{Leaves, Makes, IsSettled, IsDropped, area_at}
 use Rattle.trace_replay.proofs.CallsMade.{by_caller, ended, ends}
 

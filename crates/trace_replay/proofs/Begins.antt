@@ -1,5 +1,5 @@
 -- Where a vmalloc call begins, and what its search found.
-use Rattle.std.proofs.Common.{◌≡◌, ℕ, ◌+◌, ◌-◌, ◌/◌, ◌<◌, ◌≤◌, Bool, true, false, not, ◌||◌, ◌==◌, nat_lt, if◌then◌else◌, List, [], ◌∷◌, slice_get, length, map, Option, Some, None, option_map, refl, sym, ap, ◌∙◌, subst, arith, ◌⊎◌, inl, inr, ◌≢◌}
+use Rattle.std.proofs.Common.{◌≡◌, ℕ, ◌+◌, ◌<◌, ◌≤◌, Bool, true, false, not, ◌==◌, nat_lt, if◌then◌else◌, List, [], slice_get, length, Option, Some, None, option_map, refl, sym, ap, ◌∙◌, subst, arith, ◌⊎◌, inl, inr, ◌≢◌}
 use Rattle.std.proofs.lemmas.Bool.Decides.{nat_tests}
 use Rattle.std.specs.Int.{div_ceil}
 use Rattle.vm_model.specs.declared.areas.Span.{Span}
@@ -9,7 +9,6 @@ use Rattle.vm_model.specs.declared.calls.Call.TheVariants.{Vmalloc}
 use Rattle.vm_model.specs.declared.calls.Reply.TheVariants as reply
 use Rattle.vm_model.specs.declared.config.Config.{Config}
 use Rattle.vm_model.specs.Config.{setup_of}
-use Rattle.vm_model.specs.Setup.{Setup}
 use Rattle.vm_model.specs.Space.{span, holds, covers, paint, lowest, runs, is_open}
 use Rattle.vm_model.proofs.Runs.{covers-runs}
 use Rattle.vm_model.proofs.Paint.{slice_get-paint}

@@ -1,9 +1,6 @@
 -- The runs of events that a vmalloc call makes.
-use Rattle.std.proofs.Common.{◌≡◌, ℕ, zero, suc, ◌+◌, ◌-◌, ◌<◌, ◌≤◌, Bool, true, false, not, ◌&&◌, ◌||◌, if◌then◌else◌, List, [], ◌∷◌, ◌++◌, length, map, replicate, slice_get, count_by, is_some, Option, Some, None, option_map, refl, sym, ap, ◌∙◌, subst, arith, length-append, inl, inr}
+use Rattle.std.proofs.Common.{◌≡◌, ℕ, suc, ◌+◌, false, List, [], ◌∷◌, ◌++◌, length, map, slice_get, count_by, is_some, Option, Some, None, refl, sym, ap, ◌∙◌, arith, length-append, inr}
 use Rattle.std.proofs.lemmas.List.{append_assoc}
-use Rattle.std.proofs.lemmas.Bool.Decides.{nat_tests}
-use Rattle.vm_model.specs.declared.areas.Span.{Span}
-use Rattle.vm_model.specs.declared.areas.Area.{Area}
 use Rattle.vm_model.specs.declared.areas.AreaKind.TheVariants as kind
 use Rattle.vm_model.specs.declared.calls.Call.{Call}
 use Rattle.vm_model.specs.declared.calls.Call.TheVariants.{Vmalloc}
@@ -11,18 +8,17 @@ use Rattle.vm_model.specs.declared.calls.Reply.{Reply}
 use Rattle.vm_model.specs.declared.calls.Reply.TheVariants as reply
 use Rattle.vm_model.specs.declared.config.Config.{Config}
 use Rattle.vm_model.specs.Config.{setup_of}
-use Rattle.vm_model.specs.Space.{span, holds, covers, paint, lowest, runs}
-use Rattle.vm_model.specs.PlainMap.{Mark, Free, Held, Live, Flushing}
-use Rattle.vm_model.specs.Events.{Section, Event, Search, ForPages, Refuse, TakePurge, GivePurge, Carve, NoHole, Drop, Settle, TakeWaiting, MapPages, NoFrames, Fragment}
-use Rattle.vm_model.specs.Places.{Made, MadeNothing, MadeArea, Place, Refusing, Finding, FindingAgain, MappingArea, Dropping, SettlingArea, ForArea}
+use Rattle.vm_model.specs.Space.{covers, paint, lowest, runs}
+use Rattle.vm_model.specs.PlainMap.{Mark, Flushing}
+use Rattle.vm_model.specs.Events.{Section, Event, ForPages, Refuse, TakePurge, GivePurge, NoHole, TakeWaiting, Fragment}
+use Rattle.vm_model.specs.Places.{Made, MadeNothing, Place, Refusing, Finding, FindingAgain, ForArea}
 use Rattle.vm_model.specs.Next.{Answer}
-use Rattle.vm_model.specs.Calls.{Answered, begin}
+use Rattle.vm_model.specs.Calls.{begin}
 use Rattle.vm_model.specs.Frames.{free_frames}
-use Rattle.vm_model.specs.History.{World, Local, moved_to, answered_of}
-use Rattle.vm_model.specs.LegalHistory.{IsRun, world_after}
+use Rattle.vm_model.specs.History.{moved_to, answered_of}
 use Rattle.vm_model.proofs.PaintRuns.{paint_nowhere}
 use Rattle.trace_replay.specs.declared.one_caller.OneCaller.{OneCaller}
-use Rattle.trace_replay.specs.OneCaller.{Stage, map_of, local_of, world_of, next_place, world_between, is_taken, Keeps, IsAnsweredAt}
+use Rattle.trace_replay.specs.OneCaller.{Stage, map_of, local_of, world_of, world_between, is_taken, Keeps, IsAnsweredAt}
 
 abbrev pub by_caller : Section → Event
 by_caller s = record { caller = 0; section = s }

@@ -1,5 +1,5 @@
 -- The history of calls that were all answered, and its tables.
-use Rattle.std.proofs.Common.{◌≡◌, ℕ, zero, suc, ◌+◌, ◌-◌, ◌*◌, ◌≤◌, ◌<◌, Bool, true, false, cond, not, ◌==◌, List, [], ◌∷◌, ◌++◌, length, map, replicate, flat_map, slice_get, slice_index, count_by, is_some, Option, Some, None, refl, sym, ap, ◌∙◌, subst, arith, append-nil}
+use Rattle.std.proofs.Common.{◌≡◌, ℕ, zero, suc, ◌+◌, ◌-◌, ◌≤◌, ◌<◌, Bool, false, cond, ◌==◌, List, [], ◌∷◌, ◌++◌, length, map, replicate, slice_index, count_by, None, refl, sym, ap, ◌∙◌, subst, arith, append-nil}
 use Rattle.std.proofs.lemmas.Option.{slice_get_past}
 use Rattle.vm_model.specs.declared.calls.Call.{Call}
 use Rattle.vm_model.specs.declared.calls.Entry.{Entry}
@@ -7,18 +7,18 @@ use Rattle.vm_model.specs.declared.tables.Tables.{Tables}
 use Rattle.vm_model.specs.declared.config.Config.{Config}
 use Rattle.vm_model.specs.Config.{setup_of}
 use Rattle.vm_model.specs.Events.{Event}
-use Rattle.vm_model.specs.Places.{Place, Over, AskNothing}
+use Rattle.vm_model.specs.Places.{Over}
 use Rattle.vm_model.specs.Calls.{Answered, begin}
-use Rattle.vm_model.specs.History.{World, Local, started, with_callers, opening_world, finish, most_events, history_of, first_mover}
+use Rattle.vm_model.specs.History.{World, started, with_callers, opening_world, finish, most_events, history_of}
 use Rattle.std.proofs.lemmas.List.Sums.{sum_by-cons}
 use Rattle.vm_model.specs.Space.{count_from, runs, longest_of}
 use Rattle.vm_model.specs.Tables.{tables_of, numbers_of, noted}
 use Rattle.vm_model.specs.Tables as tables
 use Rattle.vm_model.specs.Laws.{IsOneLegalHistory}
-use Rattle.vm_model.specs.LegalHistory.{IsRun, world_after, AllOver}
-use Rattle.vm_model.proofs.Finishes.{alone, finish-run, finish_over, AreByFirst, first_makes}
+use Rattle.vm_model.specs.LegalHistory.{world_after, AllOver}
+use Rattle.vm_model.proofs.Finishes.{finish-run, finish_over, AreByFirst, first_makes}
 use Rattle.trace_replay.specs.declared.one_caller.OneCaller.{OneCaller}
-use Rattle.trace_replay.specs.OneCaller.{Stage, map_of, local_of, world_of, world_between, next_place, Keeps, HasAnswered, AreNumbered, first_stage, entries_from, room_of, is_taken, tables_after}
+use Rattle.trace_replay.specs.OneCaller.{Stage, map_of, local_of, world_of, world_between, next_place, HasAnswered, AreNumbered, first_stage, entries_from, room_of, is_taken, tables_after}
 
 -- the place once all calls are answered
 over : (config : Config) (calls : List Call) (answers : List Answered) → length answers ≡ length calls → next_place config calls answers ≡ Over

@@ -1,10 +1,10 @@
 -- The worked traces are traces, their reports compute, and what may be written for them is short.
-use Rattle.std.proofs.Common.{◌≡◌, ◌≤◌, List, ℕ, length, refl, sym, ap, ◌∙◌, subst, arith, lit≤}
+use Rattle.std.proofs.Common.{◌≡◌, ◌≤◌, List, ℕ, length, refl, ap, ◌∙◌, subst, arith, lit≤}
 use lib.Count.{ones}
 use Rattle.std.specs.Fmt.{digits}
 use Rattle.vm_model.specs.History.{finish, history_of}
 use Rattle.trace_text.specs.Reading.{Reading, unread}
-use Rattle.trace_text.specs.Grammar.{IsTraceOf, IsFirstBadLine}
+use Rattle.trace_text.specs.Grammar.{IsTraceOf}
 use Rattle.trace_text.specs.Built.{built_for_vmalloc}
 use Rattle.trace_text.proofs.Outcomes.{Outcome, Whole, Bad, reads, reads-whole}
 use Rattle.trace_text.proofs.Exclusive.{one_trace, trace_or_bad}

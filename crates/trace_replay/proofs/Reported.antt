@@ -1,10 +1,9 @@
 -- What a report says of counters where the header names none.
-use Rattle.std.proofs.Common.{◌≡◌, ◌≤◌, ℕ, ap, ◌∙◌, refl, sym, subst, List, [], length}
+use Rattle.std.proofs.Common.{◌≡◌, ◌≤◌, ℕ, ap, sym, subst, List, [], length}
 use Rattle.trace_text.specs.Grammar.{IsTraceOf}
 use Rattle.trace_text.specs.Built.{built_for_vmalloc}
 use Rattle.trace_replay.specs.declared.answer.Outcome.{Outcome}
 use Rattle.trace_replay.specs.Headline.{Writes, Reports, most_bytes}
-use Rattle.vm_model.specs.declared.rows.CounterRow.{CounterRow}
 use Rattle.trace_text.specs.Reading.{Reading, Header, cpus_of}
 use Rattle.trace_text.specs.CounterTotals.{counter_rows}
 use Rattle.trace_replay.specs.Thin.{IsThin}

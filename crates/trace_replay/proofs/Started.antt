@@ -1,11 +1,11 @@
 -- The allocator before the first call, and the elements of a list one after another.
-use Rattle.std.proofs.Common.{◌≡◌, ℕ, zero, suc, ◌+◌, ◌<◌, ◌≤◌, ◌⊎◌, inl, inr, Bool, true, false, List, [], ◌∷◌, ◌++◌, length, map, take, replicate, slice_get, count_by, is_some, Option, Some, None, refl, sym, ap, ◌∙◌, subst, arith}
+use Rattle.std.proofs.Common.{◌≡◌, ℕ, zero, suc, ◌+◌, ◌<◌, ◌≤◌, ◌⊎◌, inl, inr, false, List, [], ◌∷◌, ◌++◌, map, take, replicate, slice_get, Option, Some, None, refl, sym, ap, ◌∙◌, arith}
 use Rattle.std.proofs.lemmas.List.{length-replicate}
 use Rattle.std.proofs.lemmas.Option.{slice_get_past}
 use Rattle.vm_model.specs.declared.config.Config.{Config}
 use Rattle.vm_model.specs.Config.{setup_of}
 use Rattle.vm_model.specs.Space.{runs}
-use Rattle.vm_model.specs.PlainMap.{Mark, Free}
+use Rattle.vm_model.specs.PlainMap.{Free}
 use Rattle.vm_model.proofs.Elements.{slice_get-replicate}
 use Rattle.vm_model.proofs.FramesGiven.{count-free_frames-at_first, count_mapped-at_first}
 use Rattle.augmented_tree.specs.FreeBlocks.{AreFreeRuns}

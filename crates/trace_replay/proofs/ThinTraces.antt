@@ -1,13 +1,12 @@
 -- A trace of the built words is one opening of vmalloc calls.
-use Rattle.std.proofs.Common.{◌≡◌, ℕ, zero, suc, ◌+◌, ◌<◌, ◌≤◌, Bool, true, false, cond, ◌&&◌, ◌||◌, ◌==◌, nat_lt, nat_le, min, ◌-◌, List, [], ◌∷◌, ◌++◌, length, map, filter, slice_get, Option, Some, None, IsTrue, refl, sym, ap, ◌∙◌, subst, arith, length-append, codes}
+use Rattle.std.proofs.Common.{◌≡◌, ℕ, zero, suc, ◌+◌, ◌<◌, ◌≤◌, Bool, true, false, cond, ◌&&◌, ◌||◌, ◌==◌, nat_lt, nat_le, min, ◌-◌, List, [], ◌∷◌, ◌++◌, length, map, filter, Some, refl, sym, ap, ◌∙◌, subst, arith, length-append}
 use Rattle.std.proofs.lemmas.Bool.Decides.{nat_tests}
 use Rattle.std.proofs.lemmas.List.{length-map}
-use Rattle.vm_model.specs.declared.calls.Call.{Call}
 use Rattle.vm_model.specs.declared.calls.Call.TheVariants as call
 use Rattle.vm_model.specs.Rules.{IsVmallocCall}
-use Rattle.trace_text.specs.Lines.{Line, Version, Space, Frames, Lazy, Blocks, Units, GroupOf, Callers, Counters, Caller, Vmalloc, Vfree, MapRam, UnmapRam, UnmapAliases, AllocPercpu, AllocAtomic, FreePercpu, Add, Sum, Balance, Count, Order, End, word_of, is_spelt}
-use Rattle.trace_text.specs.Reading.{Reading, Made, Header, default_header, unread, calls_of}
-use Rattle.trace_text.specs.Grammar.{IsTraceOf, stands, may_stand, all_stand, read, read_all, follows, repeats, is_new, has_room, rank_of, is_allowed, is_ended}
+use Rattle.trace_text.specs.Lines.{Line, Version, Space, Frames, Lazy, Blocks, Units, GroupOf, Callers, Counters, Caller, Vmalloc, Vfree, MapRam, UnmapRam, UnmapAliases, AllocPercpu, AllocAtomic, FreePercpu, Add, Sum, Balance, Count, Order, End, is_spelt}
+use Rattle.trace_text.specs.Reading.{Reading, Made, Header, unread, calls_of}
+use Rattle.trace_text.specs.Grammar.{IsTraceOf, stands, all_stand, read, read_all, follows, repeats, is_new, has_room, is_allowed}
 use Rattle.trace_text.specs.Built.{built_for_vmalloc}
 use Rattle.trace_text.specs.Held.{header_of}
 use Rattle.trace_replay.specs.OneCaller.{AreVmalloc}

@@ -1,5 +1,5 @@
 -- What is said and written of an outcome once it was told to a sink.
-use Rattle.std.proofs.Common.{◌≡◌, ◌≢◌, ◌≤◌, ◌<◌, ◌⊎◌, inl, inr, ℕ, List, [], ◌∷◌, ◌++◌, length, take, Option, Some, None, refl, sym, ap, ◌∙◌, subst, arith}
+use Rattle.std.proofs.Common.{◌≡◌, ◌≢◌, ◌≤◌, ◌<◌, ◌⊎◌, inl, inr, ℕ, List, ◌++◌, length, Option, Some, None, refl, sym, ◌∙◌, subst, arith}
 use Rattle.trace_text.specs.declared.faults.Fault.TheVariants as fault
 use Rattle.trace_text.specs.Reading.{Reading}
 use Rattle.trace_text.specs.Grammar.{IsTraceOf}
@@ -10,7 +10,7 @@ use Rattle.trace_replay.specs.Streams.{Rose}
 use Rattle.trace_replay.specs.declared.answer.Outcome.{Outcome}
 use Rattle.trace_replay.specs.declared.status.Status.{Status}
 use Rattle.trace_replay.specs.declared.status.Status.TheVariants.{Done, BadTrace, Unbuilt, Usage, OutOfMemory, ReadFault, WriteFault, TooLong}
-use Rattle.trace_replay.specs.Headline.{Writes, IsWritten, IsRead, Answers, HasRoomFor, IsTold, IsRefused, IsSilent, most_bytes}
+use Rattle.trace_replay.specs.Headline.{Writes, IsWritten, IsRead, Answers, HasRoomFor, IsTold, IsSilent, most_bytes}
 
 -- a source that gave too many bytes
 
@@ -96,6 +96,7 @@ not_silent status text answer first after b n read memory told silent = loud ans
     loud TooLong silent read memory = silent
     loud Usage silent read memory = silent
     loud WriteFault silent read memory = silent
+
     no_memory : (status : Status) (text : List ℕ) (answer : Status) (first after : Option (List ℕ)) (b n : ℕ) → status ≢ OutOfMemory → IsTold status text answer first after b n → answer ≢ OutOfMemory
     no_memory status text answer first after b n s (inl told) = λ e. s (sym told.0 ∙ e)
     no_memory status text answer first after b n s (inr failed) = λ e. let no = failed.0 in cc

@@ -1,5 +1,5 @@
 -- What is written for the bytes of a trace: the report of its one history, or the line that tells what is wrong.
-use Rattle.std.specs.Prelude.{◌≡◌, ◌≢◌, ◌⊎◌, ◌<◌, ◌≤◌, ◌++◌, ℕ, List, [], ◌∷◌, map, take, length, false, codes, Option, Some, None}
+use Rattle.std.specs.Prelude.{◌≡◌, ◌⊎◌, ◌<◌, ◌≤◌, ◌++◌, ℕ, List, [], ◌∷◌, map, take, length, false, codes, Option, Some, None}
 use Rattle.std.specs.List.{range_with_len}
 use Rattle.vm_model.specs.declared.calls.Call.{Call}
 use Rattle.vm_model.specs.Setup.{Setup}

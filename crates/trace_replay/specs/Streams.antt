@@ -1,5 +1,5 @@
 -- What a read and a write do to the bytes and the counts that a source and a sink tell.
-use Rattle.std.specs.Prelude.{◌≡◌, ℕ, ◌+◌, ◌-◌, ◌<◌, ◌≤◌, ◌⊎◌, List, [], ◌++◌, length, take, drop, Option, Some, None, Result, Ok, Err}
+use Rattle.std.specs.Prelude.{◌≡◌, ℕ, ◌-◌, ◌<◌, ◌≤◌, ◌⊎◌, List, [], ◌++◌, length, take, drop, Option, Some, Result, Ok, Err}
 
 -- the last value of a count, at which it stays
 abbrev pub last_count : ℕ

@@ -1,6 +1,5 @@
 -- What a trace of the built words tells: one opening of vmalloc calls.
-use Rattle.std.specs.Prelude.{◌≡◌, ℕ, ◌≤◌, List, [], length}
-use Rattle.vm_model.specs.declared.calls.Call.{Call}
+use Rattle.std.specs.Prelude.{◌≡◌, ◌≤◌, [], length}
 use Rattle.trace_text.specs.Held.{header_of}
 use Rattle.trace_text.specs.Reading.{Reading, calls_of}
 use Rattle.trace_replay.specs.OneCaller.{AreVmalloc}

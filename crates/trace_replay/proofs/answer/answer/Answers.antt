@@ -1,4 +1,3 @@
-use Rattle.std.proofs.Common.{ap, ◌≡◌, List, ℕ}
 use Rattle.std.proofs.lemmas.Result.{IfOk-weaker}
 use Rattle.trace_text.specs.Reading.{Reading}
 use Rattle.trace_text.specs.Told.{Tells}

@@ -1,4 +1,4 @@
-use Rattle.std.proofs.Common.{◌∙◌, ap, sym, refl, false, [], List}
+use Rattle.std.proofs.Common.{◌∙◌, ap, sym, refl, false, List}
 use Rattle.vm_model.specs.declared.rows.CounterRow.{CounterRow}
 use Rattle.vm_model.specs.declared.tables.Tables.{Tables}
 use Rattle.vm_model.specs.Tables.{tables_of}

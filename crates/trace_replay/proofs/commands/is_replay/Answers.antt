@@ -1,4 +1,4 @@
-use Rattle.std.proofs.Common.{◌≡◌, ◌∙◌, sym, ap, codes, List, ℕ, [], ◌∷◌, map, string_bytes, arith}
+use Rattle.std.proofs.Common.{◌∙◌, sym, ap, codes, List, ℕ, [], ◌∷◌, map, string_bytes, arith}
 use Rattle.std.proofs.lemmas.Slice.Eq.{bytes_eq-Decides}
 use Rattle.trace_replay.proofs.OneWord.{one_word, only_word}
 use Rattle.trace_replay.proofs.commands.is_replay.Goals as goal

@@ -1,4 +1,3 @@
-use Rattle.std.proofs.Common.{◌≡◌}
 use Rattle.trace_replay.proofs.Told.{too_long_reads}
 use Rattle.trace_replay.proofs.commands.outcome_of.Goals as goal
 

@@ -1,5 +1,4 @@
-use Rattle.std.proofs.Common.{◌∙◌, ◌++◌, ◌∷◌, [], sym, ap, take, arith}
-use Rattle.vm_model.specs.declared.areas.Span.{Span}
+use Rattle.std.proofs.Common.{◌∙◌, ◌++◌, ◌∷◌, [], sym, ap, arith}
 use Rattle.std.proofs.lemmas.List.{take_all}
 use Rattle.trace_replay.proofs.Started.{take_more}
 use Rattle.trace_replay.proofs.one_caller.OneCaller.free_blocks.Goals as goal

@@ -1,6 +1,5 @@
-use Rattle.std.proofs.Common.{◌≡◌, ◌≤◌, ◌∙◌, ◌||◌, Bool, true, false, List, [], ◌∷◌, length, ap, refl, inr, arith}
-use Rattle.vm_model.specs.declared.areas.Span.{Span}
-use Rattle.vm_model.specs.Space.{holds, covers, paint, runs}
+use Rattle.std.proofs.Common.{◌∙◌, false, [], ◌∷◌, length, ap, refl, inr}
+use Rattle.vm_model.specs.Space.{holds, covers, runs}
 use Rattle.vm_model.proofs.PaintRuns.{same_paint}
 use Rattle.trace_replay.proofs.AreasMade.{one_span, all_one}
 use Rattle.trace_replay.proofs.one_caller.OneCaller.make_area.Goals as goal

@@ -1,7 +1,5 @@
-use Rattle.std.proofs.Common.{◌≡◌, ◌+◌, ◌≤◌, ◌<◌, ◌∙◌, sym, ap, subst, arith, true, false, ◌||◌, ◌==◌, nat_lt, not, refl, Some, None, inl, inr, map}
-use Rattle.std.proofs.lemmas.Bool.Decides.{nat_tests}
+use Rattle.std.proofs.Common.{◌≡◌, ◌+◌, ◌∙◌, sym, ap, subst, arith, true, false, not, inl, inr, map}
 use Rattle.vm_model.specs.declared.calls.Call.TheVariants.{Vmalloc}
-use Rattle.vm_model.specs.declared.calls.Reply.{Reply}
 use Rattle.vm_model.specs.declared.calls.Reply.TheVariants as reply
 use Rattle.std.proofs.lemmas.Result.{IfOk-weaker}
 use Rattle.vm_model.specs.declared.areas.AreaKind.TheVariants as kind
