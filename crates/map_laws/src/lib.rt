@@ -1,0 +1,11 @@
+//! Laws of the plain map: what holds after each event of every legal history.
+#![tactic(auto)]
+
+ghost use Rattle.map_laws.specs.Turns.{TheTurnsAreKept};
+ghost use Rattle.vm_model.specs.Laws.{ThePurgeTurnIsTakenLast};
+
+/// Each of the two turns is with the one caller whose place has it, and the purge turn is taken last.
+pub fn turns()
+    ensures kept { TheTurnsAreKept }
+    ensures purge_last { ThePurgeTurnIsTakenLast }
+{}
