@@ -5,3 +5,8 @@ pub mod TurnSections
 pub mod TurnMoves
 pub mod TurnPlaces
 pub mod TurnProofs
+pub mod Chosen
+pub mod ChunkFalls
+pub mod ChunkRoom
+pub mod Left
+pub mod GivenMeets

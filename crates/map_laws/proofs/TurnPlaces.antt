@@ -32,7 +32,7 @@ either_has has true v x y p q = p
 either_has has false v x y p q = q
 
 -- a turn that is taken was nobody's
-taking_is : (o : Option ℕ) (x s : Section) → taking o x ≡ Some s → (o ≡ None) × (s ≡ x)
+pub taking_is : (o : Option ℕ) (x s : Section) → taking o x ≡ Some s → (o ≡ None) × (s ≡ x)
 taking_is None x s e = (refl, cc)
 taking_is (Some holder) x s e = cc
 
