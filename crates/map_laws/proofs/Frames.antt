@@ -80,7 +80,7 @@ own_callers c answers first (own ∷ calls) zero l h =
     subst (λ i. IsOwn c i l) n (subst (λ (x : Local). IsOwn c first x) e (own_started c answers first own _ refl))
 own_callers c answers first (own ∷ calls) (suc j) l h = let n : suc first + j ≡ first + suc j = omega arith in subst (λ i. IsOwn c i l) n (own_callers c answers (suc first) calls j l h)
 
-framed_callers : (c : Setup) (calls : List (List Call)) (w : World) → length w.locals ≡ 1 → IsFramed c w → IsFramed c (with_callers c calls w)
+pub framed_callers : (c : Setup) (calls : List (List Call)) (w : World) → length w.locals ≡ 1 → IsFramed c w → IsFramed c (with_callers c calls w)
 framed_callers c calls w one framed = record {
   own = λ k l h. elim (append_cases w.locals (callers_from c (opening_answers w.locals) 1 calls) k l h) [
     | inl e ↦ framed.own k l e

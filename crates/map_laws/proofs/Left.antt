@@ -178,14 +178,14 @@ module _ (c : Setup) where
   added_left chunk base bytes align (Some q) p e = omega arith
 
   module _ (m : PlainMap) (units : 8 ≤ c.unit_pages) where
-    chunk_left : (base chunk bytes align : ℕ) (s : Section) → bytes ≤ 32768 → given c m (AskAddChunk chunk base bytes align) ≡ Some s
+    pub chunk_left : (base chunk bytes align : ℕ) (s : Section) → bytes ≤ 32768 → given c m (AskAddChunk chunk base bytes align) ≡ Some s
         → left_next c (after_place bytes align 0 (placed s)) + added c s < 4 + chunk_cost c
     chunk_left base chunk bytes align s few e =
         let room = new_chunk_has_room c chunk base bytes align m.chunks units few in
         let is : placing_new chunk base bytes align (placement c (plain_fit c bytes align) bytes (m.chunks ++ new_chunk c chunk base ∷ [])) ≡ s = cc in
         subst (λ (x : Section). left_next c (after_place bytes align 0 (placed x)) + added c x < 4 + chunk_cost c) is (added_left chunk base bytes align _ room.0 room.1)
 
-    step_falls : (p : Place) (s : Section) → is_balancing p ≡ false → adds_chunk p ≡ false → IsProper c p → given c m (ask c p) ≡ Some s → left_next c (next c p s) < left c p
+    pub step_falls : (p : Place) (s : Section) → is_balancing p ≡ false → adds_chunk p ≡ false → IsProper c p → given c m (ask c p) ≡ Some s → left_next c (next c p s) < left c p
     step_falls Over s n a is e = cc
     step_falls (Refusing reply) s n a is e = omega arith
     step_falls (Finding search aim) s n a is e = (found_left aim (carved s) (carved_base s) _ (10 + cpus c + left_aim c aim) (omega arith) (omega arith))

@@ -10,3 +10,8 @@ pub mod ChunkFalls
 pub mod ChunkRoom
 pub mod Left
 pub mod GivenMeets
+pub mod Filling
+pub mod Sizes
+pub mod StepFalls
+pub mod Potential
+pub mod EndProofs

@@ -9,3 +9,14 @@ pub fn turns()
     ensures kept { TheTurnsAreKept }
     ensures purge_last { ThePurgeTurnIsTakenLast }
 {}
+
+ghost use Rattle.map_laws.specs.Ends.{EveryRunEnds, HistoriesAreShort};
+ghost use Rattle.vm_model.specs.Laws.{MoreFuelChangesNothing};
+
+/// Every run ends: each reached world leads to one in which every caller has ended, in fewer events than a history may
+/// have.
+pub fn ends()
+    ensures every_run_ends { EveryRunEnds }
+    ensures short { HistoriesAreShort }
+    ensures more_fuel { MoreFuelChangesNothing }
+{}
