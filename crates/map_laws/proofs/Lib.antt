@@ -15,3 +15,11 @@ pub mod Sizes
 pub mod StepFalls
 pub mod Potential
 pub mod EndProofs
+pub mod Spans
+pub mod Touched
+pub mod AreaFacts
+pub mod MapMoves
+pub mod Quiet
+pub mod PlaceMoves
+pub mod WaitMoves
+pub mod OutMoves
