@@ -23,3 +23,5 @@ pub mod Quiet
 pub mod PlaceMoves
 pub mod WaitMoves
 pub mod OutMoves
+pub mod InnerMoves
+pub mod AreaMoves

@@ -42,7 +42,7 @@ first_or a x xs h = by_place h.place h.at
     by_place zero e = inl (let same : x ≡ a = cc in sym same)
     by_place (suc i) e = inr (record { place = i; at = e })
 
-times_in : (page : ℕ) (spans : List Span) → 1 ≤ times page spans → covers spans page ≡ true
+pub times_in : (page : ℕ) (spans : List Span) → 1 ≤ times page spans → covers spans page ≡ true
 times_in page spans h = by_in (in_spans page spans)
   where
     by_in : InSpans page spans → covers spans page ≡ true
@@ -198,7 +198,7 @@ module _ (c : Setup) (m : PlainMap) (k : ℕ) (fine : IsMapFine m) where
   -- An area is taken out.
 
   -- the areas that stay don't have its pages
-  stays_apart : (q r : Area → Bool) (other : (a : Area) → r a ≡ not (q a)) (page : ℕ) → times page (spans_of m.areas) ≤ 1 → 1 ≤ times page (spans_of (filter q m.areas)) → times page (spans_of (filter r m.areas)) ≡ 0
+  pub stays_apart : (q r : Area → Bool) (other : (a : Area) → r a ≡ not (q a)) (page : ℕ) → times page (spans_of m.areas) ≤ 1 → 1 ≤ times page (spans_of (filter q m.areas)) → times page (spans_of (filter r m.areas)) ≡ 0
   stays_apart q r other page once h = omega (arith, times_both page q r other m.areas)
 
   module _ (p : Place) (s : Section) (q r : Area → Bool) (other : (a : Area) → r a ≡ not (q a)) (once : (page : ℕ) → own_uses c m p page ≤ 1)
@@ -220,7 +220,7 @@ module _ (c : Setup) (m : PlainMap) (k : ℕ) (fine : IsMapFine m) where
     pub out_source : (page : ℕ) → touch c m s page ≡ true → 1 ≤ times page (spans_of m.areas)
     out_source page t = let a = removed page t in omega (arith, times_both page q r other m.areas)
 
-    out_free : (test : ℕ → Bool) → (effect_as c m k s).marks ≡ paint test (Held k) m.marks → (page : ℕ) → as_free (slice_get (effect_as c m k s).marks page) ≤ as_free (slice_get m.marks page)
+    pub out_free : (test : ℕ → Bool) → (effect_as c m k s).marks ≡ paint test (Held k) m.marks → (page : ℕ) → as_free (slice_get (effect_as c m k s).marks page) ≤ as_free (slice_get m.marks page)
     out_free test e page = let now = ap (λ l. as_free (slice_get l page)) e in omega (arith, painted_free test (Held k) m.marks page refl, zero_or (test page) (as_free (slice_get m.marks page)))
       where
         zero_or : (b : Bool) (n : ℕ) → (if b then 0 else n) ≤ n
