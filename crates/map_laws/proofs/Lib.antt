@@ -25,3 +25,4 @@ pub mod WaitMoves
 pub mod OutMoves
 pub mod InnerMoves
 pub mod AreaMoves
+pub mod AreaWorlds
