@@ -124,9 +124,10 @@ module _ (c : Setup) (m : PlainMap) (k : ℕ) (fine : IsMapFine m) where
     where
       settled_news : (place : Span) (kd : AreaKind) (first : ℕ) → IsHolding c m k (SettlingArea place kd) → (i : ℕ) (a : Area) → slice_get (areas_of k first ((place, kd) ∷ [])) i ≡ Some a → IsPlainKind a.kind
           → OnEach (mapped_part a.kind a.span ∷ []) (IsMapped m) × OnEach (guard_part a.kind a.span ∷ []) (IsUnmapped m)
-      settled_news place kd first own zero a h plain = let ks : kd ≡ a.kind = cc in let ss : place ≡ a.span = cc in
-          ((λ page g. own.mapped page (ap (λ kd. covers (mapped_part kd place ∷ []) page) ks ∙ ap (λ s. covers (mapped_part a.kind s ∷ []) page) ss ∙ g)),
-            (λ page g. own.unmapped page (ap (λ kd. covers (guard_part kd place ∷ []) page) ks ∙ ap (λ s. covers (guard_part a.kind s ∷ []) page) ss ∙ g)))
+      settled_news place kd first own zero a h plain = let ks : kd ≡ a.kind = cc in let ss : place ≡ a.span = cc in (
+        (λ page g. own.mapped page (ap (λ kd. covers (mapped_part kd place ∷ []) page) ks ∙ ap (λ s. covers (mapped_part a.kind s ∷ []) page) ss ∙ g)),
+        (λ page g. own.unmapped page (ap (λ kd. covers (guard_part kd place ∷ []) page) ks ∙ ap (λ s. covers (guard_part a.kind s ∷ []) page) ss ∙ g)),
+      )
       settled_news place kd first own (suc i) a h plain = cc
   moved_by (SettlingBlock place cpu pages) s is own once out e w legal = as_section (SettlingBlock place cpu pages) s _ w.1 legal
       (λ l. settle_moved c m k fine (SettlingBlock place cpu pages) ((place, kind.Block cpu) ∷ []) w.0 once refl refl own.held (block_news place cpu w.0) _ refl)
@@ -137,7 +138,7 @@ module _ (c : Setup) (m : PlainMap) (k : ℕ) (fine : IsMapFine m) where
       block_news place cpu first (suc i) a h plain = cc
   moved_by (SettlingGroups base chunk bytes align) s is own once out e w legal = as_section (SettlingGroups base chunk bytes align) s _ w.1 legal
       (λ l. settle_moved c m k fine (SettlingGroups base chunk bytes align) (group_areas c chunk base) w.0 once (sym (group_spans chunk 0 (groups_at c base))) refl own.held
-        (λ i a h plain. absurd (group_inner k w.0 chunk 0 (groups_at c base) i a h plain)) _ refl)
+      (λ i a h plain. absurd (group_inner k w.0 chunk 0 (groups_at c base) i a h plain)) _ refl)
   moved_by (Removing start serial) s is own once out e w legal =
       let same : removal start serial (named_areas start serial m.areas) ≡ s = cc in
       subst (λ (x : Section). IsMoved c m k (Removing start serial) x (after_remove (removed x))) same (removal_moved start serial once out (named_areas start serial m.areas) (subst (IsLegalAs c m k) (sym same) legal))
@@ -158,24 +159,24 @@ module _ (c : Setup) (m : PlainMap) (k : ℕ) (fine : IsMapFine m) where
       (λ l. unlink_moved c m k fine (UnlinkingGroups base) (group_starts c base) (groups_at c base) once out refl _ (to_waiting c m k fine (UnlinkingGroups base) (group_starts c base) (groups_at c base) once out SpareAgain))
   moved_by (MappingPart at) s is own once out e (inl w) legal = as_section (MappingPart at) s _ w legal
       (λ l. inner_moved c m k fine (MappingPart at) (MapPages (mapped_pages at)) once refl refl refl (fine.long ∙ sym (length-give_frames (pages_of (mapped_pages at)) (free_frames c m.frames) m.frames))
-        (λ page t. out page (covers_one (mapped_pages at) page ∙ t)) refl _ (unbearing_next c (MappingPart at) (MapPages (mapped_pages at)) refl))
+      (λ page t. out page (covers_one (mapped_pages at) page ∙ t)) refl _ (unbearing_next c (MappingPart at) (MapPages (mapped_pages at)) refl))
   moved_by (MappingPart at) s is own once out e (inr w) legal = as_section (MappingPart at) s _ w legal (λ l. quiet_moved c m k fine (MappingPart at) once (NoFrames at.pages) _ refl (unbearing_next c (MappingPart at) (NoFrames at.pages) refl))
   moved_by (UnmappingPart at) s is own once out e w legal = as_section (UnmappingPart at) s _ w legal
       (λ l. inner_moved c m k fine (UnmappingPart at) (Unmap (mapped_pages at)) once refl refl refl (length-paint_from _ true m.stale 0 ∙ fine.long ∙ sym (length-paint_from _ None m.frames 0))
-        (λ page t. out page (covers_one (mapped_pages at) page ∙ t)) refl _ refl)
+      (λ page t. out page (covers_one (mapped_pages at) page ∙ t)) refl _ refl)
   moved_by (Populating at missing) s is own once out e (inl w) legal = as_section (Populating at missing) s _ w legal
       (λ l. inner_moved c m k fine (Populating at missing) (Populate at missing) once refl refl refl (fine.long ∙ sym (length-give_frames (pages_in_units c at.base missing) (free_frames c m.frames) m.frames))
-        (λ page t. out page t) refl _ (unbearing_next c (Populating at missing) (Populate at missing) refl))
+      (λ page t. out page t) refl _ (unbearing_next c (Populating at missing) (Populate at missing) refl))
   moved_by (Populating at missing) s is own once out e (inr w) legal = as_section (Populating at missing) s _ w legal
       (λ l. quiet_moved c m k fine (Populating at missing) once _ _ refl (unbearing_next c (Populating at missing) (NoFrames (length (pages_in_units c at.base missing))) refl))
   moved_by (Filling chunk base page filled) s is own once out e (inl w) legal = as_section (Filling chunk base page filled) s _ w legal
       (λ l. inner_moved c m k fine (Filling chunk base page filled) (Fill base page) once refl refl refl (fine.long ∙ sym (length-give_frames (pages_in_units c base (page ∷ [])) (free_frames c m.frames) m.frames))
-        (λ q t. out q t) refl _ (unbearing_next c (Filling chunk base page filled) (Fill base page) refl))
+      (λ q t. out q t) refl _ (unbearing_next c (Filling chunk base page filled) (Fill base page) refl))
   moved_by (Filling chunk base page filled) s is own once out e (inr w) legal = as_section (Filling chunk base page filled) s _ w legal
       (λ l. quiet_moved c m k fine (Filling chunk base page filled) once _ _ refl (unbearing_next c (Filling chunk base page filled) (NoFrames (length (pages_in_units c base (page ∷ [])))) refl))
   moved_by (Depopulating base populated) s is own once out e w legal = as_section (Depopulating base populated) s _ w legal
       (λ l. inner_moved c m k fine (Depopulating base populated) (Depopulate base populated) once refl refl refl (length-paint_from _ true m.stale 0 ∙ fine.long ∙ sym (length-paint_from _ None m.frames 0))
-        (λ page t. out page t) refl _ refl)
+      (λ page t. out page t) refl _ refl)
   moved_by Over s is own once out e w legal = absurd w
   moved_by (Refusing reply) s is own once out e w legal = plain_moved (Refusing reply) s once refl refl w
   moved_by (PurgeTaking extra after) s is own once out e w legal = plain_moved (PurgeTaking extra after) s once refl refl w

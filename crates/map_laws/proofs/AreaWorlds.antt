@@ -40,8 +40,19 @@ pub record IsAreaWorld (w : World) : Type 0 where
 -- at the beginning of a call a caller holds nothing
 pub unbearing_begins : (c : Setup) → HaveBeginnings IsUnbearing c
 unbearing_begins c = record {
-  over = refl; refused = λ r. refl; area = λ pages align k plain. refl; part = λ cpu pages e f. refl; dirty = refl; object = λ bytes align few. refl; atomic = λ bytes align few. refl;
-  remove = λ start serial. refl; unmap = λ cpu page serial. refl; free = λ at serial. refl; add = λ at serial cpu index amount. refl; sum = λ at serial index. refl; balance = refl;
+  over = refl;
+  refused = λ r. refl;
+  area = λ pages align k plain some. refl;
+  part = λ cpu pages e f. refl;
+  dirty = refl;
+  object = λ bytes align few. refl;
+  atomic = λ bytes align few. refl;
+  remove = λ start serial. refl;
+  unmap = λ cpu page serial. refl;
+  free = λ at serial. refl;
+  add = λ at serial cpu index amount. refl;
+  sum = λ at serial index. refl;
+  balance = refl;
 }
 
 pub moved_caller : (l : Local) (n : Next) → length l.answers < length l.calls → (moved_to l n).caller ≡ l.caller
@@ -110,16 +121,16 @@ module _ (w : World) (l : Local) (s : Section) (kept : IsAreaWorld w) (here : sl
   own_holding =
       subst (λ d. IsHolding d (effect_as l.setup w.map l.caller s) after_local.caller after_local.place) (sym (moved_setup l (next l.setup l.place s)))
       (subst (λ i. IsHolding l.setup (effect_as l.setup w.map l.caller s) i after_local.place) (sym (moved_caller l (next l.setup l.place s) call))
-        (moved_holding l call l.setup (effect_as l.setup w.map l.caller s) l.caller (next l.setup l.place s) moved.own))
+      (moved_holding l call l.setup (effect_as l.setup w.map l.caller s) l.caller (next l.setup l.place s) moved.own))
 
   pub area_step : IsAreaWorld (made_by w l s)
   area_step = record {
     fine = moved.fine;
     once = step_once;
     each = λ j x at. elim (set_cases w.locals l.caller j after_local x at) [
-        inl e ↦ subst (λ (y : Local). IsHolding y.setup (effect_as l.setup w.map l.caller s) y.caller y.place) (sym e.1) own_holding
+      | inl e ↦ subst (λ (y : Local). IsHolding y.setup (effect_as l.setup w.map l.caller s) y.caller y.place) (sym e.1) own_holding
       | inr e ↦ other_holding j x e.1 e.0
-      ];
+    ];
   }
 
 -- the uses of a page by the caller alone are no more than all
@@ -139,7 +150,7 @@ area_kept c w k l s framed kept proper outside step =
     let here : slice_get w.locals l.caller ≡ Some l = subst (λ i. slice_get w.locals i ≡ Some l) (sym own.caller) step.step.here in
     area_step w l s kept here (has_call c k l own (not_over l.setup w.map l.place s step.step.gives))
     (moved_by l.setup w.map l.caller kept.fine l.place s proper (kept.each k l step.step.here) (own_once w k l kept step.step.here) outside step.step.gives step.meets
-      (subst (λ i. IsLegalAs l.setup w.map i s) (sym own.caller) step.legal))
+    (subst (λ i. IsLegalAs l.setup w.map i s) (sym own.caller) step.legal))
 
 -- Legal runs.
 

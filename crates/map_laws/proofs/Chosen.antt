@@ -1,6 +1,7 @@
 -- What a filter, a least element and a row of numbers hold.
-use Rattle.std.proofs.Common.{◌≡◌, ℕ, zero, suc, ◌+◌, ◌<◌, ◌≤◌, Bool, true, false, cond, nat_le, if◌then◌else◌, List, [], ◌∷◌, slice_get, filter, sum_by, Option, Some, None, refl, ap, sym, ◌∙◌, subst, arith}
+use Rattle.std.proofs.Common.{◌≡◌, ℕ, zero, suc, ◌+◌, ◌<◌, ◌≤◌, Bool, true, false, cond, nat_le, if◌then◌else◌, List, [], ◌∷◌, slice_get, filter, find, sum_by, Option, Some, None, refl, ap, sym, ◌∙◌, subst, arith}
 use Rattle.std.proofs.lemmas.List.Sums.{sum_by-cons}
+use Rattle.vm_model.specs.Setup.{last_of}
 use Rattle.vm_model.specs.Space.{count_from, least_by, smaller_by}
 
 pub record IsIn {X : Type 0} (x : X) (xs : List X) : Type 0 where
@@ -94,3 +95,18 @@ pub count_from-below : (n first i x : ℕ) → slice_get (count_from n first) i 
 count_from-below zero first i x h = cc
 count_from-below (suc n) first zero x h = let same : first ≡ x = cc in omega arith
 count_from-below (suc n) first (suc i) x h = omega (arith, count_from-below n (suc first) i x h)
+
+-- what is found is in the list and passes
+find_by : {X : Type 0} (p : X → Bool) (xs : List X) (y x : X) (b : Bool) → p y ≡ b → cond b (Some y) (find p xs) ≡ Some x → (find p xs ≡ Some x → IsIn x xs × (p x ≡ true)) → IsIn x (y ∷ xs) × (p x ≡ true)
+find_by p xs y x true e h more = let same : y ≡ x = cc in (record { place = 0; at = h }, ap p (sym same) ∙ e)
+find_by p xs y x false e h more = let is = more h in (in_more x y xs is.0, is.1)
+
+pub find_has : {X : Type 0} (p : X → Bool) (xs : List X) (x : X) → find p xs ≡ Some x → IsIn x xs × (p x ≡ true)
+find_has p [] x h = cc
+find_has p (y ∷ xs) x h = find_by p xs y x _ refl h (find_has p xs x)
+
+-- the last of the elements is one of them
+pub last_in : {X : Type 0} (xs : List X) (x : X) → last_of xs ≡ Some x → IsIn x xs
+last_in [] x h = cc
+last_in (y ∷ []) x h = record { place = 0; at = h }
+last_in (y ∷ z ∷ xs) x h = in_more x y (z ∷ xs) (last_in (z ∷ xs) x h)

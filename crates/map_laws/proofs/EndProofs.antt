@@ -22,7 +22,7 @@ use Rattle.map_laws.proofs.Chosen.{IsIn}
 use Rattle.map_laws.proofs.Frames.{IsFramed, IsStep, IsOpening, IsKeptBySteps, framed_opening, framed_callers, framed_step, opening_step, reached_have}
 use Rattle.map_laws.proofs.Places.{begins_with}
 use Rattle.map_laws.proofs.TurnProofs.{AreTurnsProper, turns_first, turns_last, some_moves}
-use Rattle.map_laws.proofs.GivenMeets.{find_has}
+use Rattle.map_laws.proofs.Chosen.{find_has}
 use Rattle.map_laws.proofs.ChunkFalls.{worth_of}
 use Rattle.map_laws.proofs.Left.{left, per_call}
 use Rattle.map_laws.proofs.Sizes.{AreSized, sized_section}

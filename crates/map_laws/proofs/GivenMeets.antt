@@ -15,7 +15,7 @@ use Rattle.vm_model.specs.Places.{Ask, AskNothing, AskRefuse, AskTakePurge, AskG
 use Rattle.vm_model.specs.Given.{given, carving, carving_groups, removal, with_frames, placing, placing_new, placing_atomic, freeing, sparing, filling, cutting, beginning}
 use Rattle.vm_model.specs.LegalHistory.{Meets}
 use Rattle.map_laws.proofs.Lists.{append_cases}
-use Rattle.map_laws.proofs.Chosen.{IsIn, in_more, filter_has}
+use Rattle.map_laws.proofs.Chosen.{IsIn, in_more, filter_has, find_has}
 use Rattle.map_laws.proofs.TurnPlaces.{taking_is}
 
 -- where a chunk is added, its first object has room
@@ -37,15 +37,6 @@ pub placement_bytes : (c : Setup) (fit : Chunk → Option ℕ) (bytes : ℕ) (ch
 placement_bytes c fit bytes chunks p e = chosen_bytes fit bytes (chosen c fit chunks) p e
 
 -- The processor and pages of a part.
-
--- what is found is in the list and passes
-find_by : {X : Type 0} (p : X → Bool) (xs : List X) (y x : X) (b : Bool) → p y ≡ b → cond b (Some y) (find p xs) ≡ Some x → (find p xs ≡ Some x → IsIn x xs × (p x ≡ true)) → IsIn x (y ∷ xs) × (p x ≡ true)
-find_by p xs y x true e h more = let same : y ≡ x = cc in (record { place = 0; at = h }, ap p (sym same) ∙ e)
-find_by p xs y x false e h more = let is = more h in (record { place = is.0.place + 1; at = (let n : is.0.place + 1 ≡ suc is.0.place = omega arith in ap (slice_get (y ∷ xs)) n ∙ is.0.at) }, is.1)
-
-pub find_has : {X : Type 0} (p : X → Bool) (xs : List X) (x : X) → find p xs ≡ Some x → IsIn x xs × (p x ≡ true)
-find_has p [] x h = cc
-find_has p (y ∷ xs) x h = find_by p xs y x _ refl h (find_has p xs x)
 
 same_number : (a b : ℕ) → (a == b) ≡ true → a ≡ b
 same_number a b h = grind (arith, nat_tests)

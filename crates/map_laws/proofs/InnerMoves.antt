@@ -31,9 +31,9 @@ use Rattle.map_laws.proofs.AreaFacts.{IsAreaFine, guard_part, mapped_within, map
 use Rattle.map_laws.proofs.PlaceMoves.{IsMoved, given_all, held_in_row, length-give_frames, unbearing_uses, unbearing_own}
 use Rattle.map_laws.proofs.MapMoves.{times_areas, times_both, page_by, waits_fine, flushing_fine, live_fine, area_times, IsOuter, outer_map, held_fine, free_fine, free_one, painted_free, freed_le}
 use Rattle.map_laws.proofs.Quiet.{is_quiet, IsQuiet, quiet}
-use Rattle.map_laws.proofs.GivenMeets.{find_has}
-
+use Rattle.map_laws.proofs.Chosen.{find_has}
 use Rattle.map_laws.proofs.OutMoves.{IsInside, IsUnlinked, covering, times_in, same_area, stays_apart, out_fine, out_source, out_free}
+
 module _ (c : Setup) (m : PlainMap) (k : ℕ) (fine : IsMapFine m) where
   -- An area is removed.
 
@@ -57,11 +57,17 @@ module _ (c : Setup) (m : PlainMap) (k : ℕ) (fine : IsMapFine m) where
     pub remove_moved : IsMoved c m k p (Remove start serial area) (Go (UnmappingArea area))
     remove_moved = record {
       source = λ page t. (let n = out_source c m k fine p (Remove start serial area) (is_area start serial) (λ a. not (is_area start serial a)) (λ a. refl) once refl refl fine.long remove_touch remove_marked page t in omega arith);
-      uses = λ page. omega (arith, out_free c m k fine p (Remove start serial area) (is_area start serial) (λ a. not (is_area start serial a)) (λ a. refl) once refl refl fine.long remove_touch remove_marked (holds area.span) refl page,
-        times_both page (is_area start serial) (λ a. not (is_area start serial a)) (λ a. refl) m.areas, named_times page, times-one page area.span);
+      uses = λ page. omega (
+        arith,
+        out_free c m k fine p (Remove start serial area) (is_area start serial) (λ a. not (is_area start serial a)) (λ a. refl) once refl refl fine.long remove_touch remove_marked (holds area.span) refl page,
+        times_both page (is_area start serial) (λ a. not (is_area start serial a)) (λ a. refl) m.areas,
+        named_times page,
+        times-one page area.span,
+      );
       own = record {
         held = λ page e. remove_marked page (sym (covers_one area.span page) ∙ e);
-        flushed = λ page e. cc; bare = λ page e. cc;
+        flushed = λ page e. cc;
+        bare = λ page e. cc;
         mapped = λ page e. (fine.areas remove_in.place area remove_in.at).mapped plain page e;
         unmapped = λ page e. (fine.areas remove_in.place area remove_in.at).guard plain page e;
         hull = tt;
@@ -91,24 +97,33 @@ module _ (c : Setup) (m : PlainMap) (k : ℕ) (fine : IsMapFine m) where
     unlink_moved none p' to = record {
       source = λ page t. (let n = out_source c m k fine p (Unlink starts) (λ (a : Area). is_among starts a.span.start) (λ (a : Area). not (is_among starts a.span.start)) (λ a. refl) once refl refl fine.long unlink_touch unlink_marked page t in omega arith);
       uses = λ page. (let less = is.less page in let h : times page (held c p') ≡ times page spans = ap (times page) to.held_is in let f : times page (flushed p') ≡ 0 = ap (times page) to.flushed_is in
-        omega (arith, out_free c m k fine p (Unlink starts) (λ (a : Area). is_among starts a.span.start) (λ (a : Area). not (is_among starts a.span.start)) (λ a. refl) once refl refl fine.long unlink_touch unlink_marked (covers (spans_of (areas_starting starts m.areas))) refl page,
-          times_both page (λ (a : Area). is_among starts a.span.start) (λ (a : Area). not (is_among starts a.span.start)) (λ a. refl) m.areas));
+          omega (
+            arith,
+            out_free c m k fine p (Unlink starts) (λ (a : Area). is_among starts a.span.start) (λ (a : Area). not (is_among starts a.span.start)) (λ a. refl) once refl refl fine.long unlink_touch unlink_marked (covers (spans_of (areas_starting starts m.areas))) refl page,
+            times_both page (λ (a : Area). is_among starts a.span.start) (λ (a : Area). not (is_among starts a.span.start)) (λ a. refl) m.areas,
+          ));
       own = to.own (λ page e. unlink_marked page (times_in page (spans_of (areas_starting starts m.areas)) (let n = covers_times page spans e in let less = is.less page in omega arith))) is.unmapped;
       fine = out_fine c m k fine p (Unlink starts) (λ (a : Area). is_among starts a.span.start) (λ (a : Area). not (is_among starts a.span.start)) (λ a. refl) once refl refl fine.long unlink_touch unlink_marked;
     }
 
     pub to_purge : (extra : Option Span) (after : Then) (gone : List ℕ) → spans ≡ block_spans c gone → IsReceiver (PurgeWaiting gone extra after)
     to_purge extra after gone e = record {
-      held_is = sym e; flushed_is = refl;
+      held_is = sym e;
+      flushed_is = refl;
       own = λ marked unmapped. record {
-        held = λ page h. marked page (ap (λ l. covers l page) e ∙ h); flushed = λ page h. cc; bare = λ page h. cc; mapped = λ page h. cc;
-        unmapped = λ page h. unmapped page (ap (λ l. covers l page) e ∙ h); hull = tt;
+        held = λ page h. marked page (ap (λ l. covers l page) e ∙ h);
+        flushed = λ page h. cc;
+        bare = λ page h. cc;
+        mapped = λ page h. cc;
+        unmapped = λ page h. unmapped page (ap (λ l. covers l page) e ∙ h);
+        hull = tt;
       };
     }
 
     pub to_waiting : (after : Then) → IsReceiver (Waiting spans after)
     to_waiting after = record {
-      held_is = refl; flushed_is = refl;
+      held_is = refl;
+      flushed_is = refl;
       own = λ marked unmapped. record { held = marked; flushed = λ page h. cc; bare = λ page h. cc; mapped = λ page h. cc; unmapped = unmapped; hull = tt };
     }
 
@@ -136,9 +151,9 @@ module _ (c : Setup) (m : PlainMap) (k : ℕ) (fine : IsMapFine m) where
     inner_moved none n none_next = record {
       source = λ page t. (let q = inner_source page t in omega arith);
       uses = λ page. (let a : times page (spans_of (effect_as c m k s).areas) ≡ times page (spans_of m.areas) = ap (λ l. times page (spans_of l)) areas in
-        let w : times page (effect_as c m k s).waiting ≡ times page m.waiting = ap (times page) waiting in
-        let f : as_free (slice_get (effect_as c m k s).marks page) ≡ as_free (slice_get m.marks page) = ap (λ l. as_free (slice_get l page)) marks in
-        omega (arith, unbearing_uses c m k fine (effect_as c m k s) n page none_next));
+          let w : times page (effect_as c m k s).waiting ≡ times page m.waiting = ap (times page) waiting in
+          let f : as_free (slice_get (effect_as c m k s).marks page) ≡ as_free (slice_get m.marks page) = ap (λ l. as_free (slice_get l page)) marks in
+          omega (arith, unbearing_uses c m k fine (effect_as c m k s) n page none_next));
       own = unbearing_own c m k fine (effect_as c m k s) n none_next;
       fine = record {
         areas = λ i a h. (let was = ap (λ l. slice_get l i) (sym areas) ∙ h in let is = fine.areas i a was in record {

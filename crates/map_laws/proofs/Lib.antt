@@ -1,11 +1,12 @@
 pub mod Lists
 pub mod Frames
+pub mod Chosen
+pub mod Fits
 pub mod Places
 pub mod TurnSections
 pub mod TurnMoves
 pub mod TurnPlaces
 pub mod TurnProofs
-pub mod Chosen
 pub mod ChunkFalls
 pub mod ChunkRoom
 pub mod Left

@@ -25,7 +25,7 @@ use Rattle.map_laws.proofs.Chosen.{IsIn, in_more, filter_has, sum_has}
 use Rattle.map_laws.proofs.Spans.{times-cons, times-append, times-one, covers_times, covers_none, none_covers, in_spans, InSpans, Inside, Outside, covers_one, holds_to, holds_from}
 use Rattle.map_laws.proofs.Touched.{touch, IsSame, untouched, unpainted, painted, painted_still}
 use Rattle.map_laws.proofs.AreaFacts.{IsAreaFine, IsPageFine, IsMapFine, own_uses, area_stays, page_stays}
-use Rattle.map_laws.proofs.GivenMeets.{find_has}
+use Rattle.map_laws.proofs.Chosen.{find_has}
 
 -- Pages by their marks.
 

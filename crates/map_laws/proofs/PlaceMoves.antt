@@ -27,7 +27,7 @@ use Rattle.map_laws.proofs.Touched.{touch, IsSame, untouched, unpainted, painted
 use Rattle.map_laws.proofs.AreaFacts.{IsHolding, IsPageFine, IsMapFine, own_uses, next_uses, holds_nothing, nothing_claimed, IsUnbearing}
 use Rattle.map_laws.proofs.MapMoves.{IsOuter, outer_map, held_fine, free_fine, free_one, painted_free, freed_le}
 use Rattle.map_laws.proofs.Quiet.{is_quiet, IsQuiet, quiet}
-use Rattle.map_laws.proofs.GivenMeets.{find_has}
+use Rattle.map_laws.proofs.Fits.{lowest_fit}
 
 -- what a section at a place does, where its caller goes on to the given next
 pub record IsMoved (c : Setup) (m : PlainMap) (k : ℕ) (p : Place) (s : Section) (n : Next) : Type 0 where
@@ -58,10 +58,6 @@ free_mark (Some (Live serial)) h = cc
 free_mark (Some Waits) h = cc
 free_mark (Some (Flushing k)) h = cc
 
-and_both : (a b : Bool) → (a && b) ≡ true → (a ≡ true) × (b ≡ true)
-and_both true b h = (refl, h)
-and_both false b h = cc
-
 -- a row of free places in the map
 pub free_row : (m : PlainMap) (start n page : ℕ) → begins_free n (drop start (taken m)) ≡ true → holds (span start n) page ≡ true → IsMarked m Free page
 free_row m start n page h e =
@@ -69,9 +65,6 @@ free_row m start n page h e =
     let i : start + (page - start) ≡ page = omega arith in
     let there = begins_free-at n (drop start (taken m)) (page - start) h (omega arith) in
     free_mark (slice_get m.marks page) (sym (slice_get-map (λ mark. not (is_free mark)) m.marks page) ∙ ap (slice_get (taken m)) (sym i) ∙ sym (slice_get-drop start (taken m) (page - start)) ∙ there)
-
-pub lowest_fit : (taken : List Bool) (n k start : ℕ) → lowest taken n k ≡ Some start → ((start % k == 0) ≡ true) × (begins_free n (drop start taken) ≡ true)
-lowest_fit taken n k start e = and_both _ _ (find_has (fits taken n k) (count_from (length taken) 0) start (sym (the_lowest_fits taken n k) ∙ e)).1
 
 pub place_free : (m : PlainMap) (place : Span) (align page : ℕ) → lowest (taken m) place.pages align ≡ Some place.start → holds place page ≡ true → IsMarked m Free page
 place_free m place align page e h = free_row m place.start place.pages page (lowest_fit (taken m) place.pages align place.start e).1 h

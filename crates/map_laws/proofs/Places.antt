@@ -1,5 +1,5 @@
 -- What is proper of a caller's place whatever the map is: searches are for what fits them, and objects aren't too large.
-use Rattle.std.proofs.Common.{◌≡◌, ℕ, zero, suc, inl, inr, ◌+◌, ◌*◌, ◌/◌, ◌<◌, ◌≤◌, ◌||◌, ◌==◌, max, Bool, true, false, nat_lt, nat_le, if◌then◌else◌, List, [], ◌∷◌, ◌++◌, slice_get, length, Option, Some, None, refl, ap, sym, ◌∙◌, subst, arith, ℤ}
+use Rattle.std.proofs.Common.{◌≡◌, ℕ, zero, suc, inl, inr, ◌+◌, ◌*◌, ◌/◌, ◌%◌, ◌<◌, ◌≤◌, ◌||◌, ◌==◌, max, Bool, true, false, nat_lt, nat_le, if◌then◌else◌, List, [], ◌∷◌, ◌++◌, slice_get, length, Option, Some, None, refl, ap, sym, ◌∙◌, subst, arith, ℤ}
 use Rattle.std.proofs.lemmas.Bool.Decides.{nat_tests}
 use Rattle.vm_model.specs.declared.areas.Span.{Span}
 use Rattle.vm_model.specs.declared.areas.Area.{Area}
@@ -15,11 +15,13 @@ use Rattle.vm_model.specs.Blocks.{PartAt}
 use Rattle.vm_model.specs.Chunks.{ObjectAt}
 use Rattle.vm_model.specs.Events.{Section, Search, ForPages, ForGroups}
 use Rattle.vm_model.specs.Told.{carved, carved_base, had_frames, removed, pages_waiting, spans_taken, blocks_gone, dirty_told, part_told, was_spent, placed, was_live, spare_told, page_told}
-use Rattle.vm_model.specs.Places.{Place, Over, Refusing, Adding, Summing, TakingToBalance, Finding, FindingAgain, MappingArea, Dropping, SettlingArea, Removing, UnmappingArea, Waiting, PurgeTaking, PurgeFragmenting, PurgeUnlinking, PurgeWaiting, PurgeCollecting, PurgeFlushing, PurgeReturning, PurgeGiving, CuttingPart, MappingPart, BeginningUnmap, Retiring, LookingAtDirty, TakingAlloc, Choosing, SettlingGroups, AddingChunk, Populating, GivingAlloc, ChoosingAtomic, FreeingObject, Sparing, NextFill, Filling, Made, MadeNothing, MadeArea, MadePart, MadeObject, Aim, ForArea, ForBlock, ForChunk, Then, SearchAgain, ReplyWith, SpareAgain, Ask, AskSearch, ask}
+use Rattle.vm_model.specs.Places.{Place, Over, Refusing, Adding, Summing, TakingToBalance, Finding, FindingAgain, MappingArea, Dropping, SettlingArea, Removing, UnmappingArea, Waiting, PurgeTaking, PurgeFragmenting, PurgeUnlinking, PurgeWaiting, PurgeCollecting, PurgeFlushing, PurgeReturning, PurgeGiving, CuttingPart, MappingPart, BeginningUnmap, Retiring, LookingAtDirty, SettlingBlock, TakingAlloc, Choosing, SettlingGroups, AddingChunk, Populating, GivingAlloc, ChoosingAtomic, FreeingObject, Sparing, NextFill, Filling, Made, MadeNothing, MadeArea, MadePart, MadeObject, Aim, ForArea, ForBlock, ForChunk, Then, SearchAgain, ReplyWith, SpareAgain, Ask, AskSearch, ask}
 use Rattle.vm_model.specs.Next.{Next, Go, Answer, next, just, found, with_span, with_base, without_space, after_remove, go_on, after_fragments, after_collecting, after_flush, after_cut, after_begin, after_place, after_atomic, after_spare, after_page}
-use Rattle.vm_model.specs.Calls.{Answered, begin, begin_call, begin_vmalloc, begin_map_ram, begin_alloc, begin_free_area, begin_unmap_ram, begin_free_percpu, begin_add, begin_sum, target_of, was_freed, answers_in, words_for, is_bad_vmalloc_size, is_bad_vmalloc_align, is_bad_map_size, is_bad_object_size, is_bad_object_align}
-use Rattle.vm_model.specs.Given.{given, carving_groups}
+use Rattle.vm_model.specs.Calls.{pages_for, align_pages, Answered, begin, begin_call, begin_vmalloc, begin_map_ram, begin_alloc, begin_free_area, begin_unmap_ram, begin_free_percpu, begin_add, begin_sum, target_of, was_freed, answers_in, words_for, is_bad_vmalloc_size, is_bad_vmalloc_align, is_bad_map_size, is_bad_object_size, is_bad_object_align}
+use Rattle.vm_model.specs.Given.{given, carving, carving_groups}
 use Rattle.vm_model.specs.History.{World, Local, started, answered, answered_of, moved_to, made_by, opening_world, opening_answers, callers_from, with_callers}
+use Rattle.vm_model.specs.Space.{lowest}
+use Rattle.map_laws.proofs.Fits.{is_zero, lowest_fit, highest_fit}
 use Rattle.map_laws.proofs.Lists.{there, set_cases, append_cases}
 use Rattle.map_laws.proofs.Frames.{IsFramed, IsStep, IsLasting, not_over, has_call}
 
@@ -32,7 +34,7 @@ IsPlainKind (kind.Chunk chunk group) = ⊥
 
 -- pages are searched for areas and blocks, and groups for a chunk
 abbrev pub IsAimed : Setup → Search → Aim → Type 0
-IsAimed c (ForPages pages align) (ForArea k) = IsPlainKind k
+IsAimed c (ForPages pages align) (ForArea k) = IsPlainKind k × (1 ≤ pages)
 IsAimed c (ForPages pages align) (ForBlock cpu asked) = (pages ≡ c.block_pages) × (align ≡ c.block_pages)
 IsAimed c (ForPages pages align) (ForChunk chunk bytes to) = ⊥
 IsAimed c ForGroups (ForArea k) = ⊥
@@ -47,8 +49,9 @@ IsFollowed c SpareAgain = Unit {0}
 abbrev pub IsProper : Setup → Place → Type 0
 IsProper c (Finding search aim) = IsAimed c search aim
 IsProper c (FindingAgain search aim) = IsAimed c search aim
-IsProper c (MappingArea s k) = IsPlainKind k
-IsProper c (SettlingArea s k) = IsPlainKind k
+IsProper c (MappingArea s k) = IsPlainKind k × (1 ≤ s.pages)
+IsProper c (SettlingArea s k) = IsPlainKind k × (1 ≤ s.pages)
+IsProper c (SettlingBlock s cpu pages) = (s.pages ≡ c.block_pages) × (s.start % c.block_pages ≡ 0)
 IsProper c (Waiting spans after) = IsFollowed c after
 IsProper c (PurgeTaking extra after) = IsFollowed c after
 IsProper c (PurgeFragmenting cpu gone extra after) = IsFollowed c after
@@ -60,7 +63,7 @@ IsProper c (PurgeReturning waited after) = IsFollowed c after
 IsProper c (PurgeGiving after) = IsFollowed c after
 IsProper c (TakingAlloc bytes align) = bytes ≤ 32768
 IsProper c (Choosing bytes align) = bytes ≤ 32768
-IsProper c (SettlingGroups base chunk bytes align) = bytes ≤ 32768
+IsProper c (SettlingGroups base chunk bytes align) = (bytes ≤ 32768) × (base % c.atom ≡ 0)
 IsProper c (AddingChunk base chunk bytes align) = bytes ≤ 32768
 IsProper c _ = Unit {0}
 
@@ -88,35 +91,28 @@ module _ (c : Setup) (m : PlainMap) where
   pub no_span : (s : Section) → given c m (AskSearch ForGroups) ≡ Some s → carved s ≡ None
   no_span s e = groups_told (highest c (taken m)) s e
 
-  module _ (P : Place → Type 0) (s : Section) (otherwise : Next) where
-    -- what follows a search for pages, and one for groups
-    pub found_area : (k : AreaKind) (o : Option Span) (base : Option ℕ) → ((place : Span) → P (MappingArea place k)) → OnNext P otherwise → OnNext P (found (ForArea k) o base otherwise)
-    found_area k (Some place) base p q = p place
-    found_area k None (Some base) p q = tt
-    found_area k None None p q = q
+  found_pages : (pages align : ℕ) (aim : Aim) (otherwise : Next) (o : Option ℕ) → lowest (taken m) pages align ≡ o → IsAimed c (ForPages pages align) aim → OnNext (IsProper c) otherwise
+      → OnNext (IsProper c) (found aim (carved (carving pages align o)) (carved_base (carving pages align o)) otherwise)
+  found_pages pages align aim otherwise None e is q = q
+  found_pages pages align (ForArea k) otherwise (Some start) e is q = is
+  found_pages pages align (ForBlock cpu asked) otherwise (Some start) e is q =
+      let fit = is_zero (start % align) (lowest_fit (taken m) pages align start e).0 in (is.0, ap (λ n. start % n) (sym is.1) ∙ fit)
+  found_pages pages align (ForChunk chunk bytes to) otherwise (Some start) e is q = absurd is
 
-    pub found_block : (cpu pages : ℕ) (o : Option Span) (base : Option ℕ) → ((place : Span) → OnNext P (with_span (ForBlock cpu pages) place)) → OnNext P otherwise → OnNext P (found (ForBlock cpu pages) o base otherwise)
-    found_block cpu pages (Some place) base p q = p place
-    found_block cpu pages None (Some base) p q = tt
-    found_block cpu pages None None p q = q
+  found_groups : (chunk bytes align : ℕ) (otherwise : Next) (o : Option ℕ) → highest c (taken m) ≡ o → bytes ≤ 32768 → OnNext (IsProper c) otherwise
+      → OnNext (IsProper c) (found (ForChunk chunk bytes align) (carved (carving_groups o)) (carved_base (carving_groups o)) otherwise)
+  found_groups chunk bytes align otherwise None e few q = q
+  found_groups chunk bytes align otherwise (Some base) e few q = (few, is_zero (base % c.atom) (highest_fit c (taken m) base e).0)
 
-    found_base : (chunk bytes align : ℕ) (o : Option Span) (base : Option ℕ) → o ≡ None → ((n : ℕ) → P (SettlingGroups n chunk bytes align)) → OnNext P otherwise → OnNext P (found (ForChunk chunk bytes align) o base otherwise)
-    found_base chunk bytes align (Some place) base e p q = cc
-    found_base chunk bytes align None (Some base) e p q = p base
-    found_base chunk bytes align None None e p q = q
-
-    pub found_groups : (chunk bytes align : ℕ) → given c m (AskSearch ForGroups) ≡ Some s → ((n : ℕ) → P (SettlingGroups n chunk bytes align)) → OnNext P otherwise
-        → OnNext P (found (ForChunk chunk bytes align) (carved s) (carved_base s) otherwise)
-    found_groups chunk bytes align e p q = found_base chunk bytes align (carved s) (carved_base s) (no_span s e) p q
+  told_proper : (aim : Aim) (otherwise : Next) (s t : Section) → Some t ≡ Some s → OnNext (IsProper c) (found aim (carved t) (carved_base t) otherwise) → OnNext (IsProper c) (found aim (carved s) (carved_base s) otherwise)
+  told_proper aim otherwise s t e h = let same : t ≡ s = cc in subst (λ (x : Section). OnNext (IsProper c) (found aim (carved x) (carved_base x) otherwise)) same h
 
   found_proper : (search : Search) (aim : Aim) (s : Section) (otherwise : Next) → IsAimed c search aim → given c m (AskSearch search) ≡ Some s → OnNext (IsProper c) otherwise
       → OnNext (IsProper c) (found aim (carved s) (carved_base s) otherwise)
-  found_proper (ForPages pages align) (ForArea k) s otherwise is e q = found_area (IsProper c) s otherwise k _ _ (λ place. is) q
-  found_proper (ForPages pages align) (ForBlock cpu asked) s otherwise is e q = found_block (IsProper c) s otherwise cpu asked _ _ (λ place. tt) q
-  found_proper (ForPages pages align) (ForChunk chunk bytes to) s otherwise is e q = absurd is
+  found_proper (ForPages pages align) aim s otherwise is e q = told_proper aim otherwise s _ e (found_pages pages align aim otherwise (lowest (taken m) pages align) refl is q)
   found_proper ForGroups (ForArea k) s otherwise is e q = absurd is
   found_proper ForGroups (ForBlock cpu asked) s otherwise is e q = absurd is
-  found_proper ForGroups (ForChunk chunk bytes to) s otherwise is e q = found_groups (IsProper c) s otherwise chunk bytes to e (λ n. is) q
+  found_proper ForGroups (ForChunk chunk bytes to) s otherwise is e q = told_proper (ForChunk chunk bytes to) otherwise s _ e (found_groups chunk bytes to otherwise (highest c (taken m)) refl is q)
 
   no_space_proper : (aim : Aim) → OnNext (IsProper c) (without_space aim)
   no_space_proper (ForArea k) = tt
@@ -198,7 +194,7 @@ module _ (c : Setup) (m : PlainMap) where
   proper_next (PurgeWaiting gone extra after) s is e = is
   proper_next (PurgeReturning waited after) s is e = is
   proper_next (TakingAlloc bytes align) s is e = is
-  proper_next (SettlingGroups base chunk bytes align) s is e = is
+  proper_next (SettlingGroups base chunk bytes align) s is e = is.0
   proper_next _ s is e = tt
 
 -- Where a call begins.
@@ -207,11 +203,15 @@ module _ (c : Setup) (m : PlainMap) where
 accepted_size : (bytes : ℕ) → is_bad_object_size bytes ≡ false → 4 * words_for bytes ≤ 32768
 accepted_size bytes h = let few : bytes ≤ 32768 = grind (arith, nat_tests) in omega arith
 
+-- a mapping that the desk accepts has a page
+some_pages : (c : Setup) (pages : ℕ) → is_bad_map_size c pages ≡ false → 1 ≤ pages
+some_pages c pages h = grind (arith, nat_tests)
+
 -- every place at which a call can begin has what these have
 pub record HaveBeginnings (P : Place → Type 0) (c : Setup) : Type 0 where
   pub over : P Over
   pub refused : (r : Reply) → P (Refusing r)
-  pub area : (pages align : ℕ) (k : AreaKind) → IsPlainKind k → P (Finding (ForPages pages align) (ForArea k))
+  pub area : (pages align : ℕ) (k : AreaKind) → IsPlainKind k → 1 ≤ pages → P (Finding (ForPages pages align) (ForArea k))
   pub part : (cpu pages : ℕ) → is_bad_map_size c pages ≡ false → nat_le pages c.part_limit ≡ true → P (CuttingPart cpu pages)
   pub dirty : P (LookingAtDirty 0 [])
   pub object : (bytes align : ℕ) → bytes ≤ 32768 → P (TakingAlloc bytes align)
@@ -260,10 +260,10 @@ module _ (P : Place → Type 0) (c : Setup) (have : HaveBeginnings P c) where
 
   call_begins : (opening own : List Answered) (call : Call) → P (begin_call c opening own call)
   call_begins opening own (Vmalloc bytes align) = either_place P (is_bad_vmalloc_size c bytes) _ _ (λ e. have.refused reply.BadSize)
-      (λ e. either_place P (is_bad_vmalloc_align align) _ _ (λ f. have.refused reply.BadAlign) (λ f. have.area _ _ kind.Vmalloc tt))
+      (λ e. either_place P (is_bad_vmalloc_align align) _ _ (λ f. have.refused reply.BadAlign) (λ f. have.area (pages_for bytes + 1) (align_pages align) kind.Vmalloc tt (omega arith)))
   call_begins opening own (Vfree t) = free_begins (target_of opening own t)
   call_begins opening own (MapRam cpu pages) = either_place P (is_bad_map_size c pages) _ _ (λ e. have.refused reply.BadSize)
-      (λ e. either_place P (nat_le pages c.part_limit) _ _ (λ f. have.part cpu pages e f) (λ f. have.area pages 1 kind.MapRam tt))
+      (λ e. either_place P (nat_le pages c.part_limit) _ _ (λ f. have.part cpu pages e f) (λ f. have.area pages 1 kind.MapRam tt (some_pages c pages e)))
   call_begins opening own (UnmapRam t) = unmap_begins (target_of opening own t)
   call_begins opening own UnmapAliases = have.dirty
   call_begins opening own (AllocPercpu bytes align) = alloc_begins TakingAlloc bytes align have.object
@@ -281,7 +281,7 @@ pub proper_begins : (c : Setup) → HaveBeginnings (IsProper c) c
 proper_begins c = record {
   over = tt;
   refused = λ r. tt;
-  area = λ pages align k plain. plain;
+  area = λ pages align k plain some. (plain, some);
   part = λ cpu pages e f. tt;
   dirty = tt;
   object = λ bytes align few. few;

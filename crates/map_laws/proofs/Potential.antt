@@ -48,7 +48,7 @@ pub left_begins : (c : Setup) → HaveBeginnings (λ p. left c p ≤ per_call c)
 left_begins c = record {
   over = omega arith;
   refused = λ r. omega arith;
-  area = λ pages align k plain. omega arith;
+  area = λ pages align k plain some. omega arith;
   part = λ cpu pages e f. omega arith;
   dirty = omega arith;
   object = λ bytes align few. omega arith;
@@ -65,7 +65,7 @@ credit_begins : (chunks : List Chunk) (c : Setup) → HaveBeginnings (λ p. cred
 credit_begins chunks c = record {
   over = refl;
   refused = λ r. refl;
-  area = λ pages align k plain. refl;
+  area = λ pages align k plain some. refl;
   part = λ cpu pages e f. refl;
   dirty = refl;
   object = λ bytes align few. refl;

@@ -24,7 +24,7 @@ no_purge_begins : (c : Setup) → HaveBeginnings (Has has_purge false) c
 no_purge_begins c = record {
   over = refl;
   refused = λ r. refl;
-  area = λ pages align k plain. refl;
+  area = λ pages align k plain some. refl;
   part = λ cpu pages e f. refl;
   dirty = refl;
   object = λ bytes align few. refl;
@@ -41,7 +41,7 @@ no_alloc_begins : (c : Setup) → HaveBeginnings (Has has_alloc false) c
 no_alloc_begins c = record {
   over = refl;
   refused = λ r. refl;
-  area = λ pages align k plain. refl;
+  area = λ pages align k plain some. refl;
   part = λ cpu pages e f. refl;
   dirty = refl;
   object = λ bytes align few. refl;

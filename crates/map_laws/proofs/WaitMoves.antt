@@ -29,7 +29,7 @@ use Rattle.map_laws.proofs.AreaFacts.{IsAreaFine, guard_part, mapped_within, map
 use Rattle.map_laws.proofs.PlaceMoves.{IsMoved, given_all, held_in_row, length-give_frames, unbearing_uses, unbearing_own}
 use Rattle.map_laws.proofs.MapMoves.{page_by, waits_fine, flushing_fine, live_fine, area_times, IsOuter, outer_map, held_fine, free_fine, free_one, painted_free, freed_le}
 use Rattle.map_laws.proofs.Quiet.{is_quiet, IsQuiet, quiet}
-use Rattle.map_laws.proofs.GivenMeets.{find_has}
+use Rattle.map_laws.proofs.Chosen.{find_has}
 
 module _ (c : Setup) (m : PlainMap) (k : ℕ) (fine : IsMapFine m) where
   -- An area's pages get frames.
