@@ -27,3 +27,4 @@ pub mod OutMoves
 pub mod InnerMoves
 pub mod AreaMoves
 pub mod AreaWorlds
+pub mod OwnFrames
