@@ -28,3 +28,5 @@ pub mod InnerMoves
 pub mod AreaMoves
 pub mod AreaWorlds
 pub mod OwnFrames
+pub mod AreasMade
+pub mod VmallocPlaces
