@@ -30,3 +30,4 @@ pub mod AreaWorlds
 pub mod OwnFrames
 pub mod AreasMade
 pub mod VmallocPlaces
+pub mod AreaPlaces

@@ -73,16 +73,17 @@ pub record AreOwn (frames : List (Option ℕ)) : Type 0 where
 -- a frame that comes later isn't the one that is given now
 later_apart : (f : ℕ) (free : List ℕ) (frames : List (Option ℕ)) (p : ℕ) → AreRising (suc f) free → AreUnused free frames → AreUnused free (slice_set frames p (Some f))
 later_apart f [] frames p r u = tt
-later_apart f (g ∷ free) frames p r u =
-    ((λ page e. elim (set_cases frames p page (Some f) (Some g) e) [ inl is ↦ (let same : g ≡ f = cc in let a = r.0 in absurd (omega arith)) | inr is ↦ u.0 page is.1 ]),
-      later_apart f free frames p (rising_low (suc f) (suc g) free (let a = r.0 in omega arith) r.1) u.1)
+later_apart f (g ∷ free) frames p r u = (
+  (λ page e. elim (set_cases frames p page (Some f) (Some g) e) [ inl is ↦ (let same : g ≡ f = cc in let a = r.0 in absurd (omega arith)) | inr is ↦ u.0 page is.1 ]),
+  later_apart f free frames p (rising_low (suc f) (suc g) free (let a = r.0 in omega arith) r.1) u.1,
+)
 
 set_own : (frames : List (Option ℕ)) (p f : ℕ) → ((page : ℕ) → slice_get frames page ≡ Some (Some f) → ⊥) → AreOwn frames → AreOwn (slice_set frames p (Some f))
 set_own frames p f unused is = record {
   own = λ page other frame a b. elim (set_cases frames p page (Some f) (Some frame) a) [
-      inl here ↦ elim (set_cases frames p other (Some f) (Some frame) b) [ inl too ↦ here.0 ∙ sym too.0 | inr there ↦ absurd (unused other (let same : frame ≡ f = cc in there.1 ∙ ap (λ n. Some (Some n)) same)) ]
+    | inl here ↦ elim (set_cases frames p other (Some f) (Some frame) b) [ inl too ↦ here.0 ∙ sym too.0 | inr there ↦ absurd (unused other (let same : frame ≡ f = cc in there.1 ∙ ap (λ n. Some (Some n)) same)) ]
     | inr here ↦ elim (set_cases frames p other (Some f) (Some frame) b) [ inl too ↦ absurd (unused page (let same : frame ≡ f = cc in here.1 ∙ ap (λ n. Some (Some n)) same)) | inr there ↦ is.own page other frame here.1 there.1 ]
-    ];
+  ];
 }
 
 give_own : (pages free : List ℕ) (low : ℕ) (frames : List (Option ℕ)) → AreRising low free → AreUnused free frames → AreOwn frames → AreOwn (give_frames pages free frames)
@@ -100,6 +101,7 @@ still_mapped test frames page f h = by_test (test page) refl
     painted_none : (o : Option (Option ℕ)) → option_map (λ (y : Option ℕ). if true then None else y) o ≡ Some (Some f) → ⊥
     painted_none None e = cc
     painted_none (Some x) e = cc
+
     by_test : (b : Bool) → test page ≡ b → slice_get frames page ≡ Some (Some f)
     by_test true e = absurd (painted_none (slice_get frames page) (sym (slice_get-paint test None frames page ∙ ap (λ b. option_map (λ (y : Option ℕ). if b then None else y) (slice_get frames page)) e) ∙ h))
     by_test false e = sym (unpainted test None frames page e) ∙ h

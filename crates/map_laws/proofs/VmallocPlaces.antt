@@ -162,7 +162,7 @@ moved_aligned l m s call gives is (Go p) e = record { answers = is.answers; now 
 moved_aligned l m s call gives is (Answer r made) e =
     let at = answers_call l r made call in
     subst IsLocalAligned (sym at.2) (answered_aligned l (record { call = at.0; reply = r; made = made; own_event = suc l.events }) is
-      (made_at at.0 made (λ bytes align f. subst (IsNextAt (align_pages align)) e (next_at l.setup m (align_pages align) l.place s (is.now bytes align (at.1 ∙ ap (λ x. Some x) f)) gives))))
+    (made_at at.0 made (λ bytes align f. subst (IsNextAt (align_pages align)) e (next_at l.setup m (align_pages align) l.place s (is.now bytes align (at.1 ∙ ap (λ x. Some x) f)) gives))))
 
 started_aligned : (c : Setup) (opening : List Answered) (k : ℕ) (own : List Call) → IsLocalAligned (started c opening k own)
 started_aligned c opening k own = record { answers = λ i a h. cc; now = λ bytes align h. starts_at c opening [] (slice_get own 0) bytes align h }
@@ -171,9 +171,9 @@ pub aligned_lasts : (c : Setup) (calls : List (List Call)) → IsLasting c calls
 aligned_lasts c calls = record {
   steps = λ w k l s framed all step. record {
     each = λ j x h. elim (set_cases w.locals l.caller j (moved_to l (next l.setup l.place s)) x h) [
-        inl e ↦ subst IsLocalAligned (sym e.1) (moved_aligned l w.map s (has_call c k l (framed.own k l step.here) (not_over l.setup w.map l.place s step.gives)) step.gives (all.each k l step.here) (next l.setup l.place s) refl)
+      | inl e ↦ subst IsLocalAligned (sym e.1) (moved_aligned l w.map s (has_call c k l (framed.own k l step.here) (not_over l.setup w.map l.place s step.gives)) step.gives (all.each k l step.here) (next l.setup l.place s) refl)
       | inr e ↦ all.each j x e.1
-      ];
+    ];
   };
   joins = λ w framed one all over. record {
     each = λ k l h. elim (append_cases w.locals (callers_from c (opening_answers w.locals) 1 calls) k l h) [ inl e ↦ all.each k l e | inr e ↦ joined (opening_answers w.locals) 1 calls e.0 l e.2 ];
