@@ -99,15 +99,15 @@ over_where_none w kept none = all_over w.locals (λ k l here. elim (nothing_or (
 
 -- Fuel.
 
-finish_none : (n : ℕ) (w : World) → first_mover w ≡ None → finish (suc n) w ≡ w
+pub finish_none : (n : ℕ) (w : World) → first_mover w ≡ None → finish (suc n) w ≡ w
 unfolding finish
 finish_none n w e = ap (λ (o : Option ℕ). elim o [ None ↦ w | Some k ↦ finish n (step w k) ]) e
 
-finish_some : (n : ℕ) (w : World) (k : ℕ) → first_mover w ≡ Some k → finish (suc n) w ≡ finish n (step w k)
+pub finish_some : (n : ℕ) (w : World) (k : ℕ) → first_mover w ≡ Some k → finish (suc n) w ≡ finish n (step w k)
 unfolding finish
 finish_some n w k e = ap (λ (o : Option ℕ). elim o [ None ↦ w | Some k ↦ finish n (step w k) ]) e
 
-finish_zero : (w : World) → finish 0 w ≡ w
+pub finish_zero : (w : World) → finish 0 w ≡ w
 unfolding finish
 finish_zero w = refl
 

@@ -31,3 +31,5 @@ pub mod OwnFrames
 pub mod AreasMade
 pub mod VmallocPlaces
 pub mod AreaPlaces
+pub mod LegalRuns
+pub mod AreaLaws

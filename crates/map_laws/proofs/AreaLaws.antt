@@ -1,0 +1,193 @@
+-- The laws of traces that make and free vmalloc areas alone.
+use Rattle.std.proofs.Common.{◌≡◌, ◌≢◌, ℕ, zero, suc, ◌+◌, ◌-◌, ◌<◌, ◌≤◌, ◌⊎◌, inl, inr, Bool, true, false, ◌==◌, nat_lt, if◌then◌else◌, List, [], ◌∷◌, ◌++◌, length, map, filter, not, slice_get, replicate, sum_by, Option, Some, None, refl, ap, sym, ◌∙◌, subst, arith}
+use Rattle.std.proofs.lemmas.Bool.Decides.{nat_tests}
+use Rattle.std.proofs.lemmas.List.{length-replicate}
+use Rattle.std.proofs.lemmas.List.Sums.{sum_by-cons, sum_by-append}
+use Rattle.std.proofs.lemmas.Option.{slice_get_within}
+use Rattle.vm_model.specs.declared.areas.Span.{Span}
+use Rattle.vm_model.specs.declared.areas.Area.{Area}
+use Rattle.vm_model.specs.declared.areas.AreaKind.{AreaKind}
+use Rattle.vm_model.specs.declared.areas.AreaKind.TheVariants as kind
+use Rattle.vm_model.specs.declared.calls.Call.{Call}
+use Rattle.vm_model.specs.Space.{span, holds, covers, times, lowest, end_of}
+use Rattle.vm_model.specs.Setup.{Setup}
+use Rattle.vm_model.specs.PlainMap.{PlainMap, Mark, Free, at_first, taken}
+use Rattle.vm_model.specs.Areas.{is_area, named_areas, mapped_part, spans_of}
+use Rattle.vm_model.specs.Frames.{free_frames}
+use Rattle.vm_model.specs.Legal.{IsMarked, IsUnmapped, IsBare, OnEach, IsLegalAs}
+use Rattle.vm_model.specs.Events.{Section, ForPages, ForGroups, Refuse, TakePurge, GivePurge, Carve, NoHole, MapPages, NoFrames}
+use Rattle.vm_model.specs.Places.{Place, Over, Refusing, Finding, FindingAgain, MappingArea, Dropping, SettlingArea, Removing, UnmappingArea, Waiting, PurgeTaking, PurgeFragmenting, PurgeCollecting, PurgeFlushing, PurgeReturning, PurgeGiving, LookingAtDirty, Aim, ForArea, ask}
+use Rattle.vm_model.specs.Given.{given, carving, removal, with_frames, taking}
+use Rattle.vm_model.specs.Calls.{Answered}
+use Rattle.vm_model.specs.History.{World, Local, started, made_by, opening_world, opening_answers, callers_from, with_callers}
+use Rattle.vm_model.specs.Carried.{held, flushed, has_purge}
+use Rattle.vm_model.specs.LegalHistory.{IsReached, AllOver}
+use Rattle.vm_model.specs.Rules.{IsTrace}
+use Rattle.vm_model.specs.Laws.{as_free, uses, AreAreasApart, AreFreePagesClean, IsOneLegalHistory}
+use Rattle.map_laws.specs.AreaTraces.{AreOnlyAreas, VmallocAreasAreDisjointAndAligned, TheVmallocGuardIsNeverMapped, FreePagesAreCleanForAreas, AreaHistoriesAreLegal}
+use Rattle.map_laws.proofs.Lists.{there, append_cases}
+use Rattle.map_laws.proofs.Chosen.{IsIn, filter_has}
+use Rattle.map_laws.proofs.Frames.{IsFramed, IsStep, lasts}
+use Rattle.map_laws.proofs.Places.{IsPlainKind, IsProper, AllStand, HaveBeginnings, begins_with}
+use Rattle.map_laws.proofs.TurnProofs.{AreTurnsProper, turns_first, turns_last}
+use Rattle.map_laws.proofs.Spans.{times-cons, covers_one, holds_from}
+use Rattle.map_laws.proofs.StepFalls.{has_room}
+use Rattle.map_laws.proofs.GivenMeets.{given_meets}
+use Rattle.map_laws.proofs.AreaFacts.{IsHolding, IsMapFine, IsUnbearing, nothing_held, nothing_flushed, holds_nothing, guard_part, mapped_covers}
+use Rattle.map_laws.proofs.MapMoves.{times_both}
+use Rattle.map_laws.proofs.AreaWorlds.{IsAreaWorld, area_kept, unbearing_begins, IsLegalStep, IsLegallyLasting, legally_lasts}
+use Rattle.map_laws.proofs.OwnFrames.{AreFramesClean, clean_first, clean_lasts}
+use Rattle.map_laws.proofs.AreasMade.{AreMadeWell, made_section}
+use Rattle.map_laws.proofs.VmallocPlaces.{AreAligned, aligned_first, aligned_lasts}
+use Rattle.map_laws.proofs.AreaPlaces.{IsAreaPlace, IsAreaOnly, area_outside, area_only_first, area_only_step, area_only_joins}
+use Rattle.map_laws.proofs.LegalRuns.{one_legal}
+
+-- The first world, and callers that join.
+
+replicate-in : {X : Type 0} (n : ℕ) (x : X) (i : ℕ) → i < n → slice_get (replicate n x) i ≡ Some x
+replicate-in zero x i h = absurd (omega arith)
+replicate-in (suc n) x zero h = refl
+replicate-in (suc n) x (suc i) h = replicate-in n x i (omega arith)
+
+replicate-is : {X : Type 0} (n : ℕ) (x y : X) (i : ℕ) → slice_get (replicate n x) i ≡ Some y → (i < n) × (x ≡ y)
+replicate-is zero x y i h = cc
+replicate-is (suc n) x y zero h = ((omega arith), cc)
+replicate-is (suc n) x y (suc i) h = let r = replicate-is n x y i h in ((let a = r.0 in omega arith), r.1)
+
+as_free_one : (o : Option Mark) → as_free o ≤ 1
+as_free_one None = omega arith
+as_free_one (Some Free) = omega arith
+as_free_one (Some _) = omega arith
+
+fine_first : (c : Setup) (room : ℕ) → IsMapFine (at_first c room)
+fine_first c room = record {
+  areas = λ i a h. cc;
+  waits = λ page e. cc;
+  long = length-replicate c.space false ∙ sym (length-replicate c.space None);
+  pages = λ page. record {
+    free = λ h. (let r = replicate-is c.space Free Free page h in record { unmapped = replicate-in c.space None page r.0; not_stale = replicate-in c.space false page r.0 });
+    waiting = λ h. (let r = replicate-is c.space Free _ page h in let no = r.1 in cc);
+    flushing = λ k h. (let r = replicate-is c.space Free _ page h in let no = r.1 in cc);
+  };
+}
+
+first_unbearing : (c : Setup) (opening : List Call) → IsUnbearing (started c [] 0 opening).place
+first_unbearing c opening = begins_with IsUnbearing c (unbearing_begins c) [] [] (slice_get opening 0)
+
+pub area_first : (c : Setup) (opening : List Call) (calls : List (List Call)) → IsAreaWorld (opening_world c opening calls)
+area_first c opening calls = record {
+  fine = fine_first c _;
+  once = λ page. (
+    let h : times page (held c (started c [] 0 opening).place) ≡ 0 = ap (times page) (nothing_held c (started c [] 0 opening).place (first_unbearing c opening)) in
+    let f : times page (flushed (started c [] 0 opening).place) ≡ 0 = ap (times page) (nothing_flushed (started c [] 0 opening).place (first_unbearing c opening)) in
+    omega (arith, sum_by-cons (λ (x : Local). times page (held x.setup x.place)) (started c [] 0 opening) [], sum_by-cons (λ (x : Local). times page (flushed x.place)) (started c [] 0 opening) [],
+      as_free_one (slice_get (replicate c.space Free) page)));
+  each = first;
+}
+  where
+    first : (k : ℕ) (l : Local) → slice_get (started c [] 0 opening ∷ []) k ≡ Some l → IsHolding l.setup (opening_world c opening calls).map l.caller l.place
+    first zero l h = let e : started c [] 0 opening ≡ l = cc in
+        subst (λ (x : Local). IsHolding x.setup (opening_world c opening calls).map x.caller x.place) e (holds_nothing c (opening_world c opening calls).map 0 (started c [] 0 opening).place (first_unbearing c opening))
+    first (suc k) l h = cc
+
+-- callers at their start hold nothing
+callers_hold : (c : Setup) (page first : ℕ) (answers : List Answered) (calls : List (List Call)) → sum_by (λ (x : Local). times page (held x.setup x.place)) (callers_from c answers first calls) ≡ 0
+callers_hold c page first answers [] = refl
+callers_hold c page first answers (own ∷ calls) =
+    let none = begins_with IsUnbearing c (unbearing_begins c) answers [] (slice_get own 0) in
+    let h : times page (held c (started c answers first own).place) ≡ 0 = ap (times page) (nothing_held c (started c answers first own).place none) in
+    omega (arith, sum_by-cons (λ (x : Local). times page (held x.setup x.place)) (started c answers first own) (callers_from c answers (suc first) calls), callers_hold c page (suc first) answers calls)
+
+callers_flush : (c : Setup) (page first : ℕ) (answers : List Answered) (calls : List (List Call)) → sum_by (λ (x : Local). times page (flushed x.place)) (callers_from c answers first calls) ≡ 0
+callers_flush c page first answers [] = refl
+callers_flush c page first answers (own ∷ calls) =
+    let none = begins_with IsUnbearing c (unbearing_begins c) answers [] (slice_get own 0) in
+    let h : times page (flushed (started c answers first own).place) ≡ 0 = ap (times page) (nothing_flushed (started c answers first own).place none) in
+    omega (arith, sum_by-cons (λ (x : Local). times page (flushed x.place)) (started c answers first own) (callers_from c answers (suc first) calls), callers_flush c page (suc first) answers calls)
+
+pub area_joins : (c : Setup) (calls : List (List Call)) (w : World) → IsAreaWorld w → IsAreaWorld (with_callers c calls w)
+area_joins c calls w kept = record {
+  fine = kept.fine;
+  once = λ page. (let before = kept.once page in
+    omega (arith, sum_by-append (λ (x : Local). times page (held x.setup x.place)) w.locals (callers_from c (opening_answers w.locals) 1 calls),
+      sum_by-append (λ (x : Local). times page (flushed x.place)) w.locals (callers_from c (opening_answers w.locals) 1 calls),
+      callers_hold c page 1 (opening_answers w.locals) calls, callers_flush c page 1 (opening_answers w.locals) calls));
+  each = λ k l h. elim (append_cases w.locals (callers_from c (opening_answers w.locals) 1 calls) k l h) [ inl e ↦ kept.each k l e | inr e ↦ joined (opening_answers w.locals) 1 calls e.0 l e.2 ];
+}
+  where
+    joined : (answers : List Answered) (first : ℕ) (more : List (List Call)) (j : ℕ) (l : Local) → slice_get (callers_from c answers first more) j ≡ Some l → IsHolding l.setup w.map l.caller l.place
+    joined answers first [] j l h = cc
+    joined answers first (own ∷ more) zero l h = let e : started c answers first own ≡ l = cc in
+        subst (λ (x : Local). IsHolding x.setup w.map x.caller x.place) e (holds_nothing c w.map first (started c answers first own).place (begins_with IsUnbearing c (unbearing_begins c) answers [] (slice_get own 0)))
+    joined answers first (own ∷ more) (suc j) l h = joined answers (suc first) more j l h
+
+-- what every world of such a trace has
+pub record IsAreaTraceWorld (c : Setup) (w : World) : Type 0 where
+  pub turns : AreTurnsProper w
+  pub area : IsAreaWorld w
+  pub only : IsAreaOnly w
+  pub made : AreMadeWell c w.map.areas
+  pub clean : AreFramesClean w.map
+  pub aligned : AreAligned w
+
+module _ (c : Setup) (opening : List Call) (calls : List (List Call)) (areas : AreOnlyAreas opening calls) where
+  pub trace_lasts : IsLegallyLasting c calls (IsAreaTraceWorld c)
+  trace_lasts = record {
+    steps = λ w k l s framed is step.
+        let own = framed.own k l step.step.here in
+        let proper = is.turns.proper.each k l step.step.here in record {
+          turns = (turns_last c calls).steps w k l s framed is.turns step.step;
+          area = area_kept c w k l s framed is.area proper (area_outside l.setup w.map l.place (is.only.each k l step.step.here).place is.only.plain) step;
+          only = area_only_step c w k l s framed is.turns.proper is.only step;
+          made = subst (λ d. AreMadeWell d (made_by w l s).map.areas) own.setup (made_section l.setup w.map l.caller l.place s proper step.meets (subst (λ d. AreMadeWell d w.map.areas) (sym own.setup) is.made));
+          clean = (clean_lasts c calls).steps w k l s framed is.clean step;
+          aligned = (aligned_lasts c calls).steps w k l s framed is.aligned step.step;
+        };
+    joins = λ w framed one is over. record {
+      turns = (turns_last c calls).joins w framed one is.turns over;
+      area = area_joins c calls w is.area;
+      only = area_only_joins c opening calls w areas is.only;
+      made = is.made;
+      clean = is.clean;
+      aligned = (aligned_lasts c calls).joins w framed one is.aligned over;
+    };
+  }
+
+  pub trace_first : IsAreaTraceWorld c (opening_world c opening calls)
+  trace_first = record {
+    turns = turns_first c opening calls;
+    area = area_first c opening calls;
+    only = area_only_first c opening calls areas;
+    made = record { each = λ a there. (let at = there.at in cc) };
+    clean = clean_first c opening calls;
+    aligned = aligned_first c opening calls;
+  }
+
+  pub trace_reached : (w : World) → IsReached c opening calls w → IsAreaTraceWorld c w
+  trace_reached w reached = (legally_lasts c calls (IsAreaTraceWorld c) trace_lasts opening trace_first w reached).1
+
+pub areas_apart : VmallocAreasAreDisjointAndAligned
+areas_apart c opening calls w trace areas reached =
+    let is = trace_reached c opening calls areas w reached in record {
+      once = is.area.once;
+      aligned = λ i a h. (is.made.each a (record { place = i; at = h })).aligned;
+      made_aligned = λ k i l answer here h. (is.aligned.each k l here).answers i answer h;
+    }
+
+guard_in : (s : Span) → 1 ≤ s.pages → covers (guard_part kind.Vmalloc s ∷ []) (end_of s - 1) ≡ true
+guard_in s some = covers_one (guard_part kind.Vmalloc s) (end_of s - 1) ∙ holds_from (guard_part kind.Vmalloc s) (end_of s - 1) (omega arith) (omega arith)
+
+pub guard_unmapped : TheVmallocGuardIsNeverMapped
+guard_unmapped c opening calls w trace areas reached i a h e =
+    let is = trace_reached c opening calls areas w reached in
+    let plain : IsPlainKind a.kind = subst IsPlainKind (sym e) tt in
+    let some = (is.made.each a (record { place = i; at = h })).wide plain in
+    (is.area.fine.areas i a h).guard plain (end_of a.span - 1) (ap (λ k. covers (guard_part k a.span ∷ []) (end_of a.span - 1)) e ∙ guard_in a.span some)
+
+pub free_clean : FreePagesAreCleanForAreas
+free_clean c opening calls w trace areas reached =
+    let is = trace_reached c opening calls areas w reached in record {
+      free = λ page h. (is.area.fine.pages page).free h;
+      stale = is.clean.stale.stale;
+      own = is.clean.own.own;
+    }
