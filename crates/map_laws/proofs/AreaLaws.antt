@@ -78,10 +78,14 @@ pub area_first : (c : Setup) (opening : List Call) (calls : List (List Call)) �
 area_first c opening calls = record {
   fine = fine_first c _;
   once = λ page. (
-    let h : times page (held c (started c [] 0 opening).place) ≡ 0 = ap (times page) (nothing_held c (started c [] 0 opening).place (first_unbearing c opening)) in
-    let f : times page (flushed (started c [] 0 opening).place) ≡ 0 = ap (times page) (nothing_flushed (started c [] 0 opening).place (first_unbearing c opening)) in
-    omega (arith, sum_by-cons (λ (x : Local). times page (held x.setup x.place)) (started c [] 0 opening) [], sum_by-cons (λ (x : Local). times page (flushed x.place)) (started c [] 0 opening) [],
-      as_free_one (slice_get (replicate c.space Free) page)));
+      let h : times page (held c (started c [] 0 opening).place) ≡ 0 = ap (times page) (nothing_held c (started c [] 0 opening).place (first_unbearing c opening)) in
+      let f : times page (flushed (started c [] 0 opening).place) ≡ 0 = ap (times page) (nothing_flushed (started c [] 0 opening).place (first_unbearing c opening)) in
+      omega (
+        arith,
+        sum_by-cons (λ (x : Local). times page (held x.setup x.place)) (started c [] 0 opening) [],
+        sum_by-cons (λ (x : Local). times page (flushed x.place)) (started c [] 0 opening) [],
+        as_free_one (slice_get (replicate c.space Free) page),
+      ));
   each = first;
 }
   where
@@ -109,9 +113,13 @@ pub area_joins : (c : Setup) (calls : List (List Call)) (w : World) → IsAreaWo
 area_joins c calls w kept = record {
   fine = kept.fine;
   once = λ page. (let before = kept.once page in
-    omega (arith, sum_by-append (λ (x : Local). times page (held x.setup x.place)) w.locals (callers_from c (opening_answers w.locals) 1 calls),
-      sum_by-append (λ (x : Local). times page (flushed x.place)) w.locals (callers_from c (opening_answers w.locals) 1 calls),
-      callers_hold c page 1 (opening_answers w.locals) calls, callers_flush c page 1 (opening_answers w.locals) calls));
+      omega (
+        arith,
+        sum_by-append (λ (x : Local). times page (held x.setup x.place)) w.locals (callers_from c (opening_answers w.locals) 1 calls),
+        sum_by-append (λ (x : Local). times page (flushed x.place)) w.locals (callers_from c (opening_answers w.locals) 1 calls),
+        callers_hold c page 1 (opening_answers w.locals) calls,
+        callers_flush c page 1 (opening_answers w.locals) calls,
+      ));
   each = λ k l h. elim (append_cases w.locals (callers_from c (opening_answers w.locals) 1 calls) k l h) [ inl e ↦ kept.each k l e | inr e ↦ joined (opening_answers w.locals) 1 calls e.0 l e.2 ];
 }
   where

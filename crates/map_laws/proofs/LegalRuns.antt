@@ -83,6 +83,7 @@ module _ (c : Setup) (calls : List (List Call)) (P : World → Type 0) (lasts : 
       by_section : (l : Local) → slice_get w.locals k ≡ Some l → (o : Option Section) → given l.setup w.map (ask l.setup l.place) ≡ o → IsLed w (made_if w l o)
       by_section l here None g = stays w framed kept
       by_section l here (Some s) g = made_led w k l s framed kept (record { here = here; gives = g })
+
       by_local : (o : Option Local) → slice_get w.locals k ≡ o → IsLed w (step_of w o)
       by_local None h = stays w framed kept
       by_local (Some l) h = by_section l h (given l.setup w.map (ask l.setup l.place)) refl
@@ -122,8 +123,12 @@ module _ (c : Setup) (calls : List (List Call)) (P : World → Type 0) (lasts : 
       over_first = subst (λ (v : World). AllOver v.locals) opened.runs.ends opened_over
 
       picked_reached : IsReached c opening calls (pick_all (with_callers c calls (finish most_events (opening_world c opening calls))) picks)
-      picked_reached = inr (opened.runs.made, picked.runs.made, (opened.runs.run, over_first, subst (λ v. IsRun v picked.runs.made) same_start picked.runs.run),
-        picked.runs.ends ∙ ap (λ v. world_after v picked.runs.made) same_start)
+      picked_reached = inr (
+        opened.runs.made,
+        picked.runs.made,
+        (opened.runs.run, over_first, subst (λ v. IsRun v picked.runs.made) same_start picked.runs.run),
+        picked.runs.ends ∙ ap (λ v. world_after v picked.runs.made) same_start,
+      )
 
       whole : IsLed (with_callers c calls (finish most_events (opening_world c opening calls))) (finish most_events (pick_all (with_callers c calls (finish most_events (opening_world c opening calls))) picks))
       whole = led_then (with_callers c calls (finish most_events (opening_world c opening calls))) (pick_all (with_callers c calls (finish most_events (opening_world c opening calls))) picks) _ picked

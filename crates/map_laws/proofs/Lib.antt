@@ -33,3 +33,4 @@ pub mod VmallocPlaces
 pub mod AreaPlaces
 pub mod LegalRuns
 pub mod AreaLaws
+pub mod AreaLegal
