@@ -15,7 +15,7 @@ use Rattle.vm_model.specs.Blocks.{PartAt}
 use Rattle.vm_model.specs.Chunks.{ObjectAt}
 use Rattle.vm_model.specs.Events.{Section, Search, ForPages, ForGroups}
 use Rattle.vm_model.specs.Told.{carved, carved_base, had_frames, removed, pages_waiting, spans_taken, blocks_gone, dirty_told, part_told, was_spent, placed, was_live, spare_told, page_told}
-use Rattle.vm_model.specs.Places.{Place, Over, Refusing, Adding, Summing, TakingToBalance, Finding, FindingAgain, MappingArea, Dropping, SettlingArea, Removing, UnmappingArea, Waiting, PurgeTaking, PurgeFragmenting, PurgeUnlinking, PurgeWaiting, PurgeCollecting, PurgeFlushing, PurgeReturning, PurgeGiving, CuttingPart, MappingPart, BeginningUnmap, Retiring, LookingAtDirty, SettlingBlock, TakingAlloc, Choosing, SettlingGroups, AddingChunk, Populating, GivingAlloc, ChoosingAtomic, FreeingObject, Sparing, NextFill, Filling, Made, MadeNothing, MadeArea, MadePart, MadeObject, Aim, ForArea, ForBlock, ForChunk, Then, SearchAgain, ReplyWith, SpareAgain, Ask, AskSearch, ask}
+use Rattle.vm_model.specs.Places.{Place, Over, Refusing, Adding, Summing, TakingToBalance, Finding, FindingAgain, MappingArea, Dropping, SettlingArea, Removing, UnmappingArea, Waiting, PurgeTaking, PurgeFragmenting, PurgeUnlinking, PurgeWaiting, PurgeCollecting, PurgeFlushing, PurgeReturning, PurgeGiving, CuttingPart, AddingBlock, MappingPart, BeginningUnmap, Retiring, LookingAtDirty, SettlingBlock, TakingAlloc, Choosing, SettlingGroups, AddingChunk, Populating, GivingAlloc, ChoosingAtomic, FreeingObject, Sparing, NextFill, Filling, Made, MadeNothing, MadeArea, MadePart, MadeObject, Aim, ForArea, ForBlock, ForChunk, Then, SearchAgain, ReplyWith, SpareAgain, Ask, AskSearch, ask}
 use Rattle.vm_model.specs.Next.{Next, Go, Answer, next, just, found, with_span, with_base, without_space, after_remove, go_on, after_fragments, after_collecting, after_flush, after_cut, after_begin, after_place, after_atomic, after_spare, after_page}
 use Rattle.vm_model.specs.Calls.{pages_for, align_pages, Answered, begin, begin_call, begin_vmalloc, begin_map_ram, begin_alloc, begin_free_area, begin_unmap_ram, begin_free_percpu, begin_add, begin_sum, target_of, was_freed, answers_in, words_for, is_bad_vmalloc_size, is_bad_vmalloc_align, is_bad_map_size, is_bad_object_size, is_bad_object_align}
 use Rattle.vm_model.specs.Given.{given, carving, carving_groups}
@@ -35,7 +35,7 @@ IsPlainKind (kind.Chunk chunk group) = ⊥
 -- pages are searched for areas and blocks, and groups for a chunk
 abbrev pub IsAimed : Setup → Search → Aim → Type 0
 IsAimed c (ForPages pages align) (ForArea k) = IsPlainKind k × (1 ≤ pages)
-IsAimed c (ForPages pages align) (ForBlock cpu asked) = (pages ≡ c.block_pages) × (align ≡ c.block_pages)
+IsAimed c (ForPages pages align) (ForBlock cpu asked) = (pages ≡ c.block_pages) × (align ≡ c.block_pages) × (1 ≤ asked) × (asked ≤ c.part_limit)
 IsAimed c (ForPages pages align) (ForChunk chunk bytes to) = ⊥
 IsAimed c ForGroups (ForArea k) = ⊥
 IsAimed c ForGroups (ForBlock cpu asked) = ⊥
@@ -51,7 +51,9 @@ IsProper c (Finding search aim) = IsAimed c search aim
 IsProper c (FindingAgain search aim) = IsAimed c search aim
 IsProper c (MappingArea s k) = IsPlainKind k × (1 ≤ s.pages)
 IsProper c (SettlingArea s k) = IsPlainKind k × (1 ≤ s.pages)
-IsProper c (SettlingBlock s cpu pages) = (s.pages ≡ c.block_pages) × (s.start % c.block_pages ≡ 0)
+IsProper c (SettlingBlock s cpu pages) = (s.pages ≡ c.block_pages) × (s.start % c.block_pages ≡ 0) × (1 ≤ pages) × (pages ≤ c.part_limit)
+IsProper c (CuttingPart cpu pages) = (1 ≤ pages) × (pages ≤ c.part_limit)
+IsProper c (AddingBlock at) = (at.offset ≡ 0) × (1 ≤ at.pages) × (at.pages ≤ c.part_limit)
 IsProper c (Waiting spans after) = IsFollowed c after
 IsProper c (PurgeTaking extra after) = IsFollowed c after
 IsProper c (PurgeFragmenting cpu gone extra after) = IsFollowed c after
@@ -96,7 +98,7 @@ module _ (c : Setup) (m : PlainMap) where
   found_pages pages align aim otherwise None e is q = q
   found_pages pages align (ForArea k) otherwise (Some start) e is q = is
   found_pages pages align (ForBlock cpu asked) otherwise (Some start) e is q =
-      let fit = is_zero (start % align) (lowest_fit (taken m) pages align start e).0 in (is.0, ap (λ n. start % n) (sym is.1) ∙ fit)
+      let fit = is_zero (start % align) (lowest_fit (taken m) pages align start e).0 in (is.0, ap (λ n. start % n) (sym is.1) ∙ fit, is.2, is.3)
   found_pages pages align (ForChunk chunk bytes to) otherwise (Some start) e is q = absurd is
 
   found_groups : (chunk bytes align : ℕ) (otherwise : Next) (o : Option ℕ) → highest c (taken m) ≡ o → bytes ≤ 32768 → OnNext (IsProper c) otherwise
@@ -140,9 +142,9 @@ module _ (c : Setup) (m : PlainMap) where
   flushed_proper [] after is = is
   flushed_proper (s ∷ waited) after is = is
 
-  cut_proper : (cpu pages : ℕ) (o : Option PartAt) → OnNext (IsProper c) (after_cut c cpu pages o)
-  cut_proper cpu pages None = (refl, refl)
-  cut_proper cpu pages (Some at) = tt
+  cut_proper : (cpu pages : ℕ) (o : Option PartAt) → 1 ≤ pages → pages ≤ c.part_limit → OnNext (IsProper c) (after_cut c cpu pages o)
+  cut_proper cpu pages None low high = (refl, refl, low, high)
+  cut_proper cpu pages (Some at) low high = tt
 
   begun_proper : (o : Option PartAt) → OnNext (IsProper c) (after_begin o)
   begun_proper None = tt
@@ -176,7 +178,8 @@ module _ (c : Setup) (m : PlainMap) where
   proper_next (PurgeCollecting extra after) s is e = collected_proper (spans_taken s) _ after is
   proper_next (PurgeFlushing hull waited after) s is e = flushed_proper waited after is
   proper_next (PurgeGiving after) s is e = went_on_proper after is
-  proper_next (CuttingPart cpu pages) s is e = cut_proper cpu pages (part_told s)
+  proper_next (CuttingPart cpu pages) s is e = cut_proper cpu pages (part_told s) is.0 is.1
+  proper_next (SettlingBlock place cpu pages) s is e = (refl, is.2, is.3)
   proper_next (MappingPart at) s is e = either_next (IsProper c) (had_frames s) _ _ tt tt
   proper_next (BeginningUnmap cpu page serial) s is e = begun_proper (part_told s)
   proper_next (Retiring at reply) s is e = either_next (IsProper c) (was_spent s) _ _ tt tt
@@ -282,7 +285,7 @@ proper_begins c = record {
   over = tt;
   refused = λ r. tt;
   area = λ pages align k plain some. (plain, some);
-  part = λ cpu pages e f. tt;
+  part = λ cpu pages e f. ((some_pages c pages e), (let few : pages ≤ c.part_limit = grind (arith, nat_tests) in few));
   dirty = tt;
   object = λ bytes align few. few;
   atomic = λ bytes align few. tt;
