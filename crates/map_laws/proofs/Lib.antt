@@ -34,3 +34,4 @@ pub mod AreaPlaces
 pub mod LegalRuns
 pub mod AreaLaws
 pub mod AreaLegal
+pub mod Serials
