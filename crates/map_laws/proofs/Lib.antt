@@ -35,3 +35,4 @@ pub mod LegalRuns
 pub mod AreaLaws
 pub mod AreaLegal
 pub mod Serials
+pub mod MapPlaces
