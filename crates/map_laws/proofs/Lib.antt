@@ -36,3 +36,5 @@ pub mod AreaLaws
 pub mod AreaLegal
 pub mod Serials
 pub mod MapPlaces
+pub mod Powers
+pub mod BlockFacts
