@@ -38,3 +38,4 @@ pub mod Serials
 pub mod MapPlaces
 pub mod Powers
 pub mod BlockFacts
+pub mod BlockMoves
