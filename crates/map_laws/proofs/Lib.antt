@@ -39,3 +39,4 @@ pub mod MapPlaces
 pub mod Powers
 pub mod BlockFacts
 pub mod BlockMoves
+pub mod BlockChanges
