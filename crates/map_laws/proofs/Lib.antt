@@ -40,3 +40,4 @@ pub mod Powers
 pub mod BlockFacts
 pub mod BlockMoves
 pub mod BlockChanges
+pub mod PartMoves
