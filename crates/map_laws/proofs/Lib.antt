@@ -41,3 +41,4 @@ pub mod BlockFacts
 pub mod BlockMoves
 pub mod BlockChanges
 pub mod PartMoves
+pub mod FragmentMoves

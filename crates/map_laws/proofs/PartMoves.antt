@@ -26,6 +26,11 @@ use Rattle.map_laws.proofs.BlockFacts.{OnRow, IsStill, IsBlockArea, AreStacked, 
 use Rattle.map_laws.proofs.BlockChanges.{in_of, changed_is, changed_in, unchanged_in, changed_starts, blocks_only, lived_blocks, lived_hand, own_lived, all_ended, ended_unmapped, hand_not_ended}
 use Rattle.map_laws.proofs.BlockMoves.{next_out, IsBlockMoved, part_within, row_of}
 
+-- the count of a start as a sum over blocks
+pub sum_starts_of : (start : ℕ) (blocks : List Block) → count_of start (block_starts blocks) ≡ sum_by (λ (b : Block). one_if (b.start == start)) blocks
+sum_starts_of start [] = refl
+sum_starts_of start (b ∷ blocks) = omega (arith, count_cons start b.start (block_starts blocks), sum_by-cons (λ (b : Block). one_if (b.start == start)) b blocks, sum_starts_of start blocks)
+
 -- A stack with one more part behind.
 
 stacked_more : (ps : List Part) (off : ℕ) (p : Part) → AreStacked off ps → p.offset ≡ off + parts_size ps → p.pages ≤ size_of p → AreStacked off (ps ++ p ∷ [])
@@ -231,12 +236,8 @@ module _ (c : Setup) (m : PlainMap) (k : ℕ) (all : (b : Block) → IsIn b m.bl
           unspent mid true e = absurd (hand_not_ended mid.block mid.part j mid.part_there mid.life (spent_full mid.block (retired_fine mid.block mid.there) e))
           unspent mid false e = ap not e
 
-      sum_starts : (start : ℕ) (blocks : List Block) → count_of start (block_starts blocks) ≡ sum_by (λ (b : Block). one_if (b.start == start)) blocks
-      sum_starts start [] = refl
-      sum_starts start (b ∷ blocks) = omega (arith, count_cons start b.start (block_starts blocks), sum_by-cons (λ (b : Block). one_if (b.start == start)) b blocks, sum_starts start blocks)
-
       few_left : (start : ℕ) → count_of start (block_starts (filter (λ (b : Block). not (is_spent c b)) (set_life at Ended m.blocks))) ≤ count_of start (block_starts m.blocks)
-      few_left start = omega (arith, sum_starts start (filter (λ (b : Block). not (is_spent c b)) (set_life at Ended m.blocks)), sum_starts start (set_life at Ended m.blocks),
+      few_left start = omega (arith, sum_starts_of start (filter (λ (b : Block). not (is_spent c b)) (set_life at Ended m.blocks)), sum_starts_of start (set_life at Ended m.blocks),
         sum_by-filter-le (λ (b : Block). one_if (b.start == start)) (λ (b : Block). not (is_spent c b)) (set_life at Ended m.blocks), ap (count_of start) (changed_starts at.block (with_life at Ended) (λ b. refl) m.blocks))
 
       -- the spent block of the part
@@ -252,7 +253,7 @@ module _ (c : Setup) (m : PlainMap) (k : ℕ) (all : (b : Block) → IsIn b m.bl
           record { block = b; there = is.0; start = to_same b.start at.block both.0; full = both.1 }
 
       one_gone : IsSpentBlock → (start : ℕ) → count_of start (block_starts (filter (λ (b : Block). not (is_spent c b)) (set_life at Ended m.blocks))) + one_if (at.block == start) ≤ count_of start (block_starts m.blocks)
-      one_gone is start = omega (arith, sum_starts start (filter (λ (b : Block). not (is_spent c b)) (set_life at Ended m.blocks)), sum_starts start (set_life at Ended m.blocks),
+      one_gone is start = omega (arith, sum_starts_of start (filter (λ (b : Block). not (is_spent c b)) (set_life at Ended m.blocks)), sum_starts_of start (set_life at Ended m.blocks),
         sum_without (λ (b : Block). one_if (b.start == start)) (λ (b : Block). not (is_spent c b)) (set_life at Ended m.blocks) is.block is.there.place is.there.at (ap not is.full),
         ap (λ n. one_if (n == start)) is.start, ap (count_of start) (changed_starts at.block (with_life at Ended) (λ b. refl) m.blocks))
 
