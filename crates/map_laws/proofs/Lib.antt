@@ -42,3 +42,4 @@ pub mod BlockMoves
 pub mod BlockChanges
 pub mod PartMoves
 pub mod FragmentMoves
+pub mod BlockPlaces
