@@ -86,7 +86,7 @@ no_next_at : (c : Setup) (m : PlainMap) (k : ℕ) (n : Next) → OnNext IsUnbloc
 no_next_at c m k (Go p) h = unblocky_at c m k p h
 no_next_at c m k (Answer r made) h = tt
 
-found_un : (search : Search) (aim : Aim) (o : Option Span) (base : Option ℕ) (otherwise : Next) → IsMapSearch search aim → OnNext IsUnblocky otherwise → OnNext IsUnblocky (found aim o base otherwise)
+pub found_un : (search : Search) (aim : Aim) (o : Option Span) (base : Option ℕ) (otherwise : Next) → IsMapSearch search aim → OnNext IsUnblocky otherwise → OnNext IsUnblocky (found aim o base otherwise)
 found_un search (ForArea k) (Some place) base otherwise is h = refl
 found_un search (ForArea k) None (Some base) otherwise is h = tt
 found_un search (ForArea k) None None otherwise is h = h
@@ -96,25 +96,25 @@ found_un search (ForBlock cpu pages) None None otherwise is h = h
 found_un (ForPages pages align) (ForChunk chunk bytes to) o base otherwise is h = absurd is
 found_un ForGroups (ForChunk chunk bytes to) o base otherwise is h = absurd is
 
-no_space_un : (aim : Aim) → OnNext IsUnblocky (without_space aim)
+pub no_space_un : (aim : Aim) → OnNext IsUnblocky (without_space aim)
 no_space_un (ForArea k) = tt
 no_space_un (ForBlock cpu pages) = tt
 no_space_un (ForChunk chunk bytes align) = refl
 
-removed_un : (o : Option Area) → OnNext IsUnblocky (after_remove o)
+pub removed_un : (o : Option Area) → OnNext IsUnblocky (after_remove o)
 removed_un None = tt
 removed_un (Some area) = refl
 
-went_on_un : (after : Then) → OnNext IsUnblocky (go_on after)
+pub went_on_un : (after : Then) → OnNext IsUnblocky (go_on after)
 went_on_un (SearchAgain search aim) = refl
 went_on_un (ReplyWith reply) = tt
 went_on_un SpareAgain = refl
 
-collected_un : (waited : List Span) (o : Option Span) (after : Then) → OnNext IsUnblocky (after_collecting waited o after)
+pub collected_un : (waited : List Span) (o : Option Span) (after : Then) → OnNext IsUnblocky (after_collecting waited o after)
 collected_un waited None after = refl
 collected_un waited (Some s) after = refl
 
-flushed_un : (waited : List Span) (after : Then) → OnNext IsUnblocky (after_flush waited after)
+pub flushed_un : (waited : List Span) (after : Then) → OnNext IsUnblocky (after_flush waited after)
 flushed_un [] after = refl
 flushed_un (s ∷ waited) after = refl
 
@@ -148,7 +148,7 @@ put_new key x (y ∷ ys) = by_test (nat_lt (key x) (key y)) (put_new key x ys)
 pub hand_same : (m m' : PlainMap) (k : ℕ) (at : PartAt) → m'.blocks ≡ m.blocks → IsPartIn m k at → IsPartIn m' k at
 hand_same m m' k at e is = record { block = is.block; there = subst (IsIn is.block) (sym e) is.there; start = is.start; part = is.part; part_there = is.part_there; offset = is.offset; pages = is.pages; life = is.life }
 
-not_held : (s : Span) (page : ℕ) → (page < s.start) ⊎ (s.start + s.pages ≤ page) → holds s page ≡ false
+pub not_held : (s : Span) (page : ℕ) → (page < s.start) ⊎ (s.start + s.pages ≤ page) → holds s page ≡ false
 not_held s page out = by_test (holds s page) refl
   where
     by_test : (t : Bool) → holds s page ≡ t → holds s page ≡ false
@@ -165,23 +165,23 @@ pub record HasParts (c : Setup) : Type 0 where
 module _ (c : Setup) (m : PlainMap) (k : ℕ) (fine : IsMapFine m) (has : HasParts c) (all : (b : Block) → IsIn b m.blocks → IsBlockFine c m b) where
   module _ (p : Place) (once : (page : ℕ) → own_uses c m p page ≤ 1) (named : (start : ℕ) → count_of start (block_starts m.blocks) + count_of start (starts_out c p) ≤ 1) where
     -- a section that leaves blocks, block areas and frames
-    quiet_b : (s : Section) (n : Next) → OnNext IsUnblocky n → (effect_as c m k s).blocks ≡ m.blocks → (effect_as c m k s).areas ≡ m.areas → (effect_as c m k s).frames ≡ m.frames
+    pub quiet_b : (s : Section) (n : Next) → OnNext IsUnblocky n → (effect_as c m k s).blocks ≡ m.blocks → (effect_as c m k s).areas ≡ m.areas → (effect_as c m k s).frames ≡ m.frames
         → ((page : ℕ) → slice_get m.stale page ≡ Some false → slice_get (effect_as c m k s).stale page ≡ Some false) → IsBlockMoved c m k p s n
     quiet_b s n un blocks areas frames clean = outer_moved c m k p s n all named blocks (λ a cpu there kd z. subst (IsIn a) (sym areas) there)
         (λ page start area a b. record { frame = ap (λ l. slice_get l page) frames; clean = clean page }) (λ start. omega (arith, no_next_out c n start un)) (no_next_at c (effect_as c m k s) k n un)
 
-    settle_b : (areas : List (Span × AreaKind)) (first : ℕ) (n : Next) → ((start : ℕ) → next_out c n start ≤ count_of start (starts_out c p)) → OnNext (IsBlockAt c (effect_as c m k (Settle areas first)) k) n → IsBlockMoved c m k p (Settle areas first) n
+    pub settle_b : (areas : List (Span × AreaKind)) (first : ℕ) (n : Next) → ((start : ℕ) → next_out c n start ≤ count_of start (starts_out c p)) → OnNext (IsBlockAt c (effect_as c m k (Settle areas first)) k) n → IsBlockMoved c m k p (Settle areas first) n
     settle_b areas first n outs own = outer_moved c m k p (Settle areas first) n all named refl (λ a cpu there kd z. with_keeps (areas_of k first areas) m.areas a there)
         (λ page start area a b. record { frame = refl; clean = λ h. h }) outs own
 
     -- frames of pages that the caller holds
-    held_b : (s : Section) (n : Next) → OnNext IsUnblocky n → (effect_as c m k s).blocks ≡ m.blocks → (effect_as c m k s).areas ≡ m.areas
+    pub held_b : (s : Section) (n : Next) → OnNext IsUnblocky n → (effect_as c m k s).blocks ≡ m.blocks → (effect_as c m k s).areas ≡ m.areas
         → ((page : ℕ) → (IsMarked m (Held k) page → ⊥) → IsStill m (effect_as c m k s) page) → IsBlockMoved c m k p s n
     held_b s n un blocks areas still = outer_moved c m k p s n all named blocks (λ a cpu there kd z. subst (IsIn a) (sym areas) there)
         (λ page start area a b. still page (λ h. (let live = (fine.areas area.there.place area.area area.there.at).marked page (covers_one area.area.span page ∙ area_holds c m start area page a b) in cc)))
         (λ start. omega (arith, no_next_out c n start un)) (no_next_at c (effect_as c m k s) k n un)
 
-    remove_b : (start serial : ℕ) (area : Area) (n : Next) → OnNext IsUnblocky n → named_areas start serial m.areas ≡ area ∷ [] → IsPlainKind area.kind → IsBlockMoved c m k p (Remove start serial area) n
+    pub remove_b : (start serial : ℕ) (area : Area) (n : Next) → OnNext IsUnblocky n → named_areas start serial m.areas ≡ area ∷ [] → IsPlainKind area.kind → IsBlockMoved c m k p (Remove start serial area) n
     remove_b start serial area n un legal plain = outer_moved c m k p (Remove start serial area) n all named refl
         (λ a cpu there kd z. filter_in (λ x. not (is_area start serial x)) m.areas a there.place there.at (unnamed a cpu there kd (is_area start serial a) refl))
         (λ page start area a b. record { frame = refl; clean = λ h. h }) (λ start. omega (arith, no_next_out c n start un)) (no_next_at c (effect_as c m k (Remove start serial area)) k n un)
@@ -198,12 +198,12 @@ module _ (c : Setup) (m : PlainMap) (k : ℕ) (fine : IsMapFine m) (has : HasPar
             let block : IsPlainKind (kind.Block cpu) = subst IsPlainKind kd (subst (λ (x : Area). IsPlainKind x.kind) (sym same) plain) in absurd block
         unnamed a cpu there kd false e = ap not e
 
-    unlink_b : (starts : List ℕ) (n : Next) → starts_out c p ≡ starts → OnNext IsUnblocky n → IsBlockMoved c m k p (Unlink starts) n
+    pub unlink_b : (starts : List ℕ) (n : Next) → starts_out c p ≡ starts → OnNext IsUnblocky n → IsBlockMoved c m k p (Unlink starts) n
     unlink_b starts n e un = outer_moved c m k p (Unlink starts) n all named refl
         (λ a cpu there kd z. filter_in (λ (x : Area). not (is_among starts x.span.start)) m.areas a there.place there.at (ap not (not_among a.span.start starts (sym (ap (count_of a.span.start) e) ∙ z))))
         (λ page start area a b. record { frame = refl; clean = λ h. h }) (λ start. omega (arith, no_next_out c n start un)) (no_next_at c (effect_as c m k (Unlink starts)) k n un)
 
-    as_b : (s t : Section) → s ≡ t → IsLegalAs c m k s → (IsLegalAs c m k t → IsBlockMoved c m k p t (next c p t)) → IsBlockMoved c m k p s (next c p s)
+    pub as_b : (s t : Section) → s ≡ t → IsLegalAs c m k s → (IsLegalAs c m k t → IsBlockMoved c m k p t (next c p t)) → IsBlockMoved c m k p s (next c p s)
     as_b s t e legal f = subst (λ (x : Section). IsBlockMoved c m k p x (next c p x)) (sym e) (f (subst (IsLegalAs c m k) e legal))
 
   -- A block that is settled.

@@ -43,3 +43,4 @@ pub mod BlockChanges
 pub mod PartMoves
 pub mod FragmentMoves
 pub mod BlockPlaces
+pub mod BlockDispatch
