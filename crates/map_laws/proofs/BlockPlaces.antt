@@ -57,7 +57,7 @@ is_blocky _ = false
 abbrev pub IsUnblocky : Place → Type 0
 IsUnblocky p = is_blocky p ≡ false
 
-unblocky_out : (c : Setup) (p : Place) (start : ℕ) → IsUnblocky p → count_of start (starts_out c p) ≡ 0
+pub unblocky_out : (c : Setup) (p : Place) (start : ℕ) → IsUnblocky p → count_of start (starts_out c p) ≡ 0
 unblocky_out c (PurgeFragmenting cpu gone extra after) start h = cc
 unblocky_out c (PurgeUnlinking gone extra after) start h = cc
 unblocky_out c (UnlinkingBlock s reply) start h = cc

@@ -44,3 +44,4 @@ pub mod PartMoves
 pub mod FragmentMoves
 pub mod BlockPlaces
 pub mod BlockDispatch
+pub mod BlockWorlds
