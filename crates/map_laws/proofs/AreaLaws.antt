@@ -182,7 +182,7 @@ areas_apart c opening calls w trace areas reached =
       made_aligned = λ k i l answer here h. (is.aligned.each k l here).answers i answer h;
     }
 
-guard_in : (s : Span) → 1 ≤ s.pages → covers (guard_part kind.Vmalloc s ∷ []) (end_of s - 1) ≡ true
+pub guard_in : (s : Span) → 1 ≤ s.pages → covers (guard_part kind.Vmalloc s ∷ []) (end_of s - 1) ≡ true
 guard_in s some = covers_one (guard_part kind.Vmalloc s) (end_of s - 1) ∙ holds_from (guard_part kind.Vmalloc s) (end_of s - 1) (omega arith) (omega arith)
 
 pub guard_unmapped : TheVmallocGuardIsNeverMapped

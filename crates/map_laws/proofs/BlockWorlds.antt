@@ -42,7 +42,7 @@ pub record IsBlockWorld (c : Setup) (w : World) : Type 0 where
   pub named : (start : ℕ) → count_of start (block_starts w.map.blocks) + sum_by (λ (l : Local). count_of start (starts_out c l.place)) w.locals ≤ 1
   pub each : (k : ℕ) (l : Local) → slice_get w.locals k ≡ Some l → IsBlockAt c w.map l.caller l.place
 
-unblocky_begins : (c : Setup) → HaveBeginnings IsUnblocky c
+pub unblocky_begins : (c : Setup) → HaveBeginnings IsUnblocky c
 unblocky_begins c = record {
   over = refl; refused = λ r. refl; area = λ pages align k plain some. refl; part = λ cpu pages e f. refl; dirty = refl; object = λ bytes align few. refl; atomic = λ bytes align few. refl;
   remove = λ start serial. refl; unmap = λ cpu page serial. refl; free = λ at serial. refl; add = λ at serial cpu index amount. refl; sum = λ at serial index. refl; balance = refl;

@@ -45,3 +45,4 @@ pub mod FragmentMoves
 pub mod BlockPlaces
 pub mod BlockDispatch
 pub mod BlockWorlds
+pub mod MapLaws

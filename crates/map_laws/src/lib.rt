@@ -31,3 +31,14 @@ pub fn area_traces()
     ensures clean { FreePagesAreCleanForAreas }
     ensures legal { AreaHistoriesAreLegal }
 {}
+
+ghost use Rattle.map_laws.specs.MapTraces.{AreasWithoutObjectsAreDisjointAndAligned, TheGuardWithoutObjectsIsNeverMapped, FreePagesAreCleanWithoutObjects, PartsWithoutObjectsAreDisjoint};
+
+/// In traces whose calls use no per-CPU object: areas are disjoint and aligned, a guard is never mapped, free pages are
+/// clean, and the parts of a block are disjoint.
+pub fn traces_without_objects()
+    ensures apart { AreasWithoutObjectsAreDisjointAndAligned }
+    ensures guard { TheGuardWithoutObjectsIsNeverMapped }
+    ensures clean { FreePagesAreCleanWithoutObjects }
+    ensures parts { PartsWithoutObjectsAreDisjoint }
+{}
