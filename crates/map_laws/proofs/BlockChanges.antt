@@ -79,6 +79,7 @@ changed_starts start change keeps (b ∷ blocks) =
 pub blocks_only : (c : Setup) (m m' : PlainMap) (start : ℕ) → m'.areas ≡ m.areas → m'.frames ≡ m.frames → m'.stale ≡ m.stale → Stays c m m' start
 blocks_only c m m' start a f s = record {
   area = λ is. record { area = is.area; cpu = is.cpu; there = subst (IsIn is.area) (sym a) is.there; span = is.span; kind = is.kind };
+  cpu = λ is. refl;
   pages = λ page low high. record { frame = ap (λ l. slice_get l page) f; clean = λ h. ap (λ l. slice_get l page) s ∙ h };
 }
 

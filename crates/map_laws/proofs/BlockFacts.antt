@@ -74,7 +74,7 @@ abbrev pub IsBlockAt : Setup → PlainMap → ℕ → Place → Type 0
 IsBlockAt c m k (PurgeFragmenting cpu gone extra after) = (start : ℕ) → is_among gone start ≡ true → IsOut c m start
 IsBlockAt c m k (PurgeUnlinking gone extra after) = (start : ℕ) → is_among gone start ≡ true → IsOut c m start
 IsBlockAt c m k (UnlinkingBlock start reply) = IsOut c m start
-IsBlockAt c m k (AddingBlock at) = IsBlockArea c m at.block × OnRow at.block c.block_pages (IsBare m)
+IsBlockAt c m k (AddingBlock at) = (area : IsBlockArea c m at.block) × (area.cpu ≡ at.cpu) × OnRow at.block c.block_pages (IsBare m)
 IsBlockAt c m k (MappingPart at) = IsPartIn m k at × OnRow (first_page at) (rounded at.pages) (IsBare m)
 IsBlockAt c m k (SettlingPart at) = IsPartIn m k at × OnRow (first_page at) at.pages (IsMapped m)
 IsBlockAt c m k (UnmappingPart at) = IsPartIn m k at × OnRow (first_page at) at.pages (IsMapped m)
@@ -218,6 +218,7 @@ part_stays m m' start p less still is = record {
 -- the area of a start stays, and its pages
 pub record Stays (c : Setup) (m m' : PlainMap) (start : ℕ) : Type 0 where
   pub area : IsBlockArea c m start → IsBlockArea c m' start
+  pub cpu : (is : IsBlockArea c m start) → (area is).cpu ≡ is.cpu
   pub pages : OnRow start c.block_pages (IsStill m m')
 
 pub block_stays : (c : Setup) (m m' : PlainMap) (b : Block) → Stays c m m' b.start → IsBlockFine c m b → IsBlockFine c m' b

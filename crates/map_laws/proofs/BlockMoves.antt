@@ -70,6 +70,7 @@ module _ (c : Setup) (m : PlainMap) (k : ℕ) (p : Place) (s : Section) (n : Nex
     outer_stays : (start : ℕ) → count_of start (starts_out c p) ≡ 0 → IsBlockArea c m start → Stays c m (effect_as c m k s) start
     outer_stays start none area = record {
       area = λ is. record { area = is.area; cpu = is.cpu; there = keep is.area is.cpu is.there is.kind (ap (λ i. count_of i (starts_out c p)) (area_start c m start is) ∙ none); span = is.span; kind = is.kind };
+      cpu = λ is. refl;
       pages = λ page a b. still page start area a b;
     }
 
@@ -95,7 +96,7 @@ module _ (c : Setup) (m : PlainMap) (k : ℕ) (p : Place) (s : Section) (n : Nex
     own_fine : IsBlockFine c m hand.block
     own_fine = all hand.block hand.there
 
-    keep_area : (start : ℕ) → IsBlockArea c m start → IsBlockArea c (effect_as c m k s) start
+    abbrev keep_area : (start : ℕ) → IsBlockArea c m start → IsBlockArea c (effect_as c m k s) start
     keep_area start is = record { area = is.area; cpu = is.cpu; there = subst (IsIn is.area) (sym areas) is.there; span = is.span; kind = is.kind }
 
     -- a page outside the part's row, or one of another block
@@ -153,7 +154,7 @@ module _ (c : Setup) (m : PlainMap) (k : ℕ) (p : Place) (s : Section) (n : Nex
     inner_block : (b : Block) → IsIn b m.blocks → IsBlockFine c (effect_as c m k s) b
     inner_block b there = elim (same_or b.start hand.block.start) [
         inl e ↦ subst (IsBlockFine c (effect_as c m k s)) (sym (same_block m.blocks hand.block.start there.place hand.there.place b hand.block (let o = named hand.block.start in omega arith) there.at hand.there.at e refl)) own_block
-      | inr apart ↦ block_stays c m (effect_as c m k s) b (record { area = keep_area b.start; pages = other_still b.start (all b there).area apart }) (all b there)
+      | inr apart ↦ block_stays c m (effect_as c m k s) b (record { area = keep_area b.start; cpu = λ is. refl; pages = other_still b.start (all b there).area apart }) (all b there)
       ]
 
     inner_hand : (j : ℕ) (at' : PartAt) → j ≢ k → IsPartIn m j at' → IsPartIn (effect_as c m k s) j at' × OnRow (first_page at') (rounded at'.pages) (IsStill m (effect_as c m k s))
@@ -177,6 +178,6 @@ module _ (c : Setup) (m : PlainMap) (k : ℕ) (p : Place) (s : Section) (n : Nex
       names = λ start others once area. (let less = outs start in omega (arith, ap (λ l. count_of start (block_starts l)) same));
       blocks = λ b there. inner_block b (subst (IsIn b) same there);
       own = own;
-      stays = λ start none free area. record { area = keep_area start; pages = other_still start area (λ e. (let n = block_count hand.block m.blocks hand.there in omega (arith, ap (λ i. count_of i (block_starts m.blocks)) e))) };
+      stays = λ start none free area. record { area = keep_area start; cpu = λ is. refl; pages = other_still start area (λ e. (let n = block_count hand.block m.blocks hand.there in omega (arith, ap (λ i. count_of i (block_starts m.blocks)) e))) };
       hands = inner_hand;
     }

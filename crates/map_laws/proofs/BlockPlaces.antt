@@ -231,7 +231,7 @@ module _ (c : Setup) (m : PlainMap) (k : ℕ) (fine : IsMapFine m) (has : HasPar
         no_names (suc a) b f g = absurd (let is = counted_block start m.blocks (omega arith) in never (subst (IsBlockArea c m) (is.2 ∙ sym (to_same place.start start e)) (all is.0 is.1).area))
     fresh_names start others o known false e = omega (arith, count_cons start place.start [], ap one_if e)
 
-    new_area : IsBlockArea c (effect_as c m k (Settle ((place, kind.Block cpu) ∷ []) first)) place.start
+    abbrev new_area : IsBlockArea c (effect_as c m k (Settle ((place, kind.Block cpu) ∷ []) first)) place.start
     new_area = record {
       area = record { span = place; kind = kind.Block cpu; caller = k; serial = first }; cpu = cpu;
       there = put_new (λ (b : Area). b.span.start) (record { span = place; kind = kind.Block cpu; caller = k; serial = first }) m.areas;
@@ -243,7 +243,7 @@ module _ (c : Setup) (m : PlainMap) (k : ℕ) (fine : IsMapFine m) (has : HasPar
         let base = settle_b (SettlingBlock place cpu pages) once named ((place, kind.Block cpu) ∷ []) first (Answer reply.Done MadeNothing) (λ start. omega arith) tt in record {
           names = λ start others o known. fresh_names start others o known _ refl;
           blocks = base.blocks;
-          own = (new_area, (λ page a b. (let was = own.bare page (covers_one place page ∙ holds_from place page a (omega arith)) in record { unmapped = was.unmapped; not_stale = was.not_stale })));
+          own = (new_area, refl, (λ page a b. (let was = own.bare page (covers_one place page ∙ holds_from place page a (omega arith)) in record { unmapped = was.unmapped; not_stale = was.not_stale })));
           stays = base.stays;
           hands = base.hands;
         }

@@ -56,7 +56,7 @@ sum_some : {X : Type 0} (f : X → ℕ) (xs : List X) → 1 ≤ sum_by f xs → 
 sum_some f [] h = absurd (omega arith)
 sum_some f (x ∷ xs) h = sum_by_first f x xs (f x) refl h (sum_some f xs)
 
-only_one : (s start : ℕ) → is_among (s ∷ []) start ≡ true → s ≡ start
+pub only_one : (s start : ℕ) → is_among (s ∷ []) start ≡ true → s ≡ start
 only_one s start h = to_same s start (or_false (s == start) h)
   where
     or_false : (b : Bool) → (b || false) ≡ true → b ≡ true
@@ -104,7 +104,7 @@ at_stays : (c : Setup) (m m' : PlainMap) (j : ℕ) (p : Place) → ((start : ℕ
 at_stays c m m' j (PurgeFragmenting cpu gone extra after) stays hands low at = λ start h. out_stays c m m' start (stays start h (at start h).area) (at start h)
 at_stays c m m' j (PurgeUnlinking gone extra after) stays hands low at = λ start h. out_stays c m m' start (stays start h (at start h).area) (at start h)
 at_stays c m m' j (UnlinkingBlock s r) stays hands low at = out_stays c m m' s (stays s (first_among s) at.area) at
-at_stays c m m' j (AddingBlock part) stays hands low at = let st = stays part.block (first_among part.block) at.0 in (st.area at.0, (λ page a b. still_bare m m' page (st.pages page a b) (at.1 page a b)))
+at_stays c m m' j (AddingBlock part) stays hands low at = let st = stays part.block (first_among part.block) at.0 in (st.area at.0, st.cpu at.0 ∙ at.1, (λ page a b. still_bare m m' page (st.pages page a b) (at.2 page a b)))
 at_stays c m m' j (MappingPart part) stays hands low at = let h = hands part at.0 in (h.0, (λ page a b. still_bare m m' page (h.1 page a b) (at.1 page a b)))
 at_stays c m m' j (SettlingPart part) stays hands low at = let h = hands part at.0 in let l = low part at.0 in (h.0, (λ page a b. still_mapped m m' page (h.1 page a (omega arith)) (at.1 page a b)))
 at_stays c m m' j (UnmappingPart part) stays hands low at = let h = hands part at.0 in let l = low part at.0 in (h.0, (λ page a b. still_mapped m m' page (h.1 page a (omega arith)) (at.1 page a b)))
@@ -174,7 +174,7 @@ module _ (c : Setup) (w : World) (l : Local) (s : Section) (kept : IsBlockWorld 
 -- What areas need of blocks.
 
 module _ (c : Setup) (m : PlainMap) (once : (page : ℕ) → times page (spans_of m.areas) ≤ 1) where
-  row_covers : (s page : ℕ) → holds (span s c.block_pages) page ≡ true → (s ≤ page) × (page < s + c.block_pages)
+  pub row_covers : (s page : ℕ) → holds (span s c.block_pages) page ≡ true → (s ≤ page) × (page < s + c.block_pages)
   row_covers s page h = holds_to (span s c.block_pages) page h
 
   covered_by : (x page : ℕ) (xs : List ℕ) (t : Bool) → holds (span x c.block_pages) page ≡ t → (t || covers (block_spans c xs) page) ≡ true
@@ -187,7 +187,7 @@ module _ (c : Setup) (m : PlainMap) (once : (page : ℕ) → times page (spans_o
       or_right false b f = f
 
   -- a page of the blocks' spans is in one of the blocks
-  covered_start : (xs : List ℕ) (page : ℕ) → covers (block_spans c xs) page ≡ true → (s : ℕ) × (is_among xs s ≡ true) × (holds (span s c.block_pages) page ≡ true)
+  pub covered_start : (xs : List ℕ) (page : ℕ) → covers (block_spans c xs) page ≡ true → (s : ℕ) × (is_among xs s ≡ true) × (holds (span s c.block_pages) page ≡ true)
   covered_start [] page h = cc
   covered_start (x ∷ xs) page h = covered_by x page xs _ refl h (covered_start xs page)
 
@@ -195,7 +195,7 @@ module _ (c : Setup) (m : PlainMap) (once : (page : ℕ) → times page (spans_o
   times_by s page x xs true e same less = omega (arith, times-cons page (span x c.block_pages) (block_spans c xs), count_cons s x xs, ap one_if e, ap (λ n. one_if (n == s)) (same e), ap one_if (same_test s))
   times_by s page x xs false e same less = omega (arith, times-cons page (span x c.block_pages) (block_spans c xs), count_cons s x xs, ap one_if e)
 
-  times_count : (s page : ℕ) (xs : List ℕ) → ((x : ℕ) → is_among xs x ≡ true → holds (span x c.block_pages) page ≡ true → x ≡ s) → times page (block_spans c xs) ≤ count_of s xs
+  pub times_count : (s page : ℕ) (xs : List ℕ) → ((x : ℕ) → is_among xs x ≡ true → holds (span x c.block_pages) page ≡ true → x ≡ s) → times page (block_spans c xs) ≤ count_of s xs
   times_count s page [] same = omega arith
   times_count s page (x ∷ xs) same = times_by s page x xs _ refl (same x (ap (λ b. b || is_among xs x) (same_test x))) (times_count s page xs (λ y h. same y (or_right (x == y) (is_among xs y) h)))
     where
