@@ -152,23 +152,45 @@ module _ (c : Setup) (m : PlainMap) (all : (b : Block) → IsIn b m.blocks → I
   lived_blocks at life new b there =
       let was = changed_is at.block (with_life at life) m.blocks b there in
       elim was.2 [
-        inl e ↦ subst (IsBlockFine c m) (sym e.1) (lived_block at life was.0 was.1 (λ p ps f. new was.0 p was.1 e.0 ps f))
-      | inr e ↦ subst (IsBlockFine c m) (sym e.1) (all was.0 was.1)
+        | inl e ↦ subst (IsBlockFine c m) (sym e.1) (lived_block at life was.0 was.1 (λ p ps f. new was.0 p was.1 e.0 ps f))
+        | inr e ↦ subst (IsBlockFine c m) (sym e.1) (all was.0 was.1)
       ]
 
   -- another caller's part keeps its life where it is another part
   pub lived_hand : (j : ℕ) (at at' : PartAt) (life : Life) (m' : PlainMap) → m'.blocks ≡ set_life at life m.blocks → (is : IsPartIn m j at') → ((is.block.start ≡ at.block) → (is.part.offset ≡ at.offset) → ⊥) → IsPartIn m' j at'
   lived_hand j at at' life m' e is apart = elim (same_or is.block.start at.block) [
-      inl same ↦ record { block = with_life at life is.block; there = subst (IsIn (with_life at life is.block)) (sym e) (changed_in at.block (with_life at life) m.blocks is.block is.there same); start = is.start;
-        part = is.part; part_there = unlived_in at life is.block.parts is.part is.part_there (apart same); offset = is.offset; pages = is.pages; life = is.life }
-    | inr other ↦ record { block = is.block; there = subst (IsIn is.block) (sym e) (unchanged_in at.block (with_life at life) m.blocks is.block is.there other); start = is.start;
-        part = is.part; part_there = is.part_there; offset = is.offset; pages = is.pages; life = is.life }
-    ]
+    | inl same ↦ record {
+      block = with_life at life is.block;
+      there = subst (IsIn (with_life at life is.block)) (sym e) (changed_in at.block (with_life at life) m.blocks is.block is.there same);
+      start = is.start;
+      part = is.part;
+      part_there = unlived_in at life is.block.parts is.part is.part_there (apart same);
+      offset = is.offset;
+      pages = is.pages;
+      life = is.life;
+    }
+    | inr other ↦ record {
+      block = is.block;
+      there = subst (IsIn is.block) (sym e) (unchanged_in at.block (with_life at life) m.blocks is.block is.there other);
+      start = is.start;
+      part = is.part;
+      part_there = is.part_there;
+      offset = is.offset;
+      pages = is.pages;
+      life = is.life;
+    }
+  ]
 
   pub own_lived : (k : ℕ) (at : PartAt) (m' : PlainMap) (b : Block) (p : Part) → m'.blocks ≡ set_life at (InHand k) m.blocks → IsIn b m.blocks → b.start ≡ at.block → IsIn p b.parts → p.offset ≡ at.offset → p.pages ≡ at.pages → IsPartIn m' k at
   own_lived k at m' b p e there start ps off pages = record {
-    block = with_life at (InHand k) b; there = subst (IsIn (with_life at (InHand k) b)) (sym e) (changed_in at.block (with_life at (InHand k)) m.blocks b there start); start = start;
-    part = record p { life = InHand k }; part_there = lived_in at (InHand k) b.parts p ps off; offset = off; pages = pages; life = refl;
+    block = with_life at (InHand k) b;
+    there = subst (IsIn (with_life at (InHand k) b)) (sym e) (changed_in at.block (with_life at (InHand k)) m.blocks b there start);
+    start = start;
+    part = record p { life = InHand k };
+    part_there = lived_in at (InHand k) b.parts p ps off;
+    offset = off;
+    pages = pages;
+    life = refl;
   }
 
 -- All parts of a block have ended.

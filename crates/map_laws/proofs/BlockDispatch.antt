@@ -38,8 +38,8 @@ use Rattle.map_laws.proofs.BlockMoves.{part_within, row_of, next_out, IsBlockMov
 use Rattle.map_laws.proofs.BlockChanges.{in_of}
 use Rattle.map_laws.proofs.PartMoves.{cut_moved, add_moved, settle_part_moved, retire_moved}
 use Rattle.map_laws.proofs.FragmentMoves.{begin_moved, fragment_moved, to_next, to_unlink}
-
 use Rattle.map_laws.proofs.BlockPlaces.{HasParts, IsUnblocky, found_un, no_space_un, removed_un, went_on_un, collected_un, flushed_un, hand_same, not_held, unblocky_at, quiet_b, settle_b, held_b, remove_b, unlink_b, as_b, block_settled}
+
 -- of the area that is removed at a place
 abbrev pub IsRemovedPlain : PlainMap → Place → Type 0
 IsRemovedPlain m (Removing start serial) = (area : Area) → named_areas start serial m.areas ≡ area ∷ [] → IsPlainKind area.kind
@@ -58,17 +58,19 @@ module _ (c : Setup) (m : PlainMap) (k : ℕ) (fine : IsMapFine m) (has : HasPar
     pub map_part : OnRow (first_page at) (rounded at.pages) (IsBare m) → at.pages ≤ rounded at.pages → IsLegalAs c m k (MapPages (mapped_pages at)) → IsBlockMoved c m k (MappingPart at) (MapPages (mapped_pages at)) (Go (SettlingPart at))
     map_part bare less legal = inner_moved c m k (MappingPart at) (MapPages (mapped_pages at)) (Go (SettlingPart at)) all named at hand areas_once refl refl
         (λ page out. record { frame = ungiven (pages_of (mapped_pages at)) (free_frames c m.frames) m.frames page (outside_row (mapped_pages at) page (row_out page out)); clean = λ h. h })
-        (λ start. omega arith)
-        (hand_same m (effect_as c m k (MapPages (mapped_pages at))) k at refl hand,
+        (λ start. omega arith) (
+          hand_same m (effect_as c m k (MapPages (mapped_pages at))) k at refl hand,
           (λ page low high. given_all (pages_of (mapped_pages at)) (free_frames c m.frames) m.frames page None (held_in_row (mapped_pages at) page (holds_from (mapped_pages at) page low high))
-            (let l = legal.1 in omega (arith, length_row at.pages (first_page at))) (bare page low (omega arith)).unmapped))
+              (let l = legal.1 in omega (arith, length_row at.pages (first_page at))) (bare page low (omega arith)).unmapped),
+        )
 
     pub unmap_part : (r : Reply) → OnRow (first_page at) at.pages (IsMapped m) → IsBlockMoved c m k (UnmappingPart at) (Unmap (mapped_pages at)) (Go (Retiring at r))
     unmap_part r mapped = inner_moved c m k (UnmappingPart at) (Unmap (mapped_pages at)) (Go (Retiring at r)) all named at hand areas_once refl refl
         (λ page out. record { frame = unpainted (holds (mapped_pages at)) None m.frames page (row_out page out); clean = λ h. unpainted (holds (mapped_pages at)) true m.stale page (row_out page out) ∙ h })
-        (λ start. omega arith)
-        (hand_same m (effect_as c m k (Unmap (mapped_pages at))) k at refl hand,
-          (λ page low high. (let was = mapped page low high in painted (holds (mapped_pages at)) None (Some was.0) m.frames page (holds_from (mapped_pages at) page low high) was.1)))
+        (λ start. omega arith) (
+          hand_same m (effect_as c m k (Unmap (mapped_pages at))) k at refl hand,
+          (λ page low high. (let was = mapped page low high in painted (holds (mapped_pages at)) None (Some was.0) m.frames page (holds_from (mapped_pages at) page low high) was.1)),
+        )
 
     pub no_frames_part : (asked : ℕ) (r : Reply) → OnRow (first_page at) (rounded at.pages) (IsBare m) → at.pages ≤ rounded at.pages → IsBlockMoved c m k (MappingPart at) (NoFrames asked) (Go (Retiring at r))
     no_frames_part asked r bare less = outer_moved c m k (MappingPart at) (NoFrames asked) (Go (Retiring at r)) all named refl (λ a cpu there kd z. there)
@@ -124,7 +126,7 @@ module _ (c : Setup) (m : PlainMap) (k : ℕ) (fine : IsMapFine m) (has : HasPar
   block_by (Removing start serial) s is proper own plain once named at (inr w) legal = as_b c m k fine has all (Removing start serial) once named s (AreaNotLive start serial) w legal (λ l. quiet_b c m k fine has all (Removing start serial) once named (AreaNotLive start serial) _ tt refl refl refl (λ page h. h))
   block_by (UnmappingArea area) s is proper own plain once named at w legal = as_b c m k fine has all (UnmappingArea area) once named s (Unmap (mapped_part area.kind area.span)) w legal (λ l. held_b c m k fine has all (UnmappingArea area) once named (Unmap (mapped_part area.kind area.span)) _ refl refl refl
       (λ page free. (let out = not_mapped area.kind area.span page (λ t. free (own.held page (covers_one area.span page ∙ t))) in
-        record { frame = unpainted (holds (mapped_part area.kind area.span)) None m.frames page out; clean = λ h. unpainted (holds (mapped_part area.kind area.span)) true m.stale page out ∙ h })))
+      record { frame = unpainted (holds (mapped_part area.kind area.span)) None m.frames page out; clean = λ h. unpainted (holds (mapped_part area.kind area.span)) true m.stale page out ∙ h })))
   block_by (Waiting spans after) s is proper own plain once named at w legal = as_b c m k fine has all (Waiting spans after) once named s (Wait spans w.0) w.1 legal (λ l. quiet_b c m k fine has all (Waiting spans after) once named (Wait spans w.0) _ (either_next IsUnblocky (nat_lt c.lazy w.0) _ _ refl (went_on_un after)) refl refl refl (λ page h. h))
   block_by (PurgeTaking extra after) s is proper own plain once named at w legal = as_b c m k fine has all (PurgeTaking extra after) once named s TakePurge w legal (λ l. purge_begins extra after named)
   block_by (PurgeFragmenting cpu gone extra after) s is proper own plain once named at w legal = as_b c m k fine has all (PurgeFragmenting cpu gone extra after) once named s (Fragment cpu w.0) w.1 legal

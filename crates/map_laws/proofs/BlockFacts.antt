@@ -149,10 +149,10 @@ same_block [] start i j b b' once h h' e e' = cc
 same_block (x ∷ xs) start zero zero b b' once h h' e e' = cc
 same_block (x ∷ xs) start zero (suc j) b b' once h h' e e' = let same : x ≡ b = cc in
     absurd (let n = block_count b' xs (record { place = j; at = h' }) in
-      omega (arith, count_cons start x.start (block_starts xs), ap (λ (y : Block). one_if (y.start == start)) same, ap (λ n. one_if (n == start)) e, ap one_if (same_test start), ap (λ n. count_of n (block_starts xs)) e'))
+    omega (arith, count_cons start x.start (block_starts xs), ap (λ (y : Block). one_if (y.start == start)) same, ap (λ n. one_if (n == start)) e, ap one_if (same_test start), ap (λ n. count_of n (block_starts xs)) e'))
 same_block (x ∷ xs) start (suc i) zero b b' once h h' e e' = let same : x ≡ b' = cc in
     absurd (let n = block_count b xs (record { place = i; at = h }) in
-      omega (arith, count_cons start x.start (block_starts xs), ap (λ (y : Block). one_if (y.start == start)) same, ap (λ n. one_if (n == start)) e', ap one_if (same_test start), ap (λ n. count_of n (block_starts xs)) e))
+    omega (arith, count_cons start x.start (block_starts xs), ap (λ (y : Block). one_if (y.start == start)) same, ap (λ n. one_if (n == start)) e', ap one_if (same_test start), ap (λ n. count_of n (block_starts xs)) e))
 same_block (x ∷ xs) start (suc i) (suc j) b b' once h h' e e' = same_block xs start i j b b' (omega (arith, count_cons start x.start (block_starts xs))) h h' e e'
 
 -- Stacked parts.
@@ -183,9 +183,9 @@ stacked_apart (x ∷ ps) off (suc i) (suc j) p q st h g = stacked_apart ps (off 
 -- parts with one offset are one
 pub same_part : (ps : List Part) (off i j : ℕ) (p q : Part) → AreStacked off ps → slice_get ps i ≡ Some p → slice_get ps j ≡ Some q → p.offset ≡ q.offset → p ≡ q
 same_part ps off i j p q st h g e = elim (stacked_apart ps off i j p q st h g) [
-    inl same ↦ same
+  | inl same ↦ same
   | inr apart ↦ absurd (elim apart [ inl low ↦ omega (arith, rounded_some p.pages) | inr low ↦ omega (arith, rounded_some q.pages) ])
-  ]
+]
 
 -- each page of the stack is in a part
 covers_by : (x : Part) (ps : List Part) (off page : ℕ) (t : Bool) → nat_lt page (off + size_of x) ≡ t → x.offset ≡ off → off ≤ page
@@ -227,7 +227,7 @@ block_stays c m m' b stays is = record {
   stacked = is.stacked;
   within = is.within;
   parts = λ p there. (let r = stacked_at b.parts 0 there.place p is.stacked there.at in let w = is.within in
-    part_stays m m' b.start p r.2 (λ page low high. stays.pages page (omega arith) (let q = r.1 in omega arith)) (is.parts p there));
+      part_stays m m' b.start p r.2 (λ page low high. stays.pages page (omega arith) (let q = r.1 in omega arith)) (is.parts p there));
   rest = λ page low high. still_bare m m' page (stays.pages page (omega arith) high) (is.rest page low high);
 }
 

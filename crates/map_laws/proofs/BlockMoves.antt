@@ -76,9 +76,10 @@ module _ (c : Setup) (m : PlainMap) (k : ℕ) (p : Place) (s : Section) (n : Nex
 
     outer_hand : (j : ℕ) (at : PartAt) → IsPartIn m j at → IsPartIn (effect_as c m k s) j at × OnRow (first_page at) (rounded at.pages) (IsStill m (effect_as c m k s))
     outer_hand j at is =
-        let fine = all is.block is.there in let w = part_within c m is.block is.part fine is.part_there in let r = row_of m j at is in
-        (record { block = is.block; there = subst (IsIn is.block) (sym same) is.there; start = is.start; part = is.part; part_there = is.part_there; offset = is.offset; pages = is.pages; life = is.life },
-          (λ page a b. still page is.block.start fine.area (let e = r.0 in omega arith) (let e = r.0 in let f = r.1 in let g = w.0 in omega arith)))
+        let fine = all is.block is.there in let w = part_within c m is.block is.part fine is.part_there in let r = row_of m j at is in (
+          record { block = is.block; there = subst (IsIn is.block) (sym same) is.there; start = is.start; part = is.part; part_there = is.part_there; offset = is.offset; pages = is.pages; life = is.life },
+          (λ page a b. still page is.block.start fine.area (let e = r.0 in omega arith) (let e = r.0 in let f = r.1 in let g = w.0 in omega arith)),
+        )
 
     pub outer_moved : ((start : ℕ) → next_out c n start ≤ count_of start (starts_out c p)) → OnNext (IsBlockAt c (effect_as c m k s) k) n → IsBlockMoved c m k p s n
     outer_moved outs own = record {
@@ -134,12 +135,12 @@ module _ (c : Setup) (m : PlainMap) (k : ℕ) (p : Place) (s : Section) (n : Nex
 
     inner_part : (q : Part) → IsIn q hand.block.parts → IsPartFine (effect_as c m k s) hand.block.start q
     inner_part q there = elim (same_or q.offset hand.part.offset) [
-        inl e ↦ own_part q (elim (stacked_apart hand.block.parts 0 there.place hand.part_there.place q hand.part own_fine.stacked there.at hand.part_there.at) [
-            inl same ↦ same
-          | inr apart ↦ absurd (elim apart [ inl low ↦ omega (arith, rounded_some q.pages) | inr low ↦ omega (arith, rounded_some hand.part.pages) ])
-          ]) (own_fine.parts q there)
+      | inl e ↦ own_part q (elim (stacked_apart hand.block.parts 0 there.place hand.part_there.place q hand.part own_fine.stacked there.at hand.part_there.at) [
+        | inl same ↦ same
+        | inr apart ↦ absurd (elim apart [ inl low ↦ omega (arith, rounded_some q.pages) | inr low ↦ omega (arith, rounded_some hand.part.pages) ])
+      ]) (own_fine.parts q there)
       | inr apart ↦ part_stays m (effect_as c m k s) hand.block.start q (part_within c m hand.block q own_fine there).1 (part_still q there apart) (own_fine.parts q there)
-      ]
+    ]
 
     own_block : IsBlockFine c (effect_as c m k s) hand.block
     own_block = record {
@@ -148,21 +149,24 @@ module _ (c : Setup) (m : PlainMap) (k : ℕ) (p : Place) (s : Section) (n : Nex
       within = own_fine.within;
       parts = inner_part;
       rest = λ page a b. still_bare m (effect_as c m k s) page (by_row page (λ low high. (let r = row_of m k at hand in let w = stacked_at hand.block.parts 0 hand.part_there.place hand.part own_fine.stacked hand.part_there.at in
-        omega (arith, r.0, r.2, w.1, w.2)))) (own_fine.rest page a b);
+          omega (arith, r.0, r.2, w.1, w.2)))) (own_fine.rest page a b);
     }
 
     inner_block : (b : Block) → IsIn b m.blocks → IsBlockFine c (effect_as c m k s) b
     inner_block b there = elim (same_or b.start hand.block.start) [
-        inl e ↦ subst (IsBlockFine c (effect_as c m k s)) (sym (same_block m.blocks hand.block.start there.place hand.there.place b hand.block (let o = named hand.block.start in omega arith) there.at hand.there.at e refl)) own_block
+      | inl e ↦ subst (IsBlockFine c (effect_as c m k s)) (sym (same_block m.blocks hand.block.start there.place hand.there.place b hand.block (let o = named hand.block.start in omega arith) there.at hand.there.at e refl)) own_block
       | inr apart ↦ block_stays c m (effect_as c m k s) b (record { area = keep_area b.start; cpu = λ is. refl; pages = other_still b.start (all b there).area apart }) (all b there)
-      ]
+    ]
 
     inner_hand : (j : ℕ) (at' : PartAt) → j ≢ k → IsPartIn m j at' → IsPartIn (effect_as c m k s) j at' × OnRow (first_page at') (rounded at'.pages) (IsStill m (effect_as c m k s))
-    inner_hand j at' apart is = (record { block = is.block; there = subst (IsIn is.block) (sym same) is.there; start = is.start; part = is.part; part_there = is.part_there; offset = is.offset; pages = is.pages; life = is.life },
-        (λ page a b. hand_still page a b (same_or is.block.start hand.block.start)))
+    inner_hand j at' apart is = (
+      record { block = is.block; there = subst (IsIn is.block) (sym same) is.there; start = is.start; part = is.part; part_there = is.part_there; offset = is.offset; pages = is.pages; life = is.life },
+      (λ page a b. hand_still page a b (same_or is.block.start hand.block.start)),
+    )
       where
         fine : IsBlockFine c m is.block
         fine = all is.block is.there
+
         hand_still : (page : ℕ) → first_page at' ≤ page → page < first_page at' + rounded at'.pages → (is.block.start ≡ hand.block.start) ⊎ (is.block.start ≢ hand.block.start) → IsStill m (effect_as c m k s) page
         hand_still page a b (inr other) = let r = row_of m j at' is in let w = part_within c m is.block is.part fine is.part_there in
             other_still is.block.start fine.area other page (let e = r.0 in omega arith) (let e = r.0 in let f = r.1 in let g = w.0 in omega arith)
@@ -171,7 +175,7 @@ module _ (c : Setup) (m : PlainMap) (k : ℕ) (p : Place) (s : Section) (n : Nex
             let there : IsIn is.part hand.block.parts = subst (λ (x : Block). IsIn is.part x.parts) one is.part_there in
             let r = row_of m j at' is in
             part_still is.part there (λ f. apart (let two : is.part ≡ hand.part = same_part hand.block.parts 0 there.place hand.part_there.place is.part hand.part own_fine.stacked there.at hand.part_there.at f in
-              let lives : InHand j ≡ InHand k = sym is.life ∙ ap (λ (x : Part). x.life) two ∙ hand.life in cc)) page (let g = r.0 in omega arith) (let g = r.0 in let h = r.1 in omega arith)
+            let lives : InHand j ≡ InHand k = sym is.life ∙ ap (λ (x : Part). x.life) two ∙ hand.life in cc)) page (let g = r.0 in omega arith) (let g = r.0 in let h = r.1 in omega arith)
 
     pub inner_moved : ((start : ℕ) → next_out c n start ≤ count_of start (starts_out c p)) → OnNext (IsBlockAt c (effect_as c m k s) k) n → IsBlockMoved c m k p s n
     inner_moved outs own = record {

@@ -192,6 +192,7 @@ module _ (c : Setup) (m : PlainMap) (k : ℕ) (fine : IsMapFine m) (has : HasPar
             by_place : (i : ℕ) → slice_get (area ∷ []) i ≡ Some a → a ≡ area
             by_place zero e = (let same : area ≡ a = cc in sym same)
             by_place (suc i) e = cc
+
         unnamed : (a : Area) (cpu : ℕ) → IsIn a m.areas → a.kind ≡ kind.Block cpu → (t : Bool) → is_area start serial a ≡ t → not (is_area start serial a) ≡ true
         unnamed a cpu there kd true e =
             let same = only a (subst (IsIn a) legal (filter_in (is_area start serial) m.areas a there.place there.at e)) in
@@ -233,9 +234,11 @@ module _ (c : Setup) (m : PlainMap) (k : ℕ) (fine : IsMapFine m) (has : HasPar
 
     abbrev new_area : IsBlockArea c (effect_as c m k (Settle ((place, kind.Block cpu) ∷ []) first)) place.start
     new_area = record {
-      area = record { span = place; kind = kind.Block cpu; caller = k; serial = first }; cpu = cpu;
+      area = record { span = place; kind = kind.Block cpu; caller = k; serial = first };
+      cpu = cpu;
       there = put_new (λ (b : Area). b.span.start) (record { span = place; kind = kind.Block cpu; caller = k; serial = first }) m.areas;
-      span = ap (λ n. span place.start n) size; kind = refl;
+      span = ap (λ n. span place.start n) size;
+      kind = refl;
     }
 
     pub block_settled : IsBlockMoved c m k (SettlingBlock place cpu pages) (Settle ((place, kind.Block cpu) ∷ []) first) (Go (AddingBlock (record { cpu = cpu; block = place.start; offset = 0; pages = pages })))

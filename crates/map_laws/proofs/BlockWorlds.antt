@@ -44,8 +44,19 @@ pub record IsBlockWorld (c : Setup) (w : World) : Type 0 where
 
 pub unblocky_begins : (c : Setup) → HaveBeginnings IsUnblocky c
 unblocky_begins c = record {
-  over = refl; refused = λ r. refl; area = λ pages align k plain some. refl; part = λ cpu pages e f. refl; dirty = refl; object = λ bytes align few. refl; atomic = λ bytes align few. refl;
-  remove = λ start serial. refl; unmap = λ cpu page serial. refl; free = λ at serial. refl; add = λ at serial cpu index amount. refl; sum = λ at serial index. refl; balance = refl;
+  over = refl;
+  refused = λ r. refl;
+  area = λ pages align k plain some. refl;
+  part = λ cpu pages e f. refl;
+  dirty = refl;
+  object = λ bytes align few. refl;
+  atomic = λ bytes align few. refl;
+  remove = λ start serial. refl;
+  unmap = λ cpu page serial. refl;
+  free = λ at serial. refl;
+  add = λ at serial cpu index amount. refl;
+  sum = λ at serial index. refl;
+  balance = refl;
 }
 
 sum_by_first : {X : Type 0} (f : X → ℕ) (x : X) (xs : List X) (n : ℕ) → f x ≡ n → 1 ≤ sum_by f (x ∷ xs) → (1 ≤ sum_by f xs → (i : ℕ) × (y : X) × (slice_get xs i ≡ Some y) × (1 ≤ f y)) → (i : ℕ) × (y : X) × (slice_get (x ∷ xs) i ≡ Some y) × (1 ≤ f y)
@@ -157,7 +168,7 @@ module _ (c : Setup) (w : World) (l : Local) (s : Section) (kept : IsBlockWorld 
   other_at : (j : ℕ) (x : Local) → slice_get w.locals j ≡ Some x → j ≢ l.caller → IsBlockAt c (effect_as c w.map l.caller s) x.caller x.place
   other_at j x at n = at_stays c w.map (effect_as c w.map l.caller s) x.caller x.place
       (λ start h area. (let one = among_count start (starts_out c x.place) h in let total = kept.named start in let apart : l.caller ≢ j = (λ e. n (sym e)) in let two = sum_two (outs start) w.locals l.caller j l x here at apart in
-        moved.stays start (omega arith) (omega arith) area))
+      moved.stays start (omega arith) (omega arith) area))
       (λ part hand. moved.hands x.caller part (λ e. n (sym (callers j x at) ∙ e)) hand) (low_hand x.caller) (kept.each j x at)
 
   pub block_step : (m' : PlainMap) → m' ≡ effect_as c w.map l.caller s → (locals : List Local) → locals ≡ slice_set w.locals l.caller after_local → (events : List Event) → IsBlockWorld c (record { map = m'; locals = locals; events = events })
@@ -165,10 +176,10 @@ module _ (c : Setup) (w : World) (l : Local) (s : Section) (kept : IsBlockWorld 
     blocks = moved.blocks;
     named = step_named;
     each = λ j x at. elim (set_cases w.locals l.caller j after_local x at) [
-        inl g ↦ subst (λ (y : Local). IsBlockAt c (effect_as c w.map l.caller s) y.caller y.place) (sym g.1)
+      | inl g ↦ subst (λ (y : Local). IsBlockAt c (effect_as c w.map l.caller s) y.caller y.place) (sym g.1)
           (subst (λ i. IsBlockAt c (effect_as c w.map l.caller s) i after_local.place) (sym (moved_caller l (next c l.place s) call)) (moved_at (next c l.place s) moved.own))
       | inr g ↦ other_at j x g.1 g.0
-      ];
+    ];
   }))
 
 -- What areas need of blocks.
@@ -227,7 +238,8 @@ module _ (c : Setup) (m : PlainMap) (once : (page : ℕ) → times page (spans_o
     part_inside page e =
         let h = holds_to (mapped_pages at) page (sym (covers_one (mapped_pages at) page) ∙ e) in
         let fine = all hand.block hand.there in let v = part_within c m hand.block hand.part fine hand.part_there in let r = row_of m k at hand in record {
-          area = fine.area.area; there = fine.area.there;
+          area = fine.area.area;
+          there = fine.area.there;
           holds = area_holds c m hand.block.start fine.area page (let a = r.0 in let b = h.0 in omega arith) (let a = r.0 in let b = h.1 in let f = r.2 in let g = v.0 in let i = v.1 in omega arith);
           inner = λ plain. (let block : IsPlainKind (kind.Block fine.area.cpu) = subst IsPlainKind fine.area.kind plain in absurd block);
         }

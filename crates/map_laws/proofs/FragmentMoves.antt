@@ -64,8 +64,13 @@ module _ (c : Setup) (m : PlainMap) (k : ℕ) (all : (b : Block) → IsIn b m.bl
         let part = map_in (λ (p : Part). record { cpu = flat.0.cpu; block = flat.0.start; offset = p.offset; pages = p.pages }) (filter (is_named (first_page at) serial flat.0) flat.0.parts) at flat.2 in
         let kept = filter_has (is_named (first_page at) serial flat.0) flat.0.parts part.1.place part.0 part.1.at in
         record {
-          block = flat.0; there = there; start = ap (λ (a : PartAt). a.block) part.2; part = part.0; part_there = kept.there;
-          offset = ap (λ (a : PartAt). a.offset) part.2; pages = ap (λ (a : PartAt). a.pages) part.2;
+          block = flat.0;
+          there = there;
+          start = ap (λ (a : PartAt). a.block) part.2;
+          part = part.0;
+          part_there = kept.there;
+          offset = ap (λ (a : PartAt). a.offset) part.2;
+          pages = ap (λ (a : PartAt). a.pages) part.2;
           lives = (and_both (flat.0.start + part.0.offset == first_page at) (lives_as serial part.0.life) kept.passes).1;
         }
 
@@ -88,9 +93,11 @@ module _ (c : Setup) (m : PlainMap) (k : ℕ) (all : (b : Block) → IsIn b m.bl
     begin_moved = let is = named_part in record {
       names = λ start others o known. omega (arith, ap (count_of start) (changed_starts at.block (with_life at (InHand k)) (λ b. refl) m.blocks));
       blocks = λ b there. block_stays c m (effect_as c m k (BeginUnmap at serial)) b (blocks_only c m (effect_as c m k (BeginUnmap at serial)) b.start refl refl refl) (lived_blocks c m all at (InHand k) taken_fine b there);
-      own = (own_lived c m all k at (effect_as c m k (BeginUnmap at serial)) is.block is.part refl is.there is.start is.part_there is.offset is.pages,
+      own = (
+        own_lived c m all k at (effect_as c m k (BeginUnmap at serial)) is.block is.part refl is.there is.start is.part_there is.offset is.pages,
         (λ page low high. (let e = is.start in let f = is.offset in let g = is.pages in
-          ((all is.block is.there).parts is.part is.part_there).lives (lives_live serial is.part.life is.lives) page (omega arith) (omega arith))));
+            ((all is.block is.there).parts is.part is.part_there).lives (lives_live serial is.part.life is.lives) page (omega arith) (omega arith))),
+      );
       stays = λ start none free known. blocks_only c m (effect_as c m k (BeginUnmap at serial)) start refl refl refl;
       hands = λ j at' n hand. (lived_hand c m all j at at' (InHand k) (effect_as c m k (BeginUnmap at serial)) refl hand (taken_apart is j at' hand), (λ page low high. record { frame = refl; clean = λ h. h }));
     }
@@ -125,27 +132,45 @@ module _ (c : Setup) (m : PlainMap) (k : ℕ) (all : (b : Block) → IsIn b m.bl
         subst (IsOut c m) is.start_is (record { area = fine.area; unmapped = ended_unmapped c m is.block fine is.full })
 
     few_gone : (start : ℕ) → count_of start g ≤ count_of start (block_starts m.blocks)
-    few_gone start = omega (arith, ap (count_of start) legal, sum_starts_of start (filter (is_fragmented c) (queue_of c cpu m.blocks)), sum_starts_of start m.blocks,
+    few_gone start = omega (
+      arith,
+      ap (count_of start) legal,
+      sum_starts_of start (filter (is_fragmented c) (queue_of c cpu m.blocks)),
+      sum_starts_of start m.blocks,
       sum_by-filter-le (λ (b : Block). one_if (b.start == start)) (is_fragmented c) (queue_of c cpu m.blocks),
       sum_by-filter-le (λ (b : Block). one_if (b.start == start)) (λ (b : Block). nat_lt 0 (free_of c b)) (blocks_of cpu m.blocks),
-      sum_by-filter-le (λ (b : Block). one_if (b.start == start)) (λ (b : Block). b.cpu == cpu) m.blocks)
+      sum_by-filter-le (λ (b : Block). one_if (b.start == start)) (λ (b : Block). b.cpu == cpu) m.blocks,
+    )
 
     gone_or_left : (start : ℕ) (t : Bool) → is_among g start ≡ t → count_of start (block_starts left_blocks) + count_of start g ≤ count_of start (block_starts m.blocks)
     unfolding left_blocks
-    gone_or_left start false e = omega (arith, none_counted start g e, sum_starts_of start left_blocks, sum_starts_of start m.blocks,
-      sum_by-filter-le (λ (b : Block). one_if (b.start == start)) (λ (b : Block). not ((b.cpu == cpu) && is_among g b.start)) m.blocks)
+    gone_or_left start false e = omega (
+      arith,
+      none_counted start g e,
+      sum_starts_of start left_blocks,
+      sum_starts_of start m.blocks,
+      sum_by-filter-le (λ (b : Block). one_if (b.start == start)) (λ (b : Block). not ((b.cpu == cpu) && is_among g b.start)) m.blocks,
+    )
     gone_or_left start true e =
         let is = gone_block start e in
         let fails : not ((is.block.cpu == cpu) && is_among g is.block.start) ≡ false = ap (λ t. not (t && is_among g is.block.start)) is.own ∙ ap (λ n. not (is_among g n)) is.start_is ∙ ap not e in
-        omega (arith, few_gone start, once start, sum_starts_of start left_blocks, sum_starts_of start m.blocks,
+        omega (
+          arith,
+          few_gone start,
+          once start,
+          sum_starts_of start left_blocks,
+          sum_starts_of start m.blocks,
           sum_without (λ (b : Block). one_if (b.start == start)) (λ (b : Block). not ((b.cpu == cpu) && is_among g b.start)) m.blocks is.block is.there.place is.there.at fails,
-          ap (λ n. one_if (n == start)) is.start_is, ap one_if (same_test start))
+          ap (λ n. one_if (n == start)) is.start_is,
+          ap one_if (same_test start),
+        )
 
     all_outs : (start : ℕ) → is_among (gone ++ g) start ≡ true → IsOut c (effect_as c m k (Fragment cpu g)) start
     all_outs start h = same_out (by_side (is_among gone start) refl)
       where
         same_out : IsOut c m start → IsOut c (effect_as c m k (Fragment cpu g)) start
         same_out is = record { area = record { area = is.area.area; cpu = is.area.cpu; there = is.area.there; span = is.area.span; kind = is.area.kind }; unmapped = is.unmapped }
+
         by_side : (t : Bool) → is_among gone start ≡ t → IsOut c m start
         by_side true e = outs start e
         by_side false e = gone_out start (count_among start g (let n = among_count start (gone ++ g) h in omega (arith, count_append start gone g, none_counted start gone e)))
@@ -174,8 +199,19 @@ module _ (c : Setup) (m : PlainMap) (k : ℕ) (all : (b : Block) → IsIn b m.bl
           (all b (filter_has (λ (b : Block). not ((b.cpu == cpu) && is_among g b.start)) m.blocks there.place b there.at).there);
       own = to.own all_outs;
       stays = λ start none free known. blocks_only c m (effect_as c m k (Fragment cpu g)) start refl refl refl;
-      hands = λ j at n is. (record { block = is.block; there = filter_in (λ (b : Block). not ((b.cpu == cpu) && is_among g b.start)) m.blocks is.block is.there.place is.there.at (left_hand j at is (is_among g is.block.start) refl);
-          start = is.start; part = is.part; part_there = is.part_there; offset = is.offset; pages = is.pages; life = is.life }, (λ page low high. record { frame = refl; clean = λ h. h }));
+      hands = λ j at n is. (
+        record {
+          block = is.block;
+          there = filter_in (λ (b : Block). not ((b.cpu == cpu) && is_among g b.start)) m.blocks is.block is.there.place is.there.at (left_hand j at is (is_among g is.block.start) refl);
+          start = is.start;
+          part = is.part;
+          part_there = is.part_there;
+          offset = is.offset;
+          pages = is.pages;
+          life = is.life;
+        },
+        (λ page low high. record { frame = refl; clean = λ h. h }),
+      );
     }
 
     pub to_next : IsFragmentNext (Go (PurgeFragmenting (suc cpu) (gone ++ g) extra after))

@@ -46,3 +46,4 @@ pub mod BlockPlaces
 pub mod BlockDispatch
 pub mod BlockWorlds
 pub mod MapLaws
+pub mod MapLegal

@@ -83,10 +83,10 @@ removed_by m (Removing start serial) is = removed_plain m start serial is
 removed_by m _ is = tt
 
 module _ (c : Setup) (w : World) (framed : IsFramed c w) (is : IsMapTraceWorld c w) (k : ℕ) (l : Local) (here : slice_get w.locals k ≡ Some l) where
-  own_names : (start : ℕ) → count_of start (block_starts w.map.blocks) + count_of start (starts_out c l.place) ≤ 1
+  pub own_names : (start : ℕ) → count_of start (block_starts w.map.blocks) + count_of start (starts_out c l.place) ≤ 1
   own_names start = let all = is.blocks.named start in omega (arith, sum_has (λ (x : Local). count_of start (starts_out c x.place)) w.locals l k here)
 
-  areas_once : (page : ℕ) → times page (spans_of w.map.areas) ≤ 1
+  pub areas_once : (page : ℕ) → times page (spans_of w.map.areas) ≤ 1
   areas_once page = let o = is.area.once page in omega arith
 
   pub plain_here : IsRemovedPlain w.map l.place
@@ -113,7 +113,7 @@ module _ (c : Setup) (opening : List Call) (calls : List (List Call)) (areas : A
       let place = (is.only.each k l step.step.here).place in
       let outside : IsOutside l.setup w.map l.place = subst (λ d. IsOutside d w.map l.place) (sym own.setup)
       (block_outside c w.map l.caller (areas_once c w framed is k l step.step.here) is.blocks.blocks l.place place (plain_here c w framed is k l step.step.here) (is.blocks.each k l step.step.here)
-        (λ start. (let n = own_names c w framed is k l step.step.here start in omega arith))) in record {
+      (λ start. (let n = own_names c w framed is k l step.step.here start in omega arith))) in record {
         turns = (turns_last c calls).steps w k l s framed is.turns step.step;
         area = area_kept c w k l s framed is.area proper outside step;
         only = map_only_step c w k l s framed is.only step.step;
@@ -128,8 +128,12 @@ module _ (c : Setup) (opening : List Call) (calls : List (List Call)) (areas : A
   -- callers at their start have no block
   callers_out : (start first : ℕ) (answers : List Answered) (more : List (List Call)) → sum_by (λ (x : Local). count_of start (starts_out c x.place)) (callers_from c answers first more) ≡ 0
   callers_out start first answers [] = refl
-  callers_out start first answers (own ∷ more) = omega (arith, sum_by-cons (λ (x : Local). count_of start (starts_out c x.place)) (started c answers first own) (callers_from c answers (suc first) more),
-    unblocky_out c (started c answers first own).place start (begins_with IsUnblocky c (unblocky_begins c) answers [] (slice_get own 0)), callers_out start (suc first) answers more)
+  callers_out start first answers (own ∷ more) = omega (
+    arith,
+    sum_by-cons (λ (x : Local). count_of start (starts_out c x.place)) (started c answers first own) (callers_from c answers (suc first) more),
+    unblocky_out c (started c answers first own).place start (begins_with IsUnblocky c (unblocky_begins c) answers [] (slice_get own 0)),
+    callers_out start (suc first) answers more,
+  )
 
   callers_at : (m : PlainMap) (answers : List Answered) (first : ℕ) (more : List (List Call)) (j : ℕ) (l : Local) → slice_get (callers_from c answers first more) j ≡ Some l → IsBlockAt c m l.caller l.place
   callers_at m answers first [] j l h = cc

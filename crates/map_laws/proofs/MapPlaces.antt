@@ -195,9 +195,9 @@ map_only_step c w k l s framed only step =
     let own = framed.own k l step.here in
     let caller = only.each k l step.here in record {
       each = λ j x h. elim (set_cases w.locals l.caller j (moved_to l (next l.setup l.place s)) x h) [
-          inl e ↦ subst IsMapCaller (sym e.1) (moved_map l (next l.setup l.place s) (has_call c k l own (not_over l.setup w.map l.place s step.gives)) caller.calls (map_next l.setup l.place s caller.place))
+        | inl e ↦ subst IsMapCaller (sym e.1) (moved_map l (next l.setup l.place s) (has_call c k l own (not_over l.setup w.map l.place s step.gives)) caller.calls (map_next l.setup l.place s caller.place))
         | inr e ↦ only.each j x e.1
-        ];
+      ];
     }
 
 pub map_only_joins : (c : Setup) (opening : List Call) (calls : List (List Call)) (w : World) → AreWithoutObjects opening calls → IsMapOnly w → IsMapOnly (with_callers c calls w)

@@ -69,9 +69,9 @@ module _ (c : Setup) (m : PlainMap) (k : ℕ) (all : (b : Block) → IsIn b m.bl
     stacked = stacked_more b.parts 0 (record { offset = at.offset; pages = at.pages; caller = k; life = InHand k }) fine.stacked (omega arith) less;
     within = (let e = size_more b.parts (record { offset = at.offset; pages = at.pages; caller = k; life = InHand k }) in omega arith);
     parts = λ q qs. elim (in_either b.parts (record { offset = at.offset; pages = at.pages; caller = k; life = InHand k }) q qs) [
-        inl old ↦ fine.parts q old
+      | inl old ↦ fine.parts q old
       | inr e ↦ subst (IsPartFine m b.start) (sym e) (new_fine at b.start (λ page low high. fine.rest page (omega arith) (omega arith)))
-      ];
+    ];
     rest = λ page low high. (let e = size_more b.parts (record { offset = at.offset; pages = at.pages; caller = k; life = InHand k }) in fine.rest page (omega arith) high);
   }
 
@@ -98,7 +98,9 @@ module _ (c : Setup) (m : PlainMap) (k : ℕ) (all : (b : Block) → IsIn b m.bl
         let room : rounded at.pages ≤ free_of c is.0 = grind (arith, nat_tests, found.1) in
         let within = (all is.0 there).within in
         record {
-          block = is.0; there = there; start = ap (λ (a : PartAt). a.block) is.2;
+          block = is.0;
+          there = there;
+          start = ap (λ (a : PartAt). a.block) is.2;
           offset = sym (ap (λ (a : PartAt). a.offset) is.2) ∙ (let e : c.block_pages - (c.block_pages - parts_size is.0.parts) ≡ parts_size is.0.parts = omega arith in e);
           room = (let some = rounded_some at.pages in omega arith);
         }
@@ -107,25 +109,43 @@ module _ (c : Setup) (m : PlainMap) (k : ℕ) (all : (b : Block) → IsIn b m.bl
     cut_fine b there =
         let was = changed_is at.block (with_part k at) m.blocks b there in let from = cut_from_is in
         elim was.2 [
-          inl e ↦ (let one : was.0 ≡ from.block = same_block m.blocks at.block was.1.place from.there.place was.0 from.block (let o = named at.block in omega arith) was.1.at from.there.at e.0 from.start in
-            subst (IsBlockFine c m) (sym e.1) (cut_block at was.0 was.1 (from.offset ∙ ap (λ (x : Block). parts_size x.parts) (sym one)) (subst (λ (x : Block). parts_size x.parts + rounded at.pages ≤ c.block_pages) (sym one) from.room) (rounded_low at.pages few)))
-        | inr e ↦ subst (IsBlockFine c m) (sym e.1) (all was.0 was.1)
+          | inl e ↦ (let one : was.0 ≡ from.block = same_block m.blocks at.block was.1.place from.there.place was.0 from.block (let o = named at.block in omega arith) was.1.at from.there.at e.0 from.start in
+              subst (IsBlockFine c m) (sym e.1) (cut_block at was.0 was.1 (from.offset ∙ ap (λ (x : Block). parts_size x.parts) (sym one)) (subst (λ (x : Block). parts_size x.parts + rounded at.pages ≤ c.block_pages) (sym one) from.room) (rounded_low at.pages few)))
+          | inr e ↦ subst (IsBlockFine c m) (sym e.1) (all was.0 was.1)
         ]
 
     cut_hand : (j : ℕ) (at' : PartAt) → IsPartIn m j at' → IsPartIn (effect_as c m k (CutPart at)) j at'
     cut_hand j at' is = elim (same_or is.block.start at.block) [
-        inl same ↦ record { block = with_part k at is.block; there = changed_in at.block (with_part k at) m.blocks is.block is.there same; start = is.start;
-          part = is.part; part_there = in_front is.block.parts _ is.part is.part_there; offset = is.offset; pages = is.pages; life = is.life }
+      | inl same ↦ record {
+        block = with_part k at is.block;
+        there = changed_in at.block (with_part k at) m.blocks is.block is.there same;
+        start = is.start;
+        part = is.part;
+        part_there = in_front is.block.parts _ is.part is.part_there;
+        offset = is.offset;
+        pages = is.pages;
+        life = is.life;
+      }
       | inr other ↦ record { block = is.block; there = unchanged_in at.block (with_part k at) m.blocks is.block is.there other; start = is.start; part = is.part; part_there = is.part_there; offset = is.offset; pages = is.pages; life = is.life }
-      ]
+    ]
 
     pub cut_moved : IsBlockMoved c m k (CuttingPart cpu pages) (CutPart at) (Go (MappingPart at))
     cut_moved = let from = cut_from_is in record {
       names = λ start others once area. omega (arith, ap (count_of start) (changed_starts at.block (with_part k at) (λ b. refl) m.blocks));
       blocks = λ b there. block_stays c m (effect_as c m k (CutPart at)) b (blocks_only c m (effect_as c m k (CutPart at)) b.start refl refl refl) (cut_fine b there);
-      own = (record { block = with_part k at from.block; there = changed_in at.block (with_part k at) m.blocks from.block from.there from.start; start = from.start;
-            part = record { offset = at.offset; pages = at.pages; caller = k; life = InHand k }; part_there = in_last from.block.parts _; offset = refl; pages = refl; life = refl },
-        (λ page low high. (let e = from.start in let f = from.offset in let g = from.room in let was = (all from.block from.there).rest page (omega arith) (omega arith) in record { unmapped = was.unmapped; not_stale = was.not_stale })));
+      own = (
+        record {
+          block = with_part k at from.block;
+          there = changed_in at.block (with_part k at) m.blocks from.block from.there from.start;
+          start = from.start;
+          part = record { offset = at.offset; pages = at.pages; caller = k; life = InHand k };
+          part_there = in_last from.block.parts _;
+          offset = refl;
+          pages = refl;
+          life = refl;
+        },
+        (λ page low high. (let e = from.start in let f = from.offset in let g = from.room in let was = (all from.block from.there).rest page (omega arith) (omega arith) in record { unmapped = was.unmapped; not_stale = was.not_stale })),
+      );
       stays = λ start none free area. blocks_only c m (effect_as c m k (CutPart at)) start refl refl refl;
       hands = λ j at' apart is. (cut_hand j at' is, (λ page low high. record { frame = refl; clean = λ h. h }));
     }
@@ -143,9 +163,9 @@ module _ (c : Setup) (m : PlainMap) (k : ℕ) (all : (b : Block) → IsIn b m.bl
           stacked = (zero_off, rounded_low at.pages few, tt);
           within = omega arith;
           parts = λ q qs. elim (in_either [] (record { offset = at.offset; pages = at.pages; caller = k; life = InHand k }) q qs) [
-              inl old ↦ (let no = old.at in cc)
+            | inl old ↦ (let no = old.at in cc)
             | inr e ↦ subst (IsPartFine m at.block) (sym e) (new_fine at at.block (λ page low high. bare page (omega arith) (omega arith)))
-            ];
+          ];
           rest = λ page low high. bare page (omega arith) high;
         }
 
@@ -160,12 +180,24 @@ module _ (c : Setup) (m : PlainMap) (k : ℕ) (all : (b : Block) → IsIn b m.bl
     add_moved = record {
       names = λ start others once known. omega (arith, ap (count_of start) (starts_more m.blocks (with_part k at (record { start = at.block; cpu = at.cpu; parts = [] }))), count_append start (block_starts m.blocks) (at.block ∷ []));
       blocks = λ b there. block_stays c m (effect_as c m k (AddBlock at)) b (blocks_only c m (effect_as c m k (AddBlock at)) b.start refl refl refl) (add_fine b there);
-      own = (record { block = with_part k at (record { start = at.block; cpu = at.cpu; parts = [] }); there = in_last m.blocks _; start = refl;
-            part = record { offset = at.offset; pages = at.pages; caller = k; life = InHand k }; part_there = in_of _ 0 _ refl; offset = refl; pages = refl; life = refl },
-        (λ page low high. (let was = bare page (omega arith) (omega arith) in record { unmapped = was.unmapped; not_stale = was.not_stale })));
+      own = (
+        record {
+          block = with_part k at (record { start = at.block; cpu = at.cpu; parts = [] });
+          there = in_last m.blocks _;
+          start = refl;
+          part = record { offset = at.offset; pages = at.pages; caller = k; life = InHand k };
+          part_there = in_of _ 0 _ refl;
+          offset = refl;
+          pages = refl;
+          life = refl;
+        },
+        (λ page low high. (let was = bare page (omega arith) (omega arith) in record { unmapped = was.unmapped; not_stale = was.not_stale })),
+      );
       stays = λ start none free known. blocks_only c m (effect_as c m k (AddBlock at)) start refl refl refl;
-      hands = λ j at' apart is. (record { block = is.block; there = in_front m.blocks _ is.block is.there; start = is.start; part = is.part; part_there = is.part_there; offset = is.offset; pages = is.pages; life = is.life },
-        (λ page low high. record { frame = refl; clean = λ h. h }));
+      hands = λ j at' apart is. (
+        record { block = is.block; there = in_front m.blocks _ is.block is.there; start = is.start; part = is.part; part_there = is.part_there; offset = is.offset; pages = is.pages; life = is.life },
+        (λ page low high. record { frame = refl; clean = λ h. h }),
+      );
     }
 
   -- A part in hand gets another life.
@@ -193,13 +225,13 @@ module _ (c : Setup) (m : PlainMap) (k : ℕ) (all : (b : Block) → IsIn b m.bl
     live_fine serial mapped b p there start ps off =
         let one = own_is b p there start ps off in
         subst (λ (x : Block). IsPartFine m x.start (record p { life = Lives serial })) (sym one.0) (subst (λ (y : Part). IsPartFine m hand.block.start (record y { life = Lives serial })) (sym one.1)
-          (record { lives = λ h. own_row (IsMapped m) mapped; ended = λ h. cc; tail = own_tail }))
+        (record { lives = λ h. own_row (IsMapped m) mapped; ended = λ h. cc; tail = own_tail }))
 
     end_fine : OnRow (first_page at) at.pages (IsUnmapped m) → (b : Block) (p : Part) → IsIn b m.blocks → b.start ≡ at.block → IsIn p b.parts → p.offset ≡ at.offset → IsPartFine m b.start (record p { life = Ended })
     end_fine unmapped b p there start ps off =
         let one = own_is b p there start ps off in
         subst (λ (x : Block). IsPartFine m x.start (record p { life = Ended })) (sym one.0) (subst (λ (y : Part). IsPartFine m hand.block.start (record y { life = Ended })) (sym one.1)
-          (record { lives = λ h. cc; ended = λ h page low high. end_page page low high (nat_lt page (hand.block.start + hand.part.offset + hand.part.pages)) refl; tail = own_tail }))
+        (record { lives = λ h. cc; ended = λ h page low high. end_page page low high (nat_lt page (hand.block.start + hand.part.offset + hand.part.pages)) refl; tail = own_tail }))
       where
         end_page : (page : ℕ) → hand.block.start + hand.part.offset ≤ page → page < hand.block.start + hand.part.offset + size_of hand.part → (t : Bool) → nat_lt page (hand.block.start + hand.part.offset + hand.part.pages) ≡ t → IsUnmapped m page
         end_page page low high true e = own_row (IsUnmapped m) unmapped page low (let less : page < hand.block.start + hand.part.offset + hand.part.pages = grind (arith, nat_tests) in omega arith)
@@ -229,16 +261,29 @@ module _ (c : Setup) (m : PlainMap) (k : ℕ) (all : (b : Block) → IsIn b m.bl
       kept_hand : (j : ℕ) (at' : PartAt) → j ≢ k → (is : IsPartIn m j at') → IsPartIn (effect_as c m k (Retire at spent)) j at'
       kept_hand j at' n is =
           let mid = lived_hand c m all j at at' Ended (record m { blocks = set_life at Ended m.blocks }) refl is (apart_hand j at' n is) in
-          record { block = mid.block; there = filter_in (λ (b : Block). not (is_spent c b)) (set_life at Ended m.blocks) mid.block mid.there.place mid.there.at (unspent mid (is_spent c mid.block) refl);
-            start = mid.start; part = mid.part; part_there = mid.part_there; offset = mid.offset; pages = mid.pages; life = mid.life }
+          record {
+            block = mid.block;
+            there = filter_in (λ (b : Block). not (is_spent c b)) (set_life at Ended m.blocks) mid.block mid.there.place mid.there.at (unspent mid (is_spent c mid.block) refl);
+            start = mid.start;
+            part = mid.part;
+            part_there = mid.part_there;
+            offset = mid.offset;
+            pages = mid.pages;
+            life = mid.life;
+          }
         where
           unspent : (mid : IsPartIn (record m { blocks = set_life at Ended m.blocks }) j at') (t : Bool) → is_spent c mid.block ≡ t → not (is_spent c mid.block) ≡ true
           unspent mid true e = absurd (hand_not_ended mid.block mid.part j mid.part_there mid.life (spent_full mid.block (retired_fine mid.block mid.there) e))
           unspent mid false e = ap not e
 
       few_left : (start : ℕ) → count_of start (block_starts (filter (λ (b : Block). not (is_spent c b)) (set_life at Ended m.blocks))) ≤ count_of start (block_starts m.blocks)
-      few_left start = omega (arith, sum_starts_of start (filter (λ (b : Block). not (is_spent c b)) (set_life at Ended m.blocks)), sum_starts_of start (set_life at Ended m.blocks),
-        sum_by-filter-le (λ (b : Block). one_if (b.start == start)) (λ (b : Block). not (is_spent c b)) (set_life at Ended m.blocks), ap (count_of start) (changed_starts at.block (with_life at Ended) (λ b. refl) m.blocks))
+      few_left start = omega (
+        arith,
+        sum_starts_of start (filter (λ (b : Block). not (is_spent c b)) (set_life at Ended m.blocks)),
+        sum_starts_of start (set_life at Ended m.blocks),
+        sum_by-filter-le (λ (b : Block). one_if (b.start == start)) (λ (b : Block). not (is_spent c b)) (set_life at Ended m.blocks),
+        ap (count_of start) (changed_starts at.block (with_life at Ended) (λ b. refl) m.blocks),
+      )
 
       -- the spent block of the part
       pub record IsSpentBlock : Type 0 where
@@ -253,9 +298,14 @@ module _ (c : Setup) (m : PlainMap) (k : ℕ) (all : (b : Block) → IsIn b m.bl
           record { block = b; there = is.0; start = to_same b.start at.block both.0; full = both.1 }
 
       one_gone : IsSpentBlock → (start : ℕ) → count_of start (block_starts (filter (λ (b : Block). not (is_spent c b)) (set_life at Ended m.blocks))) + one_if (at.block == start) ≤ count_of start (block_starts m.blocks)
-      one_gone is start = omega (arith, sum_starts_of start (filter (λ (b : Block). not (is_spent c b)) (set_life at Ended m.blocks)), sum_starts_of start (set_life at Ended m.blocks),
+      one_gone is start = omega (
+        arith,
+        sum_starts_of start (filter (λ (b : Block). not (is_spent c b)) (set_life at Ended m.blocks)),
+        sum_starts_of start (set_life at Ended m.blocks),
         sum_without (λ (b : Block). one_if (b.start == start)) (λ (b : Block). not (is_spent c b)) (set_life at Ended m.blocks) is.block is.there.place is.there.at (ap not is.full),
-        ap (λ n. one_if (n == start)) is.start, ap (count_of start) (changed_starts at.block (with_life at Ended) (λ b. refl) m.blocks))
+        ap (λ n. one_if (n == start)) is.start,
+        ap (count_of start) (changed_starts at.block (with_life at Ended) (λ b. refl) m.blocks),
+      )
 
       retire_blocks : (b : Block) → IsIn b (effect_as c m k (Retire at spent)).blocks → IsBlockFine c (effect_as c m k (Retire at spent)) b
       retire_blocks b there = block_stays c m (effect_as c m k (Retire at spent)) b (blocks_only c m (effect_as c m k (Retire at spent)) b.start refl refl refl)
@@ -274,11 +324,17 @@ module _ (c : Setup) (m : PlainMap) (k : ℕ) (all : (b : Block) → IsIn b m.bl
       retire_by : (t : Bool) → spent ≡ t → IsBlockMoved c m k (Retiring at r) (Retire at spent) (if t then Go (UnlinkingBlock at.block r) else Answer r MadeNothing)
       retire_by false e = record {
         names = λ start others o known. omega (arith, few_left start);
-        blocks = retire_blocks; own = tt; stays = λ start none free known. blocks_only c m (effect_as c m k (Retire at spent)) start refl refl refl; hands = retire_hands;
+        blocks = retire_blocks;
+        own = tt;
+        stays = λ start none free known. blocks_only c m (effect_as c m k (Retire at spent)) start refl refl refl;
+        hands = retire_hands;
       }
       retire_by true e = let is = spent_block (find (λ (b : Block). (b.start == at.block) && is_spent c b) (set_life at Ended m.blocks)) refl (sym legal ∙ e) in record {
         names = λ start others o known. omega (arith, one_gone is start, count_cons start at.block []);
-        blocks = retire_blocks; own = out_block is; stays = λ start none free known. blocks_only c m (effect_as c m k (Retire at spent)) start refl refl refl; hands = retire_hands;
+        blocks = retire_blocks;
+        own = out_block is;
+        stays = λ start none free known. blocks_only c m (effect_as c m k (Retire at spent)) start refl refl refl;
+        hands = retire_hands;
       }
 
       pub retire_moved : IsBlockMoved c m k (Retiring at r) (Retire at spent) (if spent then Go (UnlinkingBlock at.block r) else Answer r MadeNothing)

@@ -253,7 +253,6 @@ module _ (c : Setup) (m : PlainMap) where
   plain_next (Depopulating base populated) s h = tt
   plain_next (UnlinkingGroups base) s h = tt
 
-
 module _ (c : Setup) (m : PlainMap) (k : ℕ) where
   next_by : (p : Place) (s : Section) (b : Bool) → makes_area p ≡ b → IsProper c p → AreGiven m → IsPlainPlace m p → Meets c (ask c p) s → IsLegalAs c m k s → IsPlainNext (effect_as c m k s) (next c p s)
   next_by p s false e proper is plain w legal = plain_next c (effect_as c m k s) p s e
@@ -366,19 +365,22 @@ plain_step c w k l s framed proper is step =
     let caller = is.each k l step.step.here in record {
       given = given_after l.setup w.map l.caller s legal is.given;
       each = λ j x h. elim (set_cases w.locals l.caller j (moved_to l (next l.setup l.place s)) x h) [
-          inl e ↦ subst (IsPlainCaller (effect_as l.setup w.map l.caller s)) (sym e.1)
+        | inl e ↦ subst (IsPlainCaller (effect_as l.setup w.map l.caller s)) (sym e.1)
             (moved_plain (effect_as l.setup w.map l.caller s) l (next l.setup l.place s) (has_call c k l own (not_over l.setup w.map l.place s step.step.gives)) (caller_stays l.setup w.map l.caller s legal l caller)
-              (plain_after l.setup w.map l.caller l.place s (proper.each k l step.step.here) is.given caller.place step.meets legal))
+            (plain_after l.setup w.map l.caller l.place s (proper.each k l step.step.here) is.given caller.place step.meets legal))
         | inr e ↦ caller_stays l.setup w.map l.caller s legal x (is.each j x e.1)
-        ];
+      ];
     }
 
 pub plain_first : (c : Setup) (opening : List Call) (calls : List (List Call)) → IsPlainWorld (opening_world c opening calls)
 plain_first c opening calls = record { given = record { below = λ a there. (let at = there.at in cc) }; each = first }
   where
     first : (k : ℕ) (l : Local) → slice_get (started c [] 0 opening ∷ []) k ≡ Some l → IsPlainCaller (opening_world c opening calls).map l
-    first zero l h = let e : started c [] 0 opening ≡ l = cc in subst (IsPlainCaller (opening_world c opening calls).map) e (record { answers = λ i a f. cc; opening = λ i a f. cc;
-      place = begin_plain (opening_world c opening calls).map c [] [] (λ i a f. cc) (λ i a f. cc) (slice_get opening 0) })
+    first zero l h = let e : started c [] 0 opening ≡ l = cc in subst (IsPlainCaller (opening_world c opening calls).map) e (record {
+      answers = λ i a f. cc;
+      opening = λ i a f. cc;
+      place = begin_plain (opening_world c opening calls).map c [] [] (λ i a f. cc) (λ i a f. cc) (slice_get opening 0);
+    })
     first (suc k) l h = cc
 
 opening_plain : (m : PlainMap) (locals : List Local) → ((k : ℕ) (l : Local) → slice_get locals k ≡ Some l → IsPlainCaller m l) → (i : ℕ) (a : Answered) → slice_get (opening_answers locals) i ≡ Some a → IsPlainMade m a.made

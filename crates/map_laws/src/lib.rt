@@ -32,13 +32,14 @@ pub fn area_traces()
     ensures legal { AreaHistoriesAreLegal }
 {}
 
-ghost use Rattle.map_laws.specs.MapTraces.{AreasWithoutObjectsAreDisjointAndAligned, TheGuardWithoutObjectsIsNeverMapped, FreePagesAreCleanWithoutObjects, PartsWithoutObjectsAreDisjoint};
+ghost use Rattle.map_laws.specs.MapTraces.{AreasWithoutObjectsAreDisjointAndAligned, TheGuardWithoutObjectsIsNeverMapped, FreePagesAreCleanWithoutObjects, PartsWithoutObjectsAreDisjoint, HistoriesWithoutObjectsAreLegal};
 
 /// In traces whose calls use no per-CPU object: areas are disjoint and aligned, a guard is never mapped, free pages are
-/// clean, and the parts of a block are disjoint.
+/// clean, the parts of a block are disjoint, and the history is one legal history in which every caller ends.
 pub fn traces_without_objects()
     ensures apart { AreasWithoutObjectsAreDisjointAndAligned }
     ensures guard { TheGuardWithoutObjectsIsNeverMapped }
     ensures clean { FreePagesAreCleanWithoutObjects }
     ensures parts { PartsWithoutObjectsAreDisjoint }
+    ensures legal { HistoriesWithoutObjectsAreLegal }
 {}
