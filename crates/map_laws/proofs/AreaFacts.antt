@@ -1,10 +1,10 @@
 -- What is kept of areas, of waiting and of free pages between two events, and of the pages that a caller holds or flushes.
-use Rattle.std.proofs.Common.{◌≡◌, ◌≢◌, ℕ, zero, suc, ◌+◌, ◌-◌, ◌<◌, ◌≤◌, ◌⊎◌, inl, inr, Bool, true, false, ◌||◌, List, [], ◌∷◌, ◌++◌, length, map, slice_get, sum_by, Option, Some, None, refl, ap, sym, ◌∙◌, subst, arith}
+use Rattle.std.proofs.Common.{◌≡◌, ℕ, ◌+◌, ◌-◌, ◌≤◌, Bool, true, false, List, [], ◌∷◌, length, slice_get, Some, refl, ap, sym, ◌∙◌, arith}
 use Rattle.vm_model.specs.declared.areas.Span.{Span}
 use Rattle.vm_model.specs.declared.areas.Area.{Area}
 use Rattle.vm_model.specs.declared.areas.AreaKind.{AreaKind}
 use Rattle.vm_model.specs.declared.areas.AreaKind.TheVariants as kind
-use Rattle.vm_model.specs.Space.{span, holds, covers, one_if, times}
+use Rattle.vm_model.specs.Space.{span, holds, covers, times}
 use Rattle.vm_model.specs.Setup.{Setup, groups_at}
 use Rattle.vm_model.specs.PlainMap.{PlainMap, Mark, Free, Held, Live, Waits, Flushing}
 use Rattle.vm_model.specs.Areas.{mapped_part, spans_of}
@@ -13,9 +13,9 @@ use Rattle.vm_model.specs.Places.{Place, Over, MappingArea, Dropping, SettlingAr
 use Rattle.vm_model.specs.Next.{Next, Go, Answer}
 use Rattle.vm_model.specs.Carried.{held, flushed}
 use Rattle.vm_model.specs.Laws.{as_free}
-use Rattle.map_laws.proofs.Spans.{one_le, times-cons, times-one, covers_times, covers_none, none_covers, in_spans, InSpans, Inside, Outside, covers_one, holds_times, holds_to, holds_from}
-use Rattle.map_laws.proofs.Places.{IsPlainKind, OnNext}
-use Rattle.map_laws.proofs.Touched.{touch, IsSame}
+use Rattle.map_laws.proofs.Spans.{covers_times, covers_one, holds_to, holds_from}
+use Rattle.map_laws.proofs.Places.{IsPlainKind}
+use Rattle.map_laws.proofs.Touched.{IsSame}
 
 -- the pages of an area that never get frames
 abbrev pub guard_part : AreaKind → Span → Span

@@ -1,46 +1,29 @@
 -- The laws of traces that make and free vmalloc areas alone.
-use Rattle.std.proofs.Common.{◌≡◌, ◌≢◌, ℕ, zero, suc, ◌+◌, ◌-◌, ◌<◌, ◌≤◌, ◌⊎◌, inl, inr, Bool, true, false, ◌==◌, nat_lt, if◌then◌else◌, List, [], ◌∷◌, ◌++◌, length, map, filter, not, slice_get, replicate, sum_by, Option, Some, None, refl, ap, sym, ◌∙◌, subst, arith}
-use Rattle.std.proofs.lemmas.Bool.Decides.{nat_tests}
+use Rattle.std.proofs.Common.{◌≡◌, ℕ, zero, suc, ◌-◌, ◌<◌, ◌≤◌, inl, inr, true, false, List, [], ◌∷◌, slice_get, replicate, sum_by, Option, Some, None, refl, ap, sym, ◌∙◌, subst, arith}
 use Rattle.std.proofs.lemmas.List.{length-replicate}
 use Rattle.std.proofs.lemmas.List.Sums.{sum_by-cons, sum_by-append}
-use Rattle.std.proofs.lemmas.Option.{slice_get_within}
 use Rattle.vm_model.specs.declared.areas.Span.{Span}
-use Rattle.vm_model.specs.declared.areas.Area.{Area}
-use Rattle.vm_model.specs.declared.areas.AreaKind.{AreaKind}
 use Rattle.vm_model.specs.declared.areas.AreaKind.TheVariants as kind
 use Rattle.vm_model.specs.declared.calls.Call.{Call}
-use Rattle.vm_model.specs.Space.{span, holds, covers, times, lowest, end_of}
+use Rattle.vm_model.specs.Space.{covers, times, end_of}
 use Rattle.vm_model.specs.Setup.{Setup}
-use Rattle.vm_model.specs.PlainMap.{PlainMap, Mark, Free, at_first, taken}
-use Rattle.vm_model.specs.Areas.{is_area, named_areas, mapped_part, spans_of}
-use Rattle.vm_model.specs.Frames.{free_frames}
-use Rattle.vm_model.specs.Legal.{IsMarked, IsUnmapped, IsBare, OnEach, IsLegalAs}
-use Rattle.vm_model.specs.Events.{Section, ForPages, ForGroups, Refuse, TakePurge, GivePurge, Carve, NoHole, MapPages, NoFrames}
-use Rattle.vm_model.specs.Places.{Place, Over, Refusing, Finding, FindingAgain, MappingArea, Dropping, SettlingArea, Removing, UnmappingArea, Waiting, PurgeTaking, PurgeFragmenting, PurgeCollecting, PurgeFlushing, PurgeReturning, PurgeGiving, LookingAtDirty, Aim, ForArea, ask}
-use Rattle.vm_model.specs.Given.{given, carving, removal, with_frames, taking}
+use Rattle.vm_model.specs.PlainMap.{Mark, Free, at_first}
 use Rattle.vm_model.specs.Calls.{Answered}
 use Rattle.vm_model.specs.History.{World, Local, started, made_by, opening_world, opening_answers, callers_from, with_callers}
-use Rattle.vm_model.specs.Carried.{held, flushed, has_purge}
-use Rattle.vm_model.specs.LegalHistory.{IsReached, AllOver}
-use Rattle.vm_model.specs.Rules.{IsTrace}
-use Rattle.vm_model.specs.Laws.{as_free, uses, AreAreasApart, AreFreePagesClean, IsOneLegalHistory}
-use Rattle.map_laws.specs.AreaTraces.{AreOnlyAreas, VmallocAreasAreDisjointAndAligned, TheVmallocGuardIsNeverMapped, FreePagesAreCleanForAreas, AreaHistoriesAreLegal}
-use Rattle.map_laws.proofs.Lists.{there, append_cases}
-use Rattle.map_laws.proofs.Chosen.{IsIn, filter_has}
-use Rattle.map_laws.proofs.Frames.{IsFramed, IsStep, lasts}
-use Rattle.map_laws.proofs.Places.{IsPlainKind, IsProper, AllStand, HaveBeginnings, begins_with}
+use Rattle.vm_model.specs.Carried.{held, flushed}
+use Rattle.vm_model.specs.LegalHistory.{IsReached}
+use Rattle.vm_model.specs.Laws.{as_free}
+use Rattle.map_laws.specs.AreaTraces.{AreOnlyAreas, VmallocAreasAreDisjointAndAligned, TheVmallocGuardIsNeverMapped, FreePagesAreCleanForAreas}
+use Rattle.map_laws.proofs.Lists.{append_cases}
+use Rattle.map_laws.proofs.Places.{IsPlainKind, begins_with}
 use Rattle.map_laws.proofs.TurnProofs.{AreTurnsProper, turns_first, turns_last}
-use Rattle.map_laws.proofs.Spans.{times-cons, covers_one, holds_from}
-use Rattle.map_laws.proofs.StepFalls.{has_room}
-use Rattle.map_laws.proofs.GivenMeets.{given_meets}
-use Rattle.map_laws.proofs.AreaFacts.{IsHolding, IsMapFine, IsUnbearing, nothing_held, nothing_flushed, holds_nothing, guard_part, mapped_covers}
-use Rattle.map_laws.proofs.MapMoves.{times_both}
-use Rattle.map_laws.proofs.AreaWorlds.{IsAreaWorld, area_kept, unbearing_begins, IsLegalStep, IsLegallyLasting, legally_lasts}
+use Rattle.map_laws.proofs.Spans.{covers_one, holds_from}
+use Rattle.map_laws.proofs.AreaFacts.{IsHolding, IsMapFine, IsUnbearing, nothing_held, nothing_flushed, holds_nothing, guard_part}
+use Rattle.map_laws.proofs.AreaWorlds.{IsAreaWorld, area_kept, unbearing_begins, IsLegallyLasting, legally_lasts}
 use Rattle.map_laws.proofs.OwnFrames.{AreFramesClean, clean_first, clean_lasts}
 use Rattle.map_laws.proofs.AreasMade.{AreMadeWell, made_section}
 use Rattle.map_laws.proofs.VmallocPlaces.{AreAligned, aligned_first, aligned_lasts}
-use Rattle.map_laws.proofs.AreaPlaces.{IsAreaPlace, IsAreaOnly, area_outside, area_only_first, area_only_step, area_only_joins}
-use Rattle.map_laws.proofs.LegalRuns.{one_legal}
+use Rattle.map_laws.proofs.AreaPlaces.{IsAreaOnly, area_outside, area_only_first, area_only_step, area_only_joins}
 
 -- The first world, and callers that join.
 

@@ -1,28 +1,26 @@
 -- Each section that the map gives to such a caller is legal.
-use Rattle.std.proofs.Common.{◌≡◌, ◌≢◌, ℕ, zero, suc, ◌+◌, ◌-◌, ◌<◌, ◌≤◌, ◌⊎◌, inl, inr, Bool, true, false, ◌&&◌, ◌==◌, nat_lt, if◌then◌else◌, List, [], ◌∷◌, ◌++◌, length, map, filter, not, slice_get, Option, Some, None, refl, ap, sym, ◌∙◌, subst, arith}
+use Rattle.std.proofs.Common.{◌≡◌, ℕ, ◌≤◌, Bool, true, false, ◌==◌, nat_lt, if◌then◌else◌, List, [], ◌∷◌, length, not, slice_get, Option, Some, None, refl, ap, sym, subst, arith}
 use Rattle.std.proofs.lemmas.Bool.Decides.{nat_tests}
 use Rattle.vm_model.specs.declared.areas.Span.{Span}
 use Rattle.vm_model.specs.declared.areas.Area.{Area}
-use Rattle.vm_model.specs.declared.areas.AreaKind.{AreaKind}
-use Rattle.vm_model.specs.declared.calls.Call.{Call}
-use Rattle.vm_model.specs.Space.{holds, covers, one_if, times, lowest}
+use Rattle.vm_model.specs.Space.{holds, one_if, times, lowest}
 use Rattle.vm_model.specs.Setup.{Setup}
 use Rattle.vm_model.specs.PlainMap.{PlainMap, taken}
 use Rattle.vm_model.specs.Areas.{is_area, named_areas, mapped_part, spans_of}
 use Rattle.vm_model.specs.Frames.{free_frames}
 use Rattle.vm_model.specs.Legal.{OnEach, IsBare, IsLegalAs}
-use Rattle.vm_model.specs.Events.{Section, ForPages, ForGroups, TakePurge, GivePurge, MapPages, NoFrames}
-use Rattle.vm_model.specs.Places.{Place, Over, Refusing, Finding, FindingAgain, MappingArea, Dropping, SettlingArea, Removing, UnmappingArea, Waiting, PurgeTaking, PurgeFragmenting, PurgeCollecting, PurgeFlushing, PurgeReturning, PurgeGiving, LookingAtDirty, Aim, ForArea, ask}
-use Rattle.vm_model.specs.Given.{given, carving, removal, with_frames}
-use Rattle.vm_model.specs.History.{World, Local, opening_world}
+use Rattle.vm_model.specs.Events.{Section, ForPages, TakePurge, MapPages, NoFrames}
+use Rattle.vm_model.specs.Places.{Place, Over, Refusing, Finding, FindingAgain, MappingArea, Dropping, SettlingArea, Removing, UnmappingArea, Waiting, PurgeTaking, PurgeFragmenting, PurgeCollecting, PurgeFlushing, PurgeReturning, PurgeGiving, LookingAtDirty, ForArea, ask}
+use Rattle.vm_model.specs.Given.{given, carving, removal}
+use Rattle.vm_model.specs.History.{World, Local}
 use Rattle.vm_model.specs.Carried.{has_purge}
-use Rattle.map_laws.specs.AreaTraces.{AreOnlyAreas, AreaHistoriesAreLegal}
+use Rattle.map_laws.specs.AreaTraces.{AreaHistoriesAreLegal}
 use Rattle.map_laws.proofs.Chosen.{IsIn, filter_has}
 use Rattle.map_laws.proofs.Fits.{and_both}
 use Rattle.map_laws.proofs.Frames.{IsFramed, IsStep}
-use Rattle.map_laws.proofs.Places.{IsPlainKind, IsProper}
+use Rattle.map_laws.proofs.Places.{IsPlainKind}
 use Rattle.map_laws.proofs.TurnPlaces.{taking_is}
-use Rattle.map_laws.proofs.Spans.{times-cons, covers_one, holds_from}
+use Rattle.map_laws.proofs.Spans.{times-cons, holds_from}
 use Rattle.map_laws.proofs.StepFalls.{has_room}
 use Rattle.map_laws.proofs.GivenMeets.{given_meets}
 use Rattle.map_laws.proofs.AreaFacts.{IsHolding, mapped_covers}

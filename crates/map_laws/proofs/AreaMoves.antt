@@ -1,6 +1,5 @@
 -- What each section does at its place, as to areas, to what waits and to free pages.
-use Rattle.std.proofs.Common.{◌≡◌, ◌≢◌, ℕ, zero, suc, ◌+◌, ◌-◌, ◌<◌, ◌≤◌, ◌⊎◌, inl, inr, Bool, true, false, List, [], ◌∷◌, ◌++◌, length, map, slice_get, Option, Some, None, option_to_list, refl, ap, sym, ◌∙◌, subst, arith}
-use Rattle.std.proofs.lemmas.Bool.Decides.{nat_tests}
+use Rattle.std.proofs.Common.{◌≡◌, ℕ, zero, suc, ◌≤◌, inl, inr, true, false, List, [], ◌∷◌, ◌++◌, length, map, slice_get, Option, Some, None, option_to_list, refl, ap, sym, ◌∙◌, subst}
 use Rattle.vm_model.specs.declared.areas.Span.{Span}
 use Rattle.vm_model.specs.declared.areas.Area.{Area}
 use Rattle.vm_model.specs.declared.areas.AreaKind.{AreaKind}
@@ -10,20 +9,18 @@ use Rattle.vm_model.specs.Setup.{Setup, groups_at, pages_in_units, highest}
 use Rattle.vm_model.specs.PlainMap.{PlainMap, taken}
 use Rattle.vm_model.specs.Areas.{named_areas, mapped_part, areas_of, group_kinds, group_areas}
 use Rattle.vm_model.specs.Frames.{free_frames}
-use Rattle.vm_model.specs.Blocks.{PartAt, mapped_pages}
+use Rattle.vm_model.specs.Blocks.{mapped_pages}
 use Rattle.vm_model.specs.Legal.{OnEach, OnPages, IsMapped, IsUnmapped, IsLegalAs}
-use Rattle.vm_model.specs.Events.{Section, Search, ForPages, ForGroups, Carve, CarveGroups, NoHole, Drop, Return, Settle, Remove, AreaNotLive, Unlink, Wait, TakeWaiting, MapPages, Populate, Fill, NoFrames, Unmap, Depopulate, Flush}
-use Rattle.vm_model.specs.Effects.{effect_as}
+use Rattle.vm_model.specs.Events.{Section, Search, ForPages, ForGroups, NoHole, AreaNotLive, Wait, TakeWaiting, MapPages, Populate, Fill, NoFrames, Unmap, Depopulate}
 use Rattle.vm_model.specs.Told.{carved, carved_base, removed}
-use Rattle.vm_model.specs.Places.{Place, Over, Refusing, Finding, FindingAgain, MappingArea, Dropping, SettlingArea, Removing, UnmappingArea, Waiting, PurgeTaking, PurgeFragmenting, PurgeUnlinking, PurgeWaiting, PurgeCollecting, PurgeFlushing, PurgeReturning, PurgeGiving, CuttingPart, SettlingBlock, AddingBlock, MappingPart, SettlingPart, BeginningUnmap, UnmappingPart, Retiring, UnlinkingBlock, LookingAtDirty, TakingAlloc, Choosing, SettlingGroups, AddingChunk, Populating, SettlingObject, Unplacing, GivingAlloc, ChoosingAtomic, Zeroing, SettlingAtomic, FreeingObject, Adding, Summing, TakingToBalance, Sparing, Depopulating, UnlinkingGroups, NextFill, Filling, NotingFilled, Aim, ForArea, ForBlock, ForChunk, Then, SearchAgain, ReplyWith, SpareAgain, Ask, AskSearch, ask, block_spans, group_starts}
-use Rattle.vm_model.specs.Next.{Next, Go, Answer, next, found, without_space, after_remove}
+use Rattle.vm_model.specs.Places.{Place, Over, Refusing, Finding, FindingAgain, MappingArea, Dropping, SettlingArea, Removing, UnmappingArea, Waiting, PurgeTaking, PurgeFragmenting, PurgeUnlinking, PurgeWaiting, PurgeCollecting, PurgeFlushing, PurgeReturning, PurgeGiving, CuttingPart, SettlingBlock, AddingBlock, MappingPart, SettlingPart, BeginningUnmap, UnmappingPart, Retiring, UnlinkingBlock, LookingAtDirty, TakingAlloc, Choosing, SettlingGroups, AddingChunk, Populating, SettlingObject, Unplacing, GivingAlloc, ChoosingAtomic, Zeroing, SettlingAtomic, FreeingObject, Adding, Summing, TakingToBalance, Sparing, Depopulating, UnlinkingGroups, NextFill, Filling, NotingFilled, Aim, ForArea, ForBlock, ForChunk, ReplyWith, SpareAgain, AskSearch, ask, block_spans, group_starts}
+use Rattle.vm_model.specs.Next.{Next, next, found, without_space, after_remove}
 use Rattle.vm_model.specs.Given.{given, carving, carving_groups, removal}
-use Rattle.vm_model.specs.Carried.{held, flushed}
 use Rattle.vm_model.specs.Laws.{as_free}
 use Rattle.vm_model.specs.LegalHistory.{Meets}
 use Rattle.vm_model.proofs.Paint.{length-paint_from}
 use Rattle.map_laws.proofs.Places.{OnNext, IsPlainKind, IsAimed, IsProper}
-use Rattle.map_laws.proofs.Touched.{touch, in_row}
+use Rattle.map_laws.proofs.Touched.{in_row}
 use Rattle.map_laws.proofs.Spans.{covers_one, holds_from}
 use Rattle.map_laws.proofs.AreaFacts.{IsHolding, IsMapFine, own_uses, IsUnbearing, guard_part}
 use Rattle.map_laws.proofs.PlaceMoves.{IsMoved, quiet_moved, carve_area, carve_block, carve_groups, drop_moved, return_moved, length-give_frames}

@@ -1,32 +1,28 @@
 -- What is kept of areas, held pages and free pages is kept by each legal section.
-use Rattle.std.proofs.Common.{◌≡◌, ◌≢◌, ℕ, zero, suc, ◌+◌, ◌-◌, ◌<◌, ◌≤◌, ◌⊎◌, inl, inr, Bool, true, false, List, [], ◌∷◌, ◌++◌, length, slice_get, slice_set, sum_by, Option, Some, None, refl, ap, sym, ◌∙◌, subst, arith, get_or}
-use Rattle.std.proofs.lemmas.List.Sums.{sum_by-set, sum_by-cons, sum_by-append}
+use Rattle.std.proofs.Common.{◌≡◌, ◌≢◌, ℕ, suc, ◌+◌, ◌<◌, ◌≤◌, inl, inr, Bool, true, false, List, [], ◌∷◌, length, slice_get, slice_set, sum_by, Option, Some, None, refl, ap, sym, ◌∙◌, subst, arith}
+use Rattle.std.proofs.lemmas.List.Sums.{sum_by-set}
 use Rattle.std.proofs.lemmas.Option.{slice_get_within, get_or_from_slice_get}
-use Rattle.vm_model.specs.declared.areas.Span.{Span}
-use Rattle.vm_model.specs.declared.areas.Area.{Area}
 use Rattle.vm_model.specs.declared.calls.Call.{Call}
 use Rattle.vm_model.specs.declared.calls.Reply.{Reply}
 use Rattle.vm_model.specs.Space.{times}
 use Rattle.vm_model.specs.Setup.{Setup}
-use Rattle.vm_model.specs.PlainMap.{PlainMap, Free}
-use Rattle.vm_model.specs.Areas.{spans_of}
-use Rattle.vm_model.specs.Legal.{IsMarked, IsLegalAs}
+use Rattle.vm_model.specs.PlainMap.{PlainMap}
+use Rattle.vm_model.specs.Legal.{IsLegalAs}
 use Rattle.vm_model.specs.Events.{Section, Event}
 use Rattle.vm_model.specs.Effects.{effect_as}
-use Rattle.vm_model.specs.Places.{Place, Over, Made, ask}
+use Rattle.vm_model.specs.Places.{Made, ask}
 use Rattle.vm_model.specs.Next.{Next, Go, Answer, next}
-use Rattle.vm_model.specs.Calls.{Answered, begin}
-use Rattle.vm_model.specs.History.{World, Local, started, answered, moved_to, made_by, opening_world, opening_answers, callers_from, with_callers}
+use Rattle.vm_model.specs.History.{World, Local, moved_to, made_by, opening_world, with_callers}
 use Rattle.vm_model.specs.Carried.{held, flushed}
-use Rattle.vm_model.specs.LegalHistory.{Meets, IsNext, IsNextOf, after_event_of, IsRun, IsReached, IsLegalHistory, AllOver, after_event, world_after, callers_world}
-use Rattle.vm_model.specs.Laws.{as_free, uses}
+use Rattle.vm_model.specs.LegalHistory.{Meets, IsNext, IsNextOf, after_event_of, IsRun, IsReached, AllOver, after_event, world_after, callers_world}
+use Rattle.vm_model.specs.Laws.{uses}
 use Rattle.vm_model.proofs.OneNext.{one_next}
-use Rattle.map_laws.proofs.Lists.{same_or, set_same, set_cases, append_cases}
+use Rattle.map_laws.proofs.Lists.{set_cases}
 use Rattle.map_laws.proofs.Chosen.{sum_has}
-use Rattle.map_laws.proofs.Frames.{IsOwn, IsFramed, IsStep, IsOpening, IsLasting, framed_opening, framed_callers, framed_step, opening_step, not_over, has_call}
+use Rattle.map_laws.proofs.Frames.{IsFramed, IsStep, IsOpening, IsLasting, framed_opening, framed_callers, framed_step, opening_step, not_over, has_call}
 use Rattle.map_laws.proofs.Places.{IsProper, OnNext, HaveBeginnings, begins_with, answers_call, moved_setup}
 use Rattle.map_laws.proofs.Touched.{touch, IsSame, untouched}
-use Rattle.map_laws.proofs.AreaFacts.{IsHolding, IsMapFine, own_uses, next_uses, IsClaimed, holding_stays, holds_nothing, nothing_claimed, IsUnbearing, is_bearing}
+use Rattle.map_laws.proofs.AreaFacts.{IsHolding, IsMapFine, own_uses, next_uses, IsClaimed, holding_stays, holds_nothing, nothing_claimed, IsUnbearing}
 use Rattle.map_laws.proofs.PlaceMoves.{IsMoved}
 use Rattle.map_laws.proofs.OutMoves.{sum_two}
 use Rattle.map_laws.proofs.AreaMoves.{IsOutside, moved_by}

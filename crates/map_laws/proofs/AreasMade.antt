@@ -1,24 +1,21 @@
 -- How live areas were made: where they start, and that a plain one has pages.
-use Rattle.std.proofs.Common.{◌≡◌, ◌≢◌, ℕ, zero, suc, ◌+◌, ◌%◌, ◌<◌, ◌≤◌, ◌⊎◌, inl, inr, Bool, true, false, not, ◌==◌, List, [], ◌∷◌, ◌++◌, length, map, filter, slice_get, Option, Some, None, option_map, refl, ap, sym, ◌∙◌, subst, arith}
+use Rattle.std.proofs.Common.{◌≡◌, ℕ, zero, suc, ◌+◌, ◌%◌, ◌≤◌, inl, inr, Bool, true, false, not, List, [], ◌∷◌, map, slice_get, Some, refl, ap, sym, ◌∙◌, subst, arith}
 use Rattle.vm_model.specs.declared.areas.Span.{Span}
 use Rattle.vm_model.specs.declared.areas.Area.{Area}
 use Rattle.vm_model.specs.declared.areas.AreaKind.{AreaKind}
 use Rattle.vm_model.specs.declared.areas.AreaKind.TheVariants as kind
-use Rattle.vm_model.specs.declared.calls.Call.{Call}
 use Rattle.vm_model.specs.Space.{span, is_among}
-use Rattle.vm_model.specs.Setup.{Setup, groups_at}
+use Rattle.vm_model.specs.Setup.{Setup}
 use Rattle.vm_model.specs.PlainMap.{PlainMap}
-use Rattle.vm_model.specs.Areas.{is_area, without_area, areas_elsewhere, areas_of, with_areas, group_kinds, group_areas}
+use Rattle.vm_model.specs.Areas.{is_area, areas_of, group_kinds, group_areas}
 use Rattle.vm_model.specs.Events.{Section, ForPages, ForGroups, Settle, Remove, Unlink}
 use Rattle.vm_model.specs.Effects.{effect_as}
 use Rattle.vm_model.specs.Places.{Place, SettlingArea, SettlingBlock, SettlingGroups, Ask, AskNothing, AskRefuse, AskTakePurge, AskGivePurge, AskTakeAlloc, AskGiveAlloc, AskSearch, AskDrop, AskReturn, AskSettle, AskRemove, AskUnlink, AskWait, AskTakeWaiting, AskMap, AskPopulate, AskFill, AskUnmap, AskDepopulate, AskFlush, AskZero, AskAdd, AskSum, AskPlace, AskAddChunk, AskAtomic, AskSettleObject, AskUnplace, AskFree, AskSpare, AskNextPage, AskFilled, AskPart, AskAddBlock, AskSettlePart, AskBegin, AskRetire, AskFragment, AskDirty, ask}
 use Rattle.vm_model.specs.LegalHistory.{Meets}
-use Rattle.vm_model.specs.History.{World, opening_world}
 use Rattle.vm_model.specs.Laws.{IsAligned}
 use Rattle.map_laws.proofs.Chosen.{IsIn, filter_has}
-use Rattle.map_laws.proofs.Places.{IsPlainKind, IsProper, AllStand}
+use Rattle.map_laws.proofs.Places.{IsPlainKind, IsProper}
 use Rattle.map_laws.proofs.OutMoves.{with_in}
-use Rattle.map_laws.proofs.AreaWorlds.{IsLegallyLasting}
 
 abbrev pub is_settle : Section → Bool
 is_settle (Settle areas first) = true

@@ -1,27 +1,16 @@
 -- What the sections that change blocks do to blocks and parts.
-use Rattle.std.proofs.Common.{◌≡◌, ◌≢◌, ℕ, zero, suc, ◌+◌, ◌-◌, ◌<◌, ◌≤◌, ◌⊎◌, inl, inr, Bool, true, false, not, ◌&&◌, ◌||◌, ◌==◌, nat_lt, nat_le, if◌then◌else◌, List, [], ◌∷◌, ◌++◌, length, map, filter, find, slice_get, sum_by, Option, Some, None, is_some, option_map, refl, ap, sym, ◌∙◌, subst, arith}
+use Rattle.std.proofs.Common.{◌≡◌, ◌≢◌, ℕ, ◌+◌, ◌-◌, ◌<◌, ◌≤◌, ◌⊎◌, inl, inr, Bool, true, false, ◌==◌, nat_lt, if◌then◌else◌, List, [], ◌∷◌, map, filter, slice_get, Some, option_map, refl, ap, sym, ◌∙◌, subst, arith}
 use Rattle.std.proofs.lemmas.Bool.Decides.{nat_tests}
-use Rattle.std.proofs.lemmas.List.Sums.{sum_by-cons, sum_by-append}
 use Rattle.std.proofs.lemmas.Option.{slice_get-map}
-use Rattle.vm_model.specs.Space.{one_if, is_among}
 use Rattle.vm_model.specs.Setup.{Setup}
-use Rattle.vm_model.specs.PlainMap.{PlainMap, Block, Part, Life, InHand, Lives, Ended, is_live, is_ended, is_in_hand, lives_as}
-use Rattle.vm_model.specs.Blocks.{PartAt, first_page, rounded, size_of, parts_size, free_of, ended_parts, dirty_of, is_spent, is_fragmented, blocks_of, queue_of, first_with_room, cut_from, part_to_cut, is_named, named_in, named_parts, fragmented, change_block, with_part, with_life, set_life, spends, without_spent}
-use Rattle.vm_model.specs.Legal.{IsUnmapped, IsMapped, IsBare, IsLegalAs}
-use Rattle.vm_model.specs.Events.{Section, CutPart, AddBlock, SettlePart, BeginUnmap, Retire, Fragment}
-use Rattle.vm_model.specs.Effects.{effect_as}
-use Rattle.vm_model.specs.Places.{Place, MappingPart, AddingBlock, UnmappingPart, Retiring, UnlinkingBlock}
-use Rattle.vm_model.specs.Next.{Next, Go, Answer}
-use Rattle.vm_model.specs.Carried.{count_of, starts_out}
-use Rattle.map_laws.proofs.Lists.{same_or, append_cases, append_first}
-use Rattle.map_laws.proofs.Chosen.{IsIn, in_more, find_has, filter_has, filter_in, sum_without, sum_by-filter-le}
-use Rattle.map_laws.proofs.Fits.{and_both}
+use Rattle.vm_model.specs.PlainMap.{PlainMap, Block, Part, Life, InHand, is_ended}
+use Rattle.vm_model.specs.Blocks.{PartAt, rounded, size_of, parts_size, dirty_of, change_block, with_life, set_life}
+use Rattle.vm_model.specs.Legal.{IsUnmapped}
+use Rattle.map_laws.proofs.Lists.{same_or}
+use Rattle.map_laws.proofs.Chosen.{IsIn, sum_without}
 use Rattle.map_laws.proofs.Sizes.{mapped_at}
-use Rattle.map_laws.proofs.Places.{OnNext}
-use Rattle.map_laws.proofs.Powers.{rounded_some, rounded_low}
-use Rattle.map_laws.proofs.GivenMeets.{flat_in, map_in}
-use Rattle.map_laws.proofs.BlockFacts.{OnRow, IsStill, IsBlockArea, AreStacked, IsPartFine, IsBlockFine, IsPartIn, IsOut, IsBlockAt, block_starts, count_cons, count_append, same_test, to_same, among_count, not_among, count_among, block_count, counted_block, same_block, stacked_at, same_part, stacked_covers, size_cons, Stays, block_stays, part_stays}
-use Rattle.map_laws.proofs.BlockMoves.{next_out, IsBlockMoved, part_within, row_of}
+use Rattle.map_laws.proofs.Powers.{rounded_some}
+use Rattle.map_laws.proofs.BlockFacts.{OnRow, AreStacked, IsPartFine, IsBlockFine, IsPartIn, block_starts, to_same, stacked_covers, size_cons, Stays}
 
 -- Changes of one block.
 

@@ -1,21 +1,16 @@
 -- What is kept of blocks and their parts between two events, and of the parts that callers have in hand.
-use Rattle.std.proofs.Common.{◌≡◌, ◌≢◌, ℕ, zero, suc, ◌+◌, ◌-◌, ◌<◌, ◌≤◌, ◌⊎◌, inl, inr, Bool, true, false, not, ◌||◌, ◌==◌, nat_lt, List, [], ◌∷◌, ◌++◌, length, map, filter, slice_get, sum_by, count_by, cond, Option, Some, None, refl, ap, sym, ◌∙◌, subst, arith}
-use Rattle.std.specs.List.{list_any}
+use Rattle.std.proofs.Common.{◌≡◌, ℕ, zero, suc, ◌+◌, ◌<◌, ◌≤◌, ◌⊎◌, inl, inr, Bool, true, false, ◌||◌, ◌==◌, nat_lt, List, [], ◌∷◌, ◌++◌, map, slice_get, cond, Some, refl, ap, ◌∙◌, subst, arith}
 use Rattle.std.proofs.lemmas.Bool.Decides.{nat_tests}
 use Rattle.std.proofs.lemmas.List.Sums.{sum_by-cons, sum_by-append}
-use Rattle.vm_model.specs.declared.areas.Span.{Span}
 use Rattle.vm_model.specs.declared.areas.Area.{Area}
-use Rattle.vm_model.specs.declared.areas.AreaKind.{AreaKind}
 use Rattle.vm_model.specs.declared.areas.AreaKind.TheVariants as kind
-use Rattle.vm_model.specs.Space.{span, holds, is_among, one_if}
+use Rattle.vm_model.specs.Space.{span, is_among, one_if}
 use Rattle.vm_model.specs.Setup.{Setup}
-use Rattle.vm_model.specs.PlainMap.{PlainMap, Block, Part, Life, InHand, Lives, Ended, is_live, is_ended}
+use Rattle.vm_model.specs.PlainMap.{PlainMap, Block, Part, InHand, is_live, is_ended}
 use Rattle.vm_model.specs.Blocks.{PartAt, first_page, rounded, size_of, parts_size}
 use Rattle.vm_model.specs.Legal.{IsUnmapped, IsMapped, IsBare}
 use Rattle.vm_model.specs.Places.{Place, PurgeFragmenting, PurgeUnlinking, UnlinkingBlock, AddingBlock, MappingPart, SettlingPart, UnmappingPart, Retiring}
-use Rattle.vm_model.specs.Next.{Next, Go, Answer}
-use Rattle.vm_model.specs.Carried.{count_of, starts_out}
-use Rattle.map_laws.proofs.Lists.{same_or}
+use Rattle.vm_model.specs.Carried.{count_of}
 use Rattle.map_laws.proofs.Chosen.{IsIn, in_more}
 use Rattle.map_laws.proofs.Powers.{rounded_some}
 

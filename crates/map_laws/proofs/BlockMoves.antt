@@ -1,16 +1,14 @@
 -- What sections do to blocks and parts where they change no block, and where they map or unmap a part.
-use Rattle.std.proofs.Common.{◌≡◌, ◌≢◌, ℕ, zero, suc, ◌+◌, ◌-◌, ◌<◌, ◌≤◌, ◌⊎◌, inl, inr, Bool, true, false, not, ◌||◌, ◌==◌, nat_lt, List, [], ◌∷◌, ◌++◌, length, map, filter, slice_get, sum_by, Option, Some, None, refl, ap, sym, ◌∙◌, subst, arith}
+use Rattle.std.proofs.Common.{◌≡◌, ◌≢◌, ℕ, ◌+◌, ◌<◌, ◌≤◌, ◌⊎◌, inl, inr, Bool, true, false, nat_lt, slice_get, Some, refl, ap, sym, ◌∙◌, subst, arith}
 use Rattle.std.proofs.lemmas.Bool.Decides.{nat_tests}
 use Rattle.vm_model.specs.declared.areas.Span.{Span}
 use Rattle.vm_model.specs.declared.areas.Area.{Area}
-use Rattle.vm_model.specs.declared.areas.AreaKind.{AreaKind}
 use Rattle.vm_model.specs.declared.areas.AreaKind.TheVariants as kind
-use Rattle.vm_model.specs.Space.{span, holds, covers, times, one_if}
+use Rattle.vm_model.specs.Space.{span, holds, times}
 use Rattle.vm_model.specs.Setup.{Setup}
-use Rattle.vm_model.specs.PlainMap.{PlainMap, Block, Part, Life, InHand, Lives, Ended, is_live, is_ended}
+use Rattle.vm_model.specs.PlainMap.{PlainMap, Block, Part, InHand, is_live, is_ended}
 use Rattle.vm_model.specs.Areas.{spans_of}
-use Rattle.vm_model.specs.Blocks.{PartAt, first_page, mapped_pages, rounded, size_of, parts_size}
-use Rattle.vm_model.specs.Legal.{IsUnmapped, IsMapped, IsBare}
+use Rattle.vm_model.specs.Blocks.{PartAt, first_page, rounded, size_of}
 use Rattle.vm_model.specs.Events.{Section}
 use Rattle.vm_model.specs.Effects.{effect_as}
 use Rattle.vm_model.specs.Places.{Place}
@@ -22,7 +20,7 @@ use Rattle.map_laws.proofs.Places.{OnNext}
 use Rattle.map_laws.proofs.Spans.{holds_from}
 use Rattle.map_laws.proofs.OutMoves.{same_area}
 use Rattle.map_laws.proofs.Powers.{rounded_some}
-use Rattle.map_laws.proofs.BlockFacts.{OnRow, IsStill, IsBlockArea, AreStacked, IsPartFine, IsBlockFine, IsPartIn, IsOut, IsBlockAt, block_starts, block_count, same_block, stacked_at, stacked_apart, same_part, size_cons, still_bare, still_mapped, still_unmapped, part_stays, Stays, block_stays}
+use Rattle.map_laws.proofs.BlockFacts.{OnRow, IsStill, IsBlockArea, IsPartFine, IsBlockFine, IsPartIn, IsBlockAt, block_starts, block_count, same_block, stacked_at, stacked_apart, same_part, still_bare, part_stays, Stays, block_stays}
 
 -- how often the place behind a section has a block's start out
 abbrev pub next_out : Setup → Next → ℕ → ℕ

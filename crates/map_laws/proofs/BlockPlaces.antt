@@ -1,43 +1,31 @@
 -- What each section does to blocks and parts at its place, for callers that use no per-CPU object.
-use Rattle.std.proofs.Common.{◌≡◌, ◌≢◌, ℕ, zero, suc, ◌+◌, ◌-◌, ◌<◌, ◌≤◌, ◌⊎◌, inl, inr, Bool, true, false, not, ◌&&◌, ◌||◌, ◌==◌, nat_lt, nat_le, if◌then◌else◌, List, [], ◌∷◌, ◌++◌, length, map, filter, slice_get, sum_by, Option, Some, None, refl, ap, sym, ◌∙◌, subst, arith}
-use Rattle.std.proofs.lemmas.Bool.Decides.{nat_tests}
+use Rattle.std.proofs.Common.{◌≡◌, ℕ, zero, suc, ◌+◌, ◌<◌, ◌≤◌, ◌⊎◌, inl, inr, Bool, true, false, not, ◌==◌, nat_lt, if◌then◌else◌, List, [], ◌∷◌, slice_get, Option, Some, None, refl, ap, sym, ◌∙◌, subst, arith}
 use Rattle.vm_model.specs.declared.areas.Span.{Span}
 use Rattle.vm_model.specs.declared.areas.Area.{Area}
 use Rattle.vm_model.specs.declared.areas.AreaKind.{AreaKind}
 use Rattle.vm_model.specs.declared.areas.AreaKind.TheVariants as kind
-use Rattle.vm_model.specs.declared.calls.Reply.{Reply}
 use Rattle.vm_model.specs.declared.calls.Reply.TheVariants as reply
-use Rattle.vm_model.specs.Space.{span, holds, covers, is_among, one_if, times, pages_of, put_by, paint}
-use Rattle.vm_model.specs.Setup.{Setup, cpus}
-use Rattle.vm_model.specs.PlainMap.{PlainMap, Block, Part, Held, Live}
-use Rattle.vm_model.specs.Areas.{spans_of, is_area, named_areas, without_area, areas_elsewhere, areas_of, with_areas, mapped_part}
-use Rattle.vm_model.specs.Frames.{free_frames, give_frames}
-use Rattle.vm_model.specs.Blocks.{PartAt, first_page, mapped_pages, rounded, size_of, parts_size}
-use Rattle.vm_model.specs.Legal.{IsUnmapped, IsMapped, IsBare, IsLegalAs, IsMarked}
-use Rattle.vm_model.specs.Events.{Section, Search, ForPages, ForGroups, Refuse, TakePurge, GivePurge, Carve, NoHole, Drop, Return, Settle, Remove, AreaNotLive, Unlink, Wait, TakeWaiting, MapPages, NoFrames, Unmap, Flush, CutPart, NoPart, AddBlock, SettlePart, BeginUnmap, PartNotLive, Retire, Fragment, Dirty}
+use Rattle.vm_model.specs.Space.{span, holds, is_among, one_if, put_by}
+use Rattle.vm_model.specs.Setup.{Setup}
+use Rattle.vm_model.specs.PlainMap.{PlainMap, Block, Held}
+use Rattle.vm_model.specs.Areas.{is_area, named_areas, areas_of, with_areas}
+use Rattle.vm_model.specs.Blocks.{PartAt}
+use Rattle.vm_model.specs.Legal.{IsLegalAs, IsMarked}
+use Rattle.vm_model.specs.Events.{Section, Search, ForPages, ForGroups, Settle, Remove, Unlink}
 use Rattle.vm_model.specs.Effects.{effect_as}
-use Rattle.vm_model.specs.Told.{carved, carved_base, had_frames, removed, pages_waiting, spans_taken}
-use Rattle.vm_model.specs.Places.{Place, Over, Refusing, Finding, FindingAgain, MappingArea, Dropping, SettlingArea, Removing, UnmappingArea, Waiting, PurgeTaking, PurgeFragmenting, PurgeUnlinking, PurgeWaiting, PurgeCollecting, PurgeFlushing, PurgeReturning, PurgeGiving, CuttingPart, SettlingBlock, AddingBlock, MappingPart, SettlingPart, BeginningUnmap, UnmappingPart, Retiring, UnlinkingBlock, LookingAtDirty, AddingChunk, Depopulating, UnlinkingGroups, Made, MadeNothing, Aim, ForArea, ForBlock, ForChunk, Then, SearchAgain, ReplyWith, SpareAgain, Ask, ask}
-use Rattle.vm_model.specs.Next.{Next, Go, Answer, next, found, without_space, after_remove, go_on, after_collecting, after_flush, after_fragments}
-use Rattle.vm_model.specs.Given.{given}
-use Rattle.vm_model.specs.Carried.{held, count_of, starts_out}
-use Rattle.vm_model.specs.LegalHistory.{Meets}
+use Rattle.vm_model.specs.Places.{Place, PurgeFragmenting, PurgeUnlinking, SettlingBlock, AddingBlock, MappingPart, SettlingPart, UnmappingPart, Retiring, UnlinkingBlock, AddingChunk, Depopulating, UnlinkingGroups, MadeNothing, Aim, ForArea, ForBlock, ForChunk, Then, SearchAgain, ReplyWith, SpareAgain}
+use Rattle.vm_model.specs.Next.{Next, Go, Answer, next, found, without_space, after_remove, go_on, after_collecting, after_flush}
+use Rattle.vm_model.specs.Carried.{count_of, starts_out}
 use Rattle.vm_model.specs.Rules.{IsPower}
-use Rattle.map_laws.proofs.Lists.{same_or}
-use Rattle.map_laws.proofs.Chosen.{IsIn, in_more, filter_in, filter_has}
-use Rattle.map_laws.proofs.Places.{OnNext, IsPlainKind, IsProper, either_next}
-use Rattle.map_laws.proofs.Powers.{rounded_high}
+use Rattle.map_laws.proofs.Chosen.{IsIn, in_more, filter_in}
+use Rattle.map_laws.proofs.Places.{OnNext, IsPlainKind}
 use Rattle.map_laws.proofs.Spans.{times-one, covers_one, holds_to, holds_from}
-use Rattle.map_laws.proofs.Touched.{painted, unpainted, painted_still, ungiven, outside_row}
-use Rattle.map_laws.proofs.AreaFacts.{IsHolding, IsMapFine, own_uses, mapped_within}
+use Rattle.map_laws.proofs.AreaFacts.{IsHolding, IsMapFine, own_uses}
 use Rattle.map_laws.proofs.MapMoves.{area_times}
-use Rattle.map_laws.proofs.PlaceMoves.{given_all, held_in_row}
-use Rattle.map_laws.proofs.MapPlaces.{IsMapPlace, IsMapSearch, IsMapThen}
-use Rattle.map_laws.proofs.BlockFacts.{OnRow, IsStill, IsBlockArea, IsBlockFine, IsPartIn, IsOut, IsBlockAt, block_starts, count_cons, not_among, counted_block, to_same}
-use Rattle.map_laws.proofs.BlockMoves.{next_out, IsBlockMoved, outer_moved, inner_moved, area_start, area_holds}
+use Rattle.map_laws.proofs.MapPlaces.{IsMapSearch}
+use Rattle.map_laws.proofs.BlockFacts.{IsStill, IsBlockArea, IsBlockFine, IsPartIn, IsBlockAt, block_starts, count_cons, not_among, counted_block, to_same}
+use Rattle.map_laws.proofs.BlockMoves.{next_out, IsBlockMoved, outer_moved, area_holds}
 use Rattle.map_laws.proofs.BlockChanges.{in_of}
-use Rattle.map_laws.proofs.PartMoves.{cut_moved, add_moved, settle_part_moved, retire_moved}
-use Rattle.map_laws.proofs.FragmentMoves.{begin_moved, fragment_moved, to_next, to_unlink}
 
 -- places of which nothing is said as to blocks
 abbrev pub is_blocky : Place → Bool

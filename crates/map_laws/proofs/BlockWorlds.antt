@@ -1,38 +1,31 @@
 -- What is kept of blocks is kept by each legal section, and gives what areas need of blocks.
-use Rattle.std.proofs.Common.{◌≡◌, ◌≢◌, ℕ, zero, suc, ◌+◌, ◌-◌, ◌<◌, ◌≤◌, ◌⊎◌, inl, inr, Bool, true, false, not, ◌||◌, ◌==◌, List, [], ◌∷◌, ◌++◌, length, map, filter, slice_get, slice_set, sum_by, Option, Some, None, refl, ap, sym, ◌∙◌, subst, arith, get_or}
-use Rattle.std.specs.List.{list_any}
-use Rattle.std.proofs.lemmas.Bool.Decides.{nat_tests}
-use Rattle.std.proofs.lemmas.List.Sums.{sum_by-set, sum_by-cons, sum_by-append}
+use Rattle.std.proofs.Common.{◌≡◌, ◌≢◌, ℕ, zero, suc, ◌+◌, ◌-◌, ◌<◌, ◌≤◌, inl, inr, Bool, true, false, ◌||◌, ◌==◌, List, [], ◌∷◌, length, slice_get, slice_set, sum_by, Some, refl, ap, sym, ◌∙◌, subst, arith}
+use Rattle.std.proofs.lemmas.List.Sums.{sum_by-set, sum_by-cons}
 use Rattle.std.proofs.lemmas.Option.{slice_get_within, get_or_from_slice_get}
-use Rattle.vm_model.specs.declared.areas.Span.{Span}
 use Rattle.vm_model.specs.declared.areas.Area.{Area}
-use Rattle.vm_model.specs.declared.areas.AreaKind.{AreaKind}
 use Rattle.vm_model.specs.declared.areas.AreaKind.TheVariants as kind
-use Rattle.vm_model.specs.declared.calls.Call.{Call}
 use Rattle.vm_model.specs.declared.calls.Reply.{Reply}
 use Rattle.vm_model.specs.Space.{span, holds, covers, is_among, one_if, times}
 use Rattle.vm_model.specs.Setup.{Setup}
-use Rattle.vm_model.specs.PlainMap.{PlainMap, Block, Part}
+use Rattle.vm_model.specs.PlainMap.{PlainMap, Block}
 use Rattle.vm_model.specs.Areas.{spans_of, areas_starting}
-use Rattle.vm_model.specs.Blocks.{PartAt, first_page, mapped_pages, rounded, size_of}
-use Rattle.vm_model.specs.Legal.{IsUnmapped, IsLegalAs}
-use Rattle.vm_model.specs.Events.{Section, Event, ForPages, ForGroups}
+use Rattle.vm_model.specs.Blocks.{PartAt, first_page, mapped_pages, rounded}
+use Rattle.vm_model.specs.Events.{Section, Event, ForPages}
 use Rattle.vm_model.specs.Effects.{effect_as}
-use Rattle.vm_model.specs.Places.{Place, Over, Refusing, Finding, FindingAgain, MappingArea, Dropping, SettlingArea, Removing, UnmappingArea, Waiting, PurgeTaking, PurgeFragmenting, PurgeUnlinking, PurgeWaiting, PurgeCollecting, PurgeFlushing, PurgeReturning, PurgeGiving, CuttingPart, SettlingBlock, AddingBlock, MappingPart, SettlingPart, BeginningUnmap, UnmappingPart, Retiring, UnlinkingBlock, LookingAtDirty, Made, ForArea, ForBlock, block_spans, ask}
+use Rattle.vm_model.specs.Places.{Place, Over, Refusing, Finding, FindingAgain, MappingArea, Dropping, SettlingArea, Removing, UnmappingArea, Waiting, PurgeTaking, PurgeFragmenting, PurgeUnlinking, PurgeWaiting, PurgeCollecting, PurgeFlushing, PurgeReturning, PurgeGiving, CuttingPart, SettlingBlock, AddingBlock, MappingPart, SettlingPart, BeginningUnmap, UnmappingPart, Retiring, UnlinkingBlock, LookingAtDirty, Made, block_spans}
 use Rattle.vm_model.specs.Next.{Next, Go, Answer, next}
-use Rattle.vm_model.specs.Calls.{Answered, begin}
-use Rattle.vm_model.specs.History.{World, Local, started, answered, moved_to, made_by, opening_world, opening_answers, callers_from, with_callers}
+use Rattle.vm_model.specs.History.{World, Local, moved_to}
 use Rattle.vm_model.specs.Carried.{count_of, starts_out}
-use Rattle.map_laws.proofs.Lists.{same_or, set_cases, append_cases}
-use Rattle.map_laws.proofs.Chosen.{IsIn, in_more, filter_in, sum_has}
-use Rattle.map_laws.proofs.Places.{OnNext, IsPlainKind, HaveBeginnings, begins_with, answers_call, moved_setup}
-use Rattle.map_laws.proofs.Spans.{times-cons, covers_one, holds_to, holds_from, covers_none, in_spans, InSpans, Inside, Outside}
+use Rattle.map_laws.proofs.Lists.{set_cases}
+use Rattle.map_laws.proofs.Chosen.{IsIn, filter_in, sum_has}
+use Rattle.map_laws.proofs.Places.{OnNext, IsPlainKind, HaveBeginnings, begins_with, answers_call}
+use Rattle.map_laws.proofs.Spans.{times-cons, covers_one, holds_to, in_spans, InSpans, Inside, Outside}
 use Rattle.map_laws.proofs.MapMoves.{area_times}
 use Rattle.map_laws.proofs.OutMoves.{IsInside, IsUnlinked, sum_two}
 use Rattle.map_laws.proofs.AreaMoves.{IsOutside}
 use Rattle.map_laws.proofs.AreaWorlds.{moved_caller}
 use Rattle.map_laws.proofs.MapPlaces.{IsMapPlace}
-use Rattle.map_laws.proofs.BlockFacts.{OnRow, IsStill, IsBlockArea, IsBlockFine, IsPartIn, IsOut, IsBlockAt, block_starts, count_cons, among_count, count_among, not_among, same_test, to_same, still_bare, still_mapped, still_unmapped, Stays, out_stays}
+use Rattle.map_laws.proofs.BlockFacts.{OnRow, IsStill, IsBlockArea, IsBlockFine, IsPartIn, IsOut, IsBlockAt, block_starts, count_cons, among_count, count_among, same_test, to_same, still_bare, still_mapped, still_unmapped, Stays, out_stays}
 use Rattle.map_laws.proofs.BlockMoves.{next_out, IsBlockMoved, part_within, row_of, same_start, area_holds, area_start}
 use Rattle.map_laws.proofs.BlockPlaces.{IsUnblocky, unblocky_at, unblocky_out}
 use Rattle.map_laws.proofs.BlockDispatch.{IsRemovedPlain}

@@ -1,13 +1,12 @@
 -- What chunks are worth to a balance: each section but that of a new chunk leaves them worth no more.
-use Rattle.std.proofs.Common.{◌≡◌, ℕ, zero, suc, ◌+◌, ◌*◌, ◌-◌, ◌<◌, ◌≤◌, Bool, true, false, not, cond, ◌&&◌, ◌==◌, if◌then◌else◌, List, [], ◌∷◌, ◌++◌, length, map, filter, slice_get, replicate, sum_by, Some, None, refl, ap, sym, ◌∙◌, subst, arith}
+use Rattle.std.proofs.Common.{◌≡◌, ℕ, zero, suc, ◌+◌, ◌*◌, ◌≤◌, Bool, true, false, not, cond, ◌&&◌, ◌==◌, if◌then◌else◌, List, [], ◌∷◌, ◌++◌, filter, slice_get, replicate, sum_by, refl, ap, arith}
 use Rattle.std.proofs.lemmas.List.Sums.{sum_by-cons, sum_by-append}
-use Rattle.vm_model.specs.Space.{one_if, is_open, is_among, paint_from, paint}
+use Rattle.vm_model.specs.Space.{one_if, is_open, paint_from}
 use Rattle.vm_model.specs.Setup.{Setup, cpus}
 use Rattle.vm_model.specs.PlainMap.{PlainMap, Chunk, Lives}
 use Rattle.vm_model.specs.Chunks.{ObjectAt, new_chunk, change_chunk, with_object, without_object, with_live_object, with_page}
 use Rattle.vm_model.specs.Events.{Section, AddChunk, PlaceObject, PlaceAtomic, SettleObject, Unplace, FreeObject, Spare, Filled}
 use Rattle.vm_model.specs.Effects.{effect_as}
-use Rattle.map_laws.proofs.Chosen.{sum_by-filter-le}
 
 -- how many pages of a chunk aren't populated
 abbrev pub holes_in : List Bool → ℕ

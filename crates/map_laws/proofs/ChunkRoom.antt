@@ -1,14 +1,14 @@
 -- A new chunk has room for each object, and the page that a balance fills is unpopulated.
-use Rattle.std.proofs.Common.{◌≡◌, ℕ, zero, suc, ◌+◌, ◌*◌, ◌/◌, ◌%◌, ◌<◌, ◌≤◌, Bool, true, false, not, cond, ◌&&◌, ◌==◌, nat_le, if◌then◌else◌, List, [], ◌∷◌, ◌++◌, length, map, filter, find, slice_get, slice_index_or, replicate, Option, Some, None, is_some, option_map, option_and_then, refl, ap, sym, ◌∙◌, subst, arith, length-append}
+use Rattle.std.proofs.Common.{◌≡◌, ℕ, zero, suc, ◌*◌, ◌/◌, ◌%◌, ◌<◌, ◌≤◌, Bool, true, false, not, cond, ◌&&◌, ◌==◌, nat_le, if◌then◌else◌, List, [], ◌∷◌, ◌++◌, length, map, filter, find, slice_get, slice_index_or, Option, Some, None, is_some, option_map, option_and_then, refl, ap, sym, ◌∙◌, subst, arith}
 use Rattle.std.proofs.lemmas.Bool.Decides.{nat_tests}
-use Rattle.std.proofs.lemmas.Option.{get_or_from_slice_get, slice_get_within}
+use Rattle.std.proofs.lemmas.Option.{get_or_from_slice_get}
 use Rattle.vm_model.specs.Space.{count_from, covers, begins_free, fits, lowest, least_by}
 use Rattle.vm_model.specs.Setup.{Setup, unit_bits}
-use Rattle.vm_model.specs.PlainMap.{PlainMap, Chunk}
-use Rattle.vm_model.specs.Chunks.{ObjectAt, new_chunk, plain_fit, placement, placed_at, placed_in, chosen, slot, bit_list, object_bits, is_populated, unpopulated_pages, page_in, unpopulated_page, page_to_fill, empty_count}
-use Rattle.vm_model.proofs.Search.{the_lowest_fits, length-count_from}
+use Rattle.vm_model.specs.PlainMap.{Chunk}
+use Rattle.vm_model.specs.Chunks.{ObjectAt, new_chunk, plain_fit, placement, placed_at, placed_in, slot, is_populated, unpopulated_pages, page_in, page_to_fill, empty_count}
+use Rattle.vm_model.proofs.Search.{the_lowest_fits}
 use Rattle.map_laws.proofs.Lists.{there}
-use Rattle.map_laws.proofs.Chosen.{IsIn, IsKept, filter_has, filter_in, least_in, least_some, count_from-below}
+use Rattle.map_laws.proofs.Chosen.{IsIn, filter_has, filter_in, least_in, least_some, count_from-below}
 
 -- bits of which none is taken
 none_taken : (n first k : ℕ) → k ≤ n → begins_free k (map (covers []) (count_from n first)) ≡ true

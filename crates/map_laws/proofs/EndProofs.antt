@@ -1,29 +1,26 @@
 -- Every run ends, and more fuel changes nothing.
-use Rattle.std.proofs.Common.{◌≡◌, ◌≢◌, ℕ, zero, suc, ◌+◌, ◌*◌, ◌-◌, ◌<◌, ◌≤◌, ◌⊎◌, inl, inr, Bool, true, false, cond, List, [], ◌∷◌, ◌++◌, length, find, slice_get, slice_set, sum_by, Option, Some, None, is_some, refl, ap, sym, ◌∙◌, subst, arith, length-append}
+use Rattle.std.proofs.Common.{◌≡◌, ◌≢◌, ℕ, zero, suc, ◌+◌, ◌*◌, ◌-◌, ◌<◌, ◌≤◌, ◌⊎◌, inl, inr, Bool, true, false, cond, List, [], ◌∷◌, length, find, slice_get, sum_by, Option, Some, None, is_some, refl, ap, sym, ◌∙◌, subst, arith, length-append}
 use Rattle.std.proofs.lemmas.List.Sums.{sum_by-cons, sum_by-append}
 use Rattle.std.proofs.lemmas.Option.{slice_get_within}
 use Rattle.std.proofs.Math.Nat.{mul-suc}
 use Rattle.vm_model.specs.declared.calls.Call.{Call}
 use Rattle.vm_model.specs.Space.{count_from}
-use Rattle.vm_model.specs.Setup.{Setup, cpus}
-use Rattle.vm_model.specs.PlainMap.{PlainMap, Chunk}
+use Rattle.vm_model.specs.Setup.{Setup}
 use Rattle.vm_model.specs.Events.{Section}
 use Rattle.vm_model.specs.Places.{Ask, AskNothing, ask}
 use Rattle.vm_model.specs.Calls.{Answered, begin}
-use Rattle.vm_model.specs.Given.{given, can_move}
-use Rattle.vm_model.specs.History.{World, Local, started, made_by, made_if, step, step_of, section_of, moves_in, first_mover, finish, most_events, opening_world, opening_answers, callers_from, with_callers}
+use Rattle.vm_model.specs.Given.{given}
+use Rattle.vm_model.specs.History.{World, Local, started, made_by, made_if, step, step_of, moves_in, first_mover, finish, most_events, opening_world, opening_answers, callers_from, with_callers}
 use Rattle.vm_model.specs.LegalHistory.{AllOver, IsReached}
 use Rattle.vm_model.specs.Rules.{IsTrace}
 use Rattle.vm_model.specs.Laws.{MoreFuelChangesNothing}
 use Rattle.vm_model.proofs.OneNext.{gives}
 use Rattle.map_laws.specs.Ends.{EveryRunEnds, HistoriesAreShort}
 use Rattle.map_laws.proofs.Lists.{append_first}
-use Rattle.map_laws.proofs.Chosen.{IsIn}
 use Rattle.map_laws.proofs.Frames.{IsFramed, IsStep, IsOpening, IsKeptBySteps, framed_opening, framed_callers, framed_step, opening_step, reached_have}
 use Rattle.map_laws.proofs.Places.{begins_with}
 use Rattle.map_laws.proofs.TurnProofs.{AreTurnsProper, turns_first, turns_last, some_moves}
 use Rattle.map_laws.proofs.Chosen.{find_has}
-use Rattle.map_laws.proofs.ChunkFalls.{worth_of}
 use Rattle.map_laws.proofs.Left.{left, per_call}
 use Rattle.map_laws.proofs.Sizes.{AreSized, sized_section}
 use Rattle.map_laws.proofs.Potential.{weight, credit_at, credit_of, potential, left_begins, potential_falls, past_end, no_rest, one_rest}

@@ -1,34 +1,25 @@
 -- What the sections that take up a part again, or take out fragmented blocks, do to blocks and parts.
-use Rattle.std.proofs.Common.{◌≡◌, ◌≢◌, ℕ, zero, suc, ◌+◌, ◌-◌, ◌<◌, ◌≤◌, ◌⊎◌, inl, inr, Bool, true, false, not, ◌&&◌, ◌||◌, ◌==◌, nat_lt, nat_le, if◌then◌else◌, List, [], ◌∷◌, ◌++◌, length, map, filter, find, slice_get, sum_by, Option, Some, None, is_some, option_map, refl, ap, sym, ◌∙◌, subst, arith}
-use Rattle.std.proofs.lemmas.Bool.Decides.{nat_tests}
-use Rattle.std.proofs.lemmas.List.Sums.{sum_by-cons, sum_by-append}
-use Rattle.std.proofs.lemmas.Option.{slice_get-map}
+use Rattle.std.proofs.Common.{◌≡◌, ℕ, zero, suc, ◌+◌, ◌≤◌, Bool, true, false, not, ◌&&◌, ◌==◌, nat_lt, List, [], ◌∷◌, ◌++◌, filter, slice_get, Option, refl, ap, sym, ◌∙◌, subst, arith}
 use Rattle.vm_model.specs.Space.{one_if, is_among}
 use Rattle.vm_model.specs.Setup.{Setup}
-use Rattle.vm_model.specs.PlainMap.{PlainMap, Block, Part, Life, InHand, Lives, Ended, is_live, is_ended, is_in_hand, lives_as}
-use Rattle.vm_model.specs.Blocks.{PartAt, first_page, rounded, size_of, parts_size, free_of, ended_parts, dirty_of, is_spent, is_fragmented, blocks_of, queue_of, first_with_room, cut_from, part_to_cut, is_named, named_in, named_parts, fragmented, change_block, with_part, with_life, set_life, spends, without_spent}
-use Rattle.vm_model.specs.Legal.{IsUnmapped, IsMapped, IsBare, IsLegalAs}
-use Rattle.vm_model.specs.Events.{Section, Settle, CutPart, AddBlock, SettlePart, BeginUnmap, Retire, Fragment}
+use Rattle.vm_model.specs.PlainMap.{PlainMap, Block, Part, Life, InHand, Lives, Ended, is_live, lives_as}
+use Rattle.vm_model.specs.Blocks.{PartAt, first_page, parts_size, free_of, dirty_of, is_fragmented, blocks_of, queue_of, is_named, named_in, fragmented, with_life}
+use Rattle.vm_model.specs.Legal.{IsLegalAs}
+use Rattle.vm_model.specs.Events.{BeginUnmap, Fragment}
 use Rattle.vm_model.specs.Effects.{effect_as}
-use Rattle.vm_model.specs.Places.{Place, CuttingPart, SettlingPart, BeginningUnmap, PurgeFragmenting, MappingPart, AddingBlock, UnmappingPart, Retiring, UnlinkingBlock}
-use Rattle.vm_model.specs.declared.calls.Reply.{Reply}
-use Rattle.vm_model.specs.Places.{Made, MadeNothing}
-use Rattle.vm_model.specs.Next.{Next, Go, Answer, after_fragments}
-use Rattle.vm_model.specs.Places.{Then, PurgeUnlinking, PurgeCollecting}
+use Rattle.vm_model.specs.Places.{BeginningUnmap, PurgeFragmenting, UnmappingPart}
+use Rattle.vm_model.specs.Next.{Next, Go, after_fragments}
+use Rattle.vm_model.specs.Places.{Then}
 use Rattle.vm_model.specs.declared.areas.Span.{Span}
 use Rattle.map_laws.proofs.PartMoves.{sum_starts_of}
-use Rattle.std.specs.List.{list_any}
-use Rattle.vm_model.specs.Carried.{count_of, starts_out}
-use Rattle.map_laws.proofs.Lists.{same_or, append_cases, append_first}
-use Rattle.map_laws.proofs.Chosen.{IsIn, in_more, find_has, filter_has, filter_in, sum_without, sum_by-filter-le}
+use Rattle.vm_model.specs.Carried.{count_of}
+use Rattle.map_laws.proofs.Chosen.{IsIn, filter_has, filter_in, sum_without, sum_by-filter-le}
 use Rattle.map_laws.proofs.Fits.{and_both}
-use Rattle.map_laws.proofs.Sizes.{mapped_at}
 use Rattle.map_laws.proofs.Places.{OnNext}
-use Rattle.map_laws.proofs.Powers.{rounded_some, rounded_low}
 use Rattle.map_laws.proofs.GivenMeets.{flat_in, map_in}
-use Rattle.map_laws.proofs.BlockFacts.{OnRow, IsStill, IsBlockArea, AreStacked, IsPartFine, IsBlockFine, IsPartIn, IsOut, IsBlockAt, block_starts, count_cons, count_append, same_test, to_same, among_count, not_among, count_among, block_count, counted_block, same_block, stacked_at, same_part, stacked_covers, size_cons, Stays, block_stays, part_stays}
-use Rattle.map_laws.proofs.BlockChanges.{in_of, changed_is, changed_in, unchanged_in, changed_starts, blocks_only, lived_blocks, lived_hand, own_lived, all_ended, ended_unmapped, hand_not_ended}
-use Rattle.map_laws.proofs.BlockMoves.{next_out, IsBlockMoved, part_within, row_of}
+use Rattle.map_laws.proofs.BlockFacts.{IsPartFine, IsBlockFine, IsPartIn, IsOut, IsBlockAt, block_starts, count_append, same_test, to_same, among_count, count_among, counted_block, same_block, same_part, block_stays}
+use Rattle.map_laws.proofs.BlockChanges.{changed_starts, blocks_only, lived_blocks, lived_hand, own_lived, ended_unmapped, hand_not_ended}
+use Rattle.map_laws.proofs.BlockMoves.{next_out, IsBlockMoved}
 
 none_counted : (start : ℕ) (xs : List ℕ) → is_among xs start ≡ false → count_of start xs ≡ 0
 none_counted start xs e = zero_or (count_of start xs) refl

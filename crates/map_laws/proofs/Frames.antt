@@ -1,11 +1,11 @@
 -- What every caller has beside its place, and how a fact is carried from the first world to each reached one.
-use Rattle.std.proofs.Common.{◌≡◌, ◌≢◌, ℕ, zero, suc, ◌+◌, ◌<◌, ◌⊎◌, inl, inr, List, [], ◌∷◌, ◌++◌, length, slice_get, slice_set, Option, Some, None, refl, ap, sym, ◌∙◌, subst, arith, length-append, length-set}
+use Rattle.std.proofs.Common.{◌≡◌, ◌≢◌, ℕ, zero, suc, ◌+◌, ◌<◌, ◌⊎◌, inl, inr, List, [], ◌∷◌, ◌++◌, length, slice_get, Option, Some, None, refl, ap, sym, ◌∙◌, subst, arith, length-append, length-set}
 use Rattle.std.proofs.lemmas.Option.{slice_get_within}
 use Rattle.vm_model.specs.declared.calls.Call.{Call}
 use Rattle.vm_model.specs.Setup.{Setup}
 use Rattle.vm_model.specs.PlainMap.{PlainMap}
 use Rattle.vm_model.specs.Events.{Section, Event}
-use Rattle.vm_model.specs.Places.{Place, Over, Ask, ask}
+use Rattle.vm_model.specs.Places.{Place, Over, ask}
 use Rattle.vm_model.specs.Next.{Next, Go, Answer, next}
 use Rattle.vm_model.specs.Calls.{Answered, begin}
 use Rattle.vm_model.specs.Given.{given}

@@ -1,18 +1,18 @@
 -- The section that the map gives to an ask meets it.
-use Rattle.std.proofs.Common.{◌≡◌, ℕ, suc, ◌+◌, ◌≤◌, ◌⊎◌, inl, inr, Bool, true, false, ◌&&◌, ◌==◌, nat_lt, nat_le, if◌then◌else◌, List, [], ◌∷◌, ◌++◌, length, map, filter, find, flat_map, slice_get, Option, Some, None, is_some, option_map, option_and_then, refl, ap, sym, ◌∙◌, subst, arith, cond}
+use Rattle.std.proofs.Common.{◌≡◌, ℕ, ◌+◌, ◌⊎◌, inl, inr, Bool, true, false, ◌&&◌, ◌==◌, nat_lt, nat_le, if◌then◌else◌, List, [], ◌∷◌, ◌++◌, length, map, filter, flat_map, slice_get, Option, Some, None, option_map, option_and_then, refl, ap, sym, ◌∙◌, arith}
 use Rattle.std.proofs.lemmas.Bool.Decides.{nat_tests}
 use Rattle.std.proofs.lemmas.Option.{slice_get-map}
 use Rattle.vm_model.specs.declared.areas.Area.{Area}
-use Rattle.vm_model.specs.Space.{span, lowest}
+use Rattle.vm_model.specs.Space.{lowest}
 use Rattle.vm_model.specs.Setup.{Setup, highest, pages_in_units}
 use Rattle.vm_model.specs.PlainMap.{PlainMap, Chunk, Block, Part, taken}
 use Rattle.vm_model.specs.Areas.{named_areas}
 use Rattle.vm_model.specs.Frames.{free_frames}
 use Rattle.vm_model.specs.Blocks.{PartAt, first_page, blocks_of, queue_of, free_of, rounded, first_with_room, cut_from, part_to_cut, is_named, named_in, named_parts}
 use Rattle.vm_model.specs.Chunks.{ObjectAt, plain_fit, atomic_fit, placement, placed_at, placed_in, chosen, new_chunk, spare_chunk, page_to_fill, is_live_object}
-use Rattle.vm_model.specs.Events.{Section, Search, ForPages, ForGroups, NoHole, Carve, CarveGroups, Remove, AreaNotLive, MapPages, Populate, Fill, NoFrames, PlaceObject, NoPlace, AddChunk, PlaceAtomic, NoAtomic, FreeObject, ObjectNotLive, Spare, NoSpare, NextPage, Enough, CutPart, NoPart, BeginUnmap, PartNotLive}
+use Rattle.vm_model.specs.Events.{Section, Search, ForPages, ForGroups, MapPages, Populate, Fill, NoFrames}
 use Rattle.vm_model.specs.Places.{Ask, AskNothing, AskRefuse, AskTakePurge, AskGivePurge, AskTakeAlloc, AskGiveAlloc, AskSearch, AskDrop, AskReturn, AskSettle, AskRemove, AskUnlink, AskWait, AskTakeWaiting, AskMap, AskPopulate, AskFill, AskUnmap, AskDepopulate, AskFlush, AskZero, AskAdd, AskSum, AskPlace, AskAddChunk, AskAtomic, AskSettleObject, AskUnplace, AskFree, AskSpare, AskNextPage, AskFilled, AskPart, AskAddBlock, AskSettlePart, AskBegin, AskRetire, AskFragment, AskDirty}
-use Rattle.vm_model.specs.Given.{given, carving, carving_groups, removal, with_frames, placing, placing_new, placing_atomic, freeing, sparing, filling, cutting, beginning}
+use Rattle.vm_model.specs.Given.{given, carving, carving_groups, removal, placing, placing_new, placing_atomic, freeing, sparing, filling, cutting, beginning}
 use Rattle.vm_model.specs.LegalHistory.{Meets}
 use Rattle.map_laws.proofs.Lists.{append_cases}
 use Rattle.map_laws.proofs.Chosen.{IsIn, in_more, filter_has, find_has}

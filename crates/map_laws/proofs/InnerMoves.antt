@@ -1,38 +1,27 @@
 -- What the sections that take areas out, and those inside blocks and chunks, do to the pages that their caller holds, and to the map.
-use Rattle.std.proofs.Common.{◌≡◌, ◌≢◌, ℕ, zero, suc, ◌+◌, ◌-◌, ◌<◌, ◌≤◌, ◌⊎◌, inl, inr, Bool, true, false, not, ◌&&◌, ◌||◌, ◌==◌, ◌%◌, nat_lt, nat_le, cond, if◌then◌else◌, List, [], ◌∷◌, ◌++◌, length, map, filter, slice_get, slice_set, sum_by, Option, Some, None, option_to_list, option_map, refl, ap, sym, ◌∙◌, subst, arith, drop, find, length-set}
-use Rattle.std.proofs.lemmas.Bool.Decides.{nat_tests}
+use Rattle.std.proofs.Common.{◌≡◌, ℕ, ◌≤◌, Bool, true, false, not, List, [], ◌∷◌, length, filter, slice_get, Option, Some, refl, ap, sym, ◌∙◌, subst, arith}
 use Rattle.vm_model.specs.declared.areas.Span.{Span}
 use Rattle.vm_model.specs.declared.areas.Area.{Area}
-use Rattle.vm_model.specs.declared.areas.AreaKind.{AreaKind}
-use Rattle.vm_model.specs.declared.areas.AreaKind.TheVariants as kind
-use Rattle.vm_model.specs.Space.{put_by, span, holds, covers, is_among, one_if, times, paint, pages_of, count_from, lowest, fits, begins_free}
-use Rattle.vm_model.specs.Setup.{Setup, groups_at, pages_in_units}
-use Rattle.vm_model.specs.PlainMap.{PlainMap, Mark, Free, Held, Live, Waits, Flushing, is_free, taken}
-use Rattle.vm_model.specs.Areas.{is_area, named_areas, without_area, areas_starting, areas_elsewhere, areas_of, with_areas, mark_live, spans_of, mapped_part}
-use Rattle.vm_model.specs.Legal.{OnEach, OnPages, IsMarked, IsUnmapped, IsMapped, IsBare, IsLegalAs}
-use Rattle.vm_model.specs.Events.{Section, Settle, Remove, Unlink, Wait, TakeWaiting, Populate, Fill, Depopulate, Carve, CarveGroups, Drop, Return, MapPages, Unmap, Flush, NoFrames}
+use Rattle.vm_model.specs.Space.{holds, covers, is_among, one_if, times}
+use Rattle.vm_model.specs.Setup.{Setup}
+use Rattle.vm_model.specs.PlainMap.{PlainMap, Mark, Held, Live, Waits}
+use Rattle.vm_model.specs.Areas.{is_area, named_areas, areas_starting, spans_of}
+use Rattle.vm_model.specs.Legal.{OnEach, IsMarked, IsUnmapped}
+use Rattle.vm_model.specs.Events.{Section, Remove, Unlink}
 use Rattle.vm_model.specs.Effects.{effect_as}
-use Rattle.vm_model.specs.Places.{Place, Over, Removing, MappingArea, Dropping, SettlingArea, SettlingBlock, SettlingGroups, UnmappingArea, Waiting, PurgeFlushing, PurgeReturning, PurgeGiving, PurgeWaiting, PurgeCollecting, Then, ReplyWith, block_spans}
-use Rattle.vm_model.specs.Next.{Next, Go, Answer, after_flush, after_collecting}
+use Rattle.vm_model.specs.Places.{Place, UnmappingArea, Waiting, PurgeWaiting, Then, block_spans}
+use Rattle.vm_model.specs.Next.{Next, Go}
 use Rattle.vm_model.specs.Carried.{held, flushed}
 use Rattle.vm_model.specs.Laws.{as_free}
-use Rattle.vm_model.proofs.Paint.{slice_get-paint, length-paint_from}
-use Rattle.vm_model.proofs.Search.{the_lowest_fits}
-use Rattle.vm_model.specs.Frames.{free_frames, give_frames}
-use Rattle.std.proofs.lemmas.Option.{slice_get_within}
-use Rattle.map_laws.proofs.Lists.{there, same_or, set_same, set_other}
 use Rattle.map_laws.proofs.Places.{OnNext, IsPlainKind}
-use Rattle.map_laws.proofs.Chosen.{IsIn, in_more, filter_has, sum_has}
-use Rattle.std.proofs.lemmas.List.Sums.{sum_by-cons}
-use Rattle.map_laws.proofs.Spans.{IsHull, hull_is, covers_append, times-cons, times-append, times-one, covers_times, covers_none, none_covers, in_spans, InSpans, Inside, Outside, covers_one, holds_to, holds_from}
-use Rattle.map_laws.proofs.Touched.{touch, IsSame, unmarked_live, spans_of-areas_of, ungiven, outside_row, untouched, unpainted, painted, painted_still}
-use Rattle.map_laws.proofs.AreaFacts.{IsHolding, IsPageFine, IsMapFine, own_uses, next_uses, holds_nothing, nothing_claimed, IsUnbearing}
-use Rattle.map_laws.proofs.AreaFacts.{IsAreaFine, guard_part, mapped_within, mapped_covers, guard_covers, guard_apart, same_mapped, same_unmapped, area_stays, page_stays}
-use Rattle.map_laws.proofs.PlaceMoves.{IsMoved, given_all, held_in_row, length-give_frames, unbearing_uses, unbearing_own}
-use Rattle.map_laws.proofs.MapMoves.{times_areas, times_both, page_by, waits_fine, flushing_fine, live_fine, area_times, IsOuter, outer_map, held_fine, free_fine, free_one, painted_free, freed_le}
-use Rattle.map_laws.proofs.Quiet.{is_quiet, IsQuiet, quiet}
-use Rattle.map_laws.proofs.Chosen.{find_has}
-use Rattle.map_laws.proofs.OutMoves.{IsInside, IsUnlinked, covering, times_in, same_area, stays_apart, out_fine, out_source, out_free}
+use Rattle.map_laws.proofs.Chosen.{IsIn, filter_has}
+use Rattle.map_laws.proofs.Spans.{times-one, covers_times, covers_one}
+use Rattle.map_laws.proofs.Touched.{touch, IsSame, untouched, painted}
+use Rattle.map_laws.proofs.AreaFacts.{IsHolding, IsMapFine, own_uses, IsUnbearing}
+use Rattle.map_laws.proofs.AreaFacts.{mapped_covers, guard_covers, same_mapped, same_unmapped}
+use Rattle.map_laws.proofs.PlaceMoves.{IsMoved, unbearing_uses, unbearing_own}
+use Rattle.map_laws.proofs.MapMoves.{times_both, page_by, live_fine, area_times}
+use Rattle.map_laws.proofs.OutMoves.{IsInside, IsUnlinked, covering, times_in, same_area, out_fine, out_source, out_free}
 
 module _ (c : Setup) (m : PlainMap) (k : ℕ) (fine : IsMapFine m) where
   -- An area is removed.

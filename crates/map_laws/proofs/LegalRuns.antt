@@ -1,5 +1,5 @@
 -- A history whose sections are all legal is one legal history.
-use Rattle.std.proofs.Common.{◌≡◌, ◌≢◌, ℕ, zero, suc, ◌+◌, ◌<◌, ◌≤◌, ◌⊎◌, inl, inr, Bool, true, false, List, [], ◌∷◌, ◌++◌, length, slice_get, slice_set, Option, Some, None, refl, ap, sym, ◌∙◌, subst, arith, append_assoc, append-nil, length-set}
+use Rattle.std.proofs.Common.{◌≡◌, ℕ, zero, suc, inl, inr, List, [], ◌∷◌, ◌++◌, length, slice_get, Option, Some, None, refl, ap, sym, ◌∙◌, subst, append_assoc, append-nil, length-set}
 use Rattle.vm_model.specs.declared.calls.Call.{Call}
 use Rattle.vm_model.specs.Setup.{Setup}
 use Rattle.vm_model.specs.Events.{Section, Event}
@@ -8,12 +8,12 @@ use Rattle.vm_model.specs.Places.{ask}
 use Rattle.vm_model.specs.Given.{given}
 use Rattle.vm_model.specs.Next.{next}
 use Rattle.vm_model.specs.History.{moved_to, World, Local, made_by, made_if, step, step_of, pick_all, first_mover, finish, most_events, history_of, opening_world, with_callers}
-use Rattle.vm_model.specs.LegalHistory.{Meets, IsNext, IsNextOf, IsRun, IsReached, IsLegalHistory, AllOver, after_event, after_event_of, world_after, callers_world}
+use Rattle.vm_model.specs.LegalHistory.{IsNextOf, IsRun, IsReached, IsLegalHistory, AllOver, after_event, after_event_of, world_after, callers_world}
 use Rattle.vm_model.specs.Rules.{IsTrace}
 use Rattle.vm_model.specs.Laws.{IsOneLegalHistory}
-use Rattle.map_laws.proofs.Frames.{IsFramed, IsStep, IsOpening, framed_opening, framed_callers, framed_step, opening_step}
+use Rattle.map_laws.proofs.Frames.{IsFramed, IsStep, framed_opening, framed_callers, framed_step}
 use Rattle.map_laws.proofs.AreaWorlds.{IsLegalStep, IsLegallyLasting}
-use Rattle.map_laws.proofs.EndProofs.{mover_steps, finish_zero, finish_none, finish_some, every_run_ends}
+use Rattle.map_laws.proofs.EndProofs.{finish_zero, finish_none, finish_some, every_run_ends}
 
 -- a run of legal sections from one world to another
 pub record IsRunTo (w v : World) : Type 0 where

@@ -1,5 +1,5 @@
 -- The laws of traces without per-CPU objects.
-use Rattle.std.proofs.Common.{◌≡◌, ◌≢◌, ℕ, zero, suc, ◌+◌, ◌-◌, ◌*◌, ◌<◌, ◌≤◌, ◌⊎◌, inl, inr, Bool, true, false, ◌==◌, List, [], ◌∷◌, ◌++◌, length, map, slice_get, slice_set, sum_by, Option, Some, None, refl, ap, sym, ◌∙◌, subst, arith}
+use Rattle.std.proofs.Common.{◌≡◌, ℕ, zero, suc, ◌+◌, ◌-◌, ◌<◌, ◌≤◌, inl, inr, Bool, true, false, List, [], ◌∷◌, map, slice_get, slice_set, sum_by, Some, refl, ap, sym, ◌∙◌, subst, arith}
 use Rattle.std.proofs.lemmas.List.Sums.{sum_by-cons, sum_by-append}
 use Rattle.vm_model.specs.declared.areas.Span.{Span}
 use Rattle.vm_model.specs.declared.areas.Area.{Area}
@@ -8,10 +8,10 @@ use Rattle.vm_model.specs.declared.areas.AreaKind.TheVariants as kind
 use Rattle.vm_model.specs.declared.calls.Call.{Call}
 use Rattle.vm_model.specs.Space.{span, holds, covers, times, end_of, one_if}
 use Rattle.vm_model.specs.Setup.{Setup}
-use Rattle.vm_model.specs.PlainMap.{PlainMap, Block, Part}
-use Rattle.vm_model.specs.Areas.{named_areas, spans_of, areas_of}
-use Rattle.vm_model.specs.Blocks.{size_of, parts_size}
-use Rattle.vm_model.specs.Legal.{IsUnmapped, IsLegalAs}
+use Rattle.vm_model.specs.PlainMap.{PlainMap, Part}
+use Rattle.vm_model.specs.Areas.{spans_of, areas_of}
+use Rattle.vm_model.specs.Blocks.{size_of}
+use Rattle.vm_model.specs.Legal.{IsLegalAs}
 use Rattle.vm_model.specs.Events.{Section, Settle}
 use Rattle.vm_model.specs.Effects.{effect_as}
 use Rattle.vm_model.specs.Places.{Place, Removing, SettlingArea, SettlingBlock, SettlingGroups, ask}
@@ -19,16 +19,15 @@ use Rattle.vm_model.specs.Next.{next}
 use Rattle.vm_model.specs.Calls.{Answered}
 use Rattle.vm_model.specs.History.{moved_to, World, Local, started, made_by, opening_world, opening_answers, callers_from, with_callers}
 use Rattle.vm_model.specs.Carried.{count_of, starts_out}
-use Rattle.vm_model.specs.LegalHistory.{Meets, IsReached, AllOver}
+use Rattle.vm_model.specs.LegalHistory.{Meets, IsReached}
 use Rattle.vm_model.specs.Rules.{IsTrace}
-use Rattle.vm_model.specs.Laws.{AreAreasApart, AreFreePagesClean, ArePartsApart}
 use Rattle.map_laws.specs.MapTraces.{AreWithoutObjects, AreasWithoutObjectsAreDisjointAndAligned, TheGuardWithoutObjectsIsNeverMapped, FreePagesAreCleanWithoutObjects, PartsWithoutObjectsAreDisjoint}
 use Rattle.map_laws.proofs.Lists.{append_cases}
 use Rattle.map_laws.proofs.Chosen.{IsIn, sum_has}
-use Rattle.map_laws.proofs.Frames.{IsFramed, IsStep, not_over, has_call}
-use Rattle.map_laws.proofs.Places.{IsPlainKind, IsProper, AllStand, HaveBeginnings, begins_with}
+use Rattle.map_laws.proofs.Frames.{IsFramed, not_over, has_call}
+use Rattle.map_laws.proofs.Places.{IsPlainKind, IsProper, begins_with}
 use Rattle.map_laws.proofs.TurnProofs.{AreTurnsProper, turns_first, turns_last}
-use Rattle.map_laws.proofs.Spans.{times-cons, covers_one, holds_to, holds_from}
+use Rattle.map_laws.proofs.Spans.{times-cons, holds_to}
 use Rattle.map_laws.proofs.AreaFacts.{IsHolding, guard_part, own_uses}
 use Rattle.map_laws.proofs.OutMoves.{with_in}
 use Rattle.map_laws.proofs.AreaMoves.{IsOutside}
@@ -39,7 +38,7 @@ use Rattle.map_laws.proofs.VmallocPlaces.{AreAligned, aligned_first, aligned_las
 use Rattle.map_laws.proofs.Serials.{IsPlainWorld, plain_first, plain_step, plain_joins, IsPlainPlace, removed_plain}
 use Rattle.map_laws.proofs.MapPlaces.{IsMapPlace, IsMapOnly, map_only_first, map_only_step, map_only_joins}
 use Rattle.map_laws.proofs.AreaLaws.{area_first, area_joins, guard_in}
-use Rattle.map_laws.proofs.BlockFacts.{IsBlockFine, IsBlockAt, block_starts, AreStacked, size_cons}
+use Rattle.map_laws.proofs.BlockFacts.{IsBlockAt, block_starts, AreStacked}
 use Rattle.map_laws.proofs.BlockPlaces.{HasParts, IsUnblocky, unblocky_at, unblocky_out}
 use Rattle.map_laws.proofs.BlockDispatch.{IsRemovedPlain, block_by}
 use Rattle.map_laws.proofs.BlockWorlds.{IsBlockWorld, block_step, block_outside, unblocky_begins}

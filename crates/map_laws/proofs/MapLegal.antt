@@ -1,44 +1,40 @@
 -- Each section that the map gives to a caller without per-CPU objects is legal.
-use Rattle.std.proofs.Common.{◌≡◌, ◌≢◌, ℕ, zero, suc, ◌+◌, ◌-◌, ◌<◌, ◌≤◌, ◌⊎◌, inl, inr, Bool, true, false, ◌&&◌, ◌||◌, ◌==◌, cond, nat_lt, nat_le, if◌then◌else◌, List, [], ◌∷◌, ◌++◌, length, map, filter, find, flat_map, not, slice_get, slice_index, sum_by, Option, Some, None, option_map, refl, ap, sym, ◌∙◌, subst, arith, length-append}
+use Rattle.std.proofs.Common.{◌≡◌, ℕ, zero, suc, ◌+◌, ◌<◌, ◌≤◌, Bool, true, false, ◌==◌, cond, nat_lt, if◌then◌else◌, List, [], ◌∷◌, ◌++◌, length, map, filter, find, flat_map, not, slice_get, sum_by, Option, Some, None, option_map, refl, ap, sym, ◌∙◌, subst, arith, length-append}
 use Rattle.std.proofs.lemmas.Bool.Decides.{nat_tests}
 use Rattle.std.proofs.lemmas.List.Sums.{sum_by-cons}
 use Rattle.vm_model.specs.declared.areas.Span.{Span}
 use Rattle.vm_model.specs.declared.areas.Area.{Area}
-use Rattle.vm_model.specs.declared.areas.AreaKind.{AreaKind}
 use Rattle.vm_model.specs.declared.areas.AreaKind.TheVariants as kind
-use Rattle.vm_model.specs.declared.calls.Call.{Call}
 use Rattle.vm_model.specs.Space.{span, holds, covers, one_if, times, lowest, is_among}
 use Rattle.vm_model.specs.Setup.{Setup}
-use Rattle.vm_model.specs.PlainMap.{PlainMap, Block, Part, Life, InHand, lives_as, taken}
+use Rattle.vm_model.specs.PlainMap.{PlainMap, Block, Part, InHand, lives_as, taken}
 use Rattle.vm_model.specs.Areas.{is_area, named_areas, areas_at, mapped_part, spans_of}
 use Rattle.vm_model.specs.Frames.{free_frames}
-use Rattle.vm_model.specs.Blocks.{PartAt, first_page, mapped_pages, rounded, size_of, parts_size, blocks_of, part_to_cut, find_part, life_of_part, is_named, named_in, named_parts, spends, set_life}
-use Rattle.vm_model.specs.Legal.{OnEach, IsBare, IsMapped, IsLegalAs, AreStarts, HasBlockArea}
-use Rattle.vm_model.specs.Events.{Section, ForPages, ForGroups, TakePurge, GivePurge, MapPages, NoFrames, BeginUnmap}
-use Rattle.vm_model.specs.Places.{Place, Over, Refusing, Finding, FindingAgain, MappingArea, Dropping, SettlingArea, Removing, UnmappingArea, Waiting, PurgeTaking, PurgeFragmenting, PurgeUnlinking, PurgeWaiting, PurgeCollecting, PurgeFlushing, PurgeReturning, PurgeGiving, CuttingPart, SettlingBlock, AddingBlock, MappingPart, SettlingPart, BeginningUnmap, UnmappingPart, Retiring, UnlinkingBlock, LookingAtDirty, Aim, ForArea, ForBlock, block_spans, ask}
-use Rattle.vm_model.specs.Given.{given, carving, removal, with_frames, cutting, beginning}
-use Rattle.vm_model.specs.History.{World, Local, opening_world}
+use Rattle.vm_model.specs.Blocks.{PartAt, first_page, mapped_pages, rounded, size_of, parts_size, blocks_of, part_to_cut, life_of_part, is_named, named_in, named_parts}
+use Rattle.vm_model.specs.Legal.{OnEach, IsBare, IsLegalAs, AreStarts}
+use Rattle.vm_model.specs.Events.{Section, ForPages, TakePurge, MapPages, NoFrames}
+use Rattle.vm_model.specs.Places.{Place, Over, Refusing, Finding, FindingAgain, MappingArea, Dropping, SettlingArea, Removing, UnmappingArea, Waiting, PurgeTaking, PurgeFragmenting, PurgeUnlinking, PurgeWaiting, PurgeCollecting, PurgeFlushing, PurgeReturning, PurgeGiving, CuttingPart, SettlingBlock, AddingBlock, MappingPart, SettlingPart, BeginningUnmap, UnmappingPart, Retiring, UnlinkingBlock, LookingAtDirty, block_spans, ask}
+use Rattle.vm_model.specs.Given.{given, carving, removal, cutting, beginning}
+use Rattle.vm_model.specs.History.{World, Local}
 use Rattle.vm_model.specs.Carried.{has_purge, count_of, starts_out}
-use Rattle.map_laws.specs.MapTraces.{AreWithoutObjects, HistoriesWithoutObjectsAreLegal}
+use Rattle.map_laws.specs.MapTraces.{HistoriesWithoutObjectsAreLegal}
 use Rattle.map_laws.proofs.Chosen.{IsIn, in_more, filter_has, filter_in, find_has, sum_by-filter-le}
 use Rattle.map_laws.proofs.Fits.{and_both}
 use Rattle.map_laws.proofs.Frames.{IsFramed, IsStep}
-use Rattle.map_laws.proofs.Places.{IsPlainKind, IsProper}
+use Rattle.map_laws.proofs.Places.{IsProper}
 use Rattle.map_laws.proofs.TurnPlaces.{taking_is}
-use Rattle.map_laws.proofs.Spans.{times-cons, covers_one, holds_to, holds_from, covers_none, in_spans, InSpans, Inside, Outside}
+use Rattle.map_laws.proofs.Spans.{times-cons, covers_one, holds_to, holds_from, in_spans, InSpans, Inside, Outside}
 use Rattle.map_laws.proofs.StepFalls.{has_room}
 use Rattle.map_laws.proofs.GivenMeets.{given_meets, cut_of, begun_of, flat_in}
 use Rattle.map_laws.proofs.AreaFacts.{IsHolding, mapped_covers}
 use Rattle.map_laws.proofs.MapMoves.{times_both}
-use Rattle.map_laws.proofs.OutMoves.{same_area}
 use Rattle.map_laws.proofs.AreaWorlds.{IsLegalStep}
 use Rattle.map_laws.proofs.MapPlaces.{IsMapPlace}
-use Rattle.map_laws.proofs.BlockFacts.{OnRow, IsBlockArea, IsBlockFine, IsPartIn, IsOut, IsBlockAt, AreStacked, block_starts, count_cons, among_count, count_among, counted_block, same_test, to_same, size_cons}
+use Rattle.map_laws.proofs.BlockFacts.{IsBlockArea, IsBlockFine, IsPartIn, IsOut, IsBlockAt, AreStacked, block_starts, among_count, counted_block, to_same, size_cons}
 use Rattle.map_laws.proofs.BlockMoves.{part_within, row_of, same_start, area_start}
-use Rattle.map_laws.proofs.PartMoves.{own_is, sum_starts_of}
+use Rattle.map_laws.proofs.PartMoves.{own_is}
 use Rattle.map_laws.proofs.BlockWorlds.{times_count, row_covers, covered_start, only_one}
 use Rattle.map_laws.proofs.MapLaws.{IsMapTraceWorld, AreFull, own_names, areas_once, map_lasts, map_first, has_parts}
-use Rattle.map_laws.proofs.BlockPlaces.{HasParts}
 use Rattle.map_laws.proofs.LegalRuns.{one_legal}
 use Rattle.map_laws.proofs.Powers.{rounded_some}
 

@@ -1,31 +1,23 @@
 -- What a section keeps of the map where it touches pages that its caller holds, flushes, or finds free.
-use Rattle.std.proofs.Common.{◌≡◌, ◌≢◌, ℕ, zero, suc, ◌+◌, ◌-◌, ◌<◌, ◌≤◌, ◌⊎◌, inl, inr, Bool, true, false, not, ◌&&◌, ◌||◌, ◌==◌, nat_lt, nat_le, cond, if◌then◌else◌, List, [], ◌∷◌, ◌++◌, length, map, filter, slice_get, slice_set, sum_by, Option, Some, None, option_map, refl, ap, sym, ◌∙◌, subst, arith, length-set, drop, find}
-use Rattle.std.proofs.lemmas.Bool.Decides.{nat_tests}
-use Rattle.std.proofs.lemmas.List.Sums.{sum_by-cons, sum_by-append}
+use Rattle.std.proofs.Common.{◌≡◌, ℕ, ◌+◌, ◌≤◌, Bool, true, false, not, if◌then◌else◌, List, [], ◌∷◌, length, filter, slice_get, sum_by, Option, Some, None, option_map, refl, ap, sym, ◌∙◌, arith}
+use Rattle.std.proofs.lemmas.List.Sums.{sum_by-cons}
 use Rattle.std.proofs.lemmas.List.Filters.{sum_by-filter_both}
-use Rattle.std.proofs.lemmas.Option.{slice_get-map}
-use Rattle.vm_model.specs.declared.areas.Span.{Span}
 use Rattle.vm_model.specs.declared.areas.Area.{Area}
-use Rattle.vm_model.specs.declared.areas.AreaKind.{AreaKind}
-use Rattle.vm_model.specs.Space.{span, holds, covers, is_among, one_if, times, paint, pages_of, count_from, lowest, fits, begins_free, put_by}
-use Rattle.vm_model.specs.Setup.{Setup, groups_at, pages_in_units}
-use Rattle.vm_model.specs.PlainMap.{PlainMap, Mark, Free, Held, Live, Waits, Flushing, is_free, taken}
-use Rattle.vm_model.specs.Areas.{is_area, named_areas, without_area, areas_starting, areas_elsewhere, spans_of, areas_of, with_areas, mark_live}
-use Rattle.vm_model.specs.Frames.{free_frames, give_frames}
-use Rattle.vm_model.specs.Legal.{OnEach, OnPages, IsMarked, IsUnmapped, IsMapped, IsBare}
-use Rattle.vm_model.specs.Events.{Section, Carve, CarveGroups, Drop, Return, Settle, Remove, Unlink, Wait, TakeWaiting, MapPages, Populate, Fill, Unmap, Depopulate, Flush}
+use Rattle.vm_model.specs.Space.{holds, covers, one_if, times, paint}
+use Rattle.vm_model.specs.Setup.{Setup}
+use Rattle.vm_model.specs.PlainMap.{PlainMap, Mark, Free, Held, Live, Waits, Flushing, is_free}
+use Rattle.vm_model.specs.Areas.{spans_of}
+use Rattle.vm_model.specs.Legal.{IsMarked, IsUnmapped, IsBare}
+use Rattle.vm_model.specs.Events.{Section}
 use Rattle.vm_model.specs.Effects.{effect_as}
 use Rattle.vm_model.specs.Places.{Place}
 use Rattle.vm_model.specs.Carried.{held, flushed}
 use Rattle.vm_model.specs.Laws.{as_free}
-use Rattle.vm_model.proofs.Paint.{slice_get-paint, length-paint_from}
-use Rattle.vm_model.proofs.Search.{the_lowest_fits}
-use Rattle.map_laws.proofs.Lists.{set_same, set_other, same_or}
-use Rattle.map_laws.proofs.Chosen.{IsIn, in_more, filter_has, sum_has}
-use Rattle.map_laws.proofs.Spans.{times-cons, times-append, times-one, covers_times, covers_none, none_covers, in_spans, InSpans, Inside, Outside, covers_one, holds_to, holds_from}
-use Rattle.map_laws.proofs.Touched.{touch, IsSame, untouched, unpainted, painted, painted_still}
-use Rattle.map_laws.proofs.AreaFacts.{IsAreaFine, IsPageFine, IsMapFine, own_uses, area_stays, page_stays}
-use Rattle.map_laws.proofs.Chosen.{find_has}
+use Rattle.vm_model.proofs.Paint.{slice_get-paint}
+use Rattle.map_laws.proofs.Chosen.{sum_has}
+use Rattle.map_laws.proofs.Spans.{times-cons, covers_times, covers_one}
+use Rattle.map_laws.proofs.Touched.{touch, IsSame, untouched}
+use Rattle.map_laws.proofs.AreaFacts.{IsPageFine, IsMapFine, own_uses, area_stays, page_stays}
 
 -- Pages by their marks.
 

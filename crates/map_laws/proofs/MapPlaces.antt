@@ -1,35 +1,22 @@
 -- Where callers stand that use no per-CPU object.
-use Rattle.std.proofs.Common.{◌≡◌, ◌≢◌, ℕ, zero, suc, ◌+◌, ◌<◌, ◌≤◌, ◌⊎◌, inl, inr, Bool, true, false, nat_lt, nat_le, if◌then◌else◌, List, [], ◌∷◌, ◌++◌, length, slice_get, slice_set, Option, Some, None, option_to_list, refl, ap, sym, ◌∙◌, subst, arith, append-nil}
+use Rattle.std.proofs.Common.{◌≡◌, ℕ, zero, suc, ◌<◌, inl, inr, nat_lt, nat_le, List, [], ◌∷◌, ◌++◌, length, slice_get, Option, Some, None, refl, sym, subst}
 use Rattle.vm_model.specs.declared.areas.Span.{Span}
 use Rattle.vm_model.specs.declared.areas.Area.{Area}
-use Rattle.vm_model.specs.declared.areas.AreaKind.{AreaKind}
-use Rattle.vm_model.specs.declared.areas.AreaKind.TheVariants as kind
 use Rattle.vm_model.specs.declared.calls.Call.{Call}
-use Rattle.vm_model.specs.declared.calls.Call.TheVariants.{Vmalloc, Vfree, MapRam, UnmapRam, UnmapAliases, AllocPercpu, AllocAtomic, FreePercpu, Add, Sum, Balance}
-use Rattle.vm_model.specs.declared.calls.Reply.{Reply}
+use Rattle.vm_model.specs.declared.calls.Call.TheVariants.{Vmalloc, Vfree, MapRam, UnmapRam, UnmapAliases}
 use Rattle.vm_model.specs.Space.{hull}
 use Rattle.vm_model.specs.Setup.{Setup, cpus}
-use Rattle.vm_model.specs.PlainMap.{PlainMap, Block}
-use Rattle.vm_model.specs.Areas.{is_area, areas_of}
 use Rattle.vm_model.specs.Blocks.{PartAt}
-use Rattle.vm_model.specs.Events.{Section, Search, ForPages, ForGroups, Carve, NoHole, Fragment, Settle}
-use Rattle.vm_model.specs.Effects.{effect_as}
-use Rattle.vm_model.specs.Told.{carved, carved_base, had_frames, removed, pages_waiting, spans_taken, blocks_gone, dirty_told, part_told, was_spent}
-use Rattle.vm_model.specs.Places.{Place, Over, Refusing, Finding, FindingAgain, MappingArea, Dropping, SettlingArea, Removing, UnmappingArea, Waiting, PurgeTaking, PurgeFragmenting, PurgeCollecting, PurgeFlushing, PurgeReturning, PurgeGiving, LookingAtDirty, PurgeUnlinking, PurgeWaiting, CuttingPart, AddingBlock, MappingPart, SettlingPart, BeginningUnmap, UnmappingPart, Retiring, UnlinkingBlock, SettlingBlock, SettlingGroups, Made, MadeNothing, MadeArea, MadePart, MadeObject, Aim, ForArea, ForBlock, ForChunk, Then, SearchAgain, ReplyWith, SpareAgain, ask}
+use Rattle.vm_model.specs.Events.{Section, Search, ForPages, ForGroups}
+use Rattle.vm_model.specs.Told.{carved, carved_base, had_frames, removed, pages_waiting, spans_taken, blocks_gone, part_told, was_spent}
+use Rattle.vm_model.specs.Places.{Place, Over, Refusing, Finding, FindingAgain, MappingArea, Dropping, SettlingArea, Removing, UnmappingArea, Waiting, PurgeTaking, PurgeFragmenting, PurgeCollecting, PurgeFlushing, PurgeReturning, PurgeGiving, LookingAtDirty, PurgeUnlinking, PurgeWaiting, CuttingPart, AddingBlock, MappingPart, SettlingPart, BeginningUnmap, UnmappingPart, Retiring, UnlinkingBlock, SettlingBlock, Made, MadeNothing, MadeArea, MadePart, MadeObject, Aim, ForArea, ForBlock, ForChunk, Then, SearchAgain, ReplyWith, SpareAgain}
 use Rattle.vm_model.specs.Next.{Next, Go, Answer, next, found, without_space, after_remove, go_on, after_fragments, after_collecting, after_flush, after_cut, after_begin}
 use Rattle.vm_model.specs.Calls.{Answered, begin, begin_call, begin_free_area, begin_unmap_ram, target_of, is_bad_map_size, is_bad_vmalloc_size, is_bad_vmalloc_align}
-use Rattle.vm_model.specs.Given.{given}
-use Rattle.vm_model.specs.LegalHistory.{Meets}
-use Rattle.vm_model.specs.History.{World, Local, started, answered, moved_to, made_by, opening_world, opening_answers, callers_from, with_callers}
+use Rattle.vm_model.specs.History.{World, Local, started, moved_to, made_by, opening_world, opening_answers, callers_from, with_callers}
 use Rattle.map_laws.specs.MapTraces.{IsMapCall, AreMapCalls, AreWithoutObjects}
 use Rattle.map_laws.proofs.Lists.{set_cases, append_cases}
-use Rattle.map_laws.proofs.Chosen.{IsIn, filter_has}
 use Rattle.map_laws.proofs.Frames.{IsFramed, IsStep, not_over, has_call}
-use Rattle.map_laws.proofs.Places.{OnNext, IsPlainKind, IsProper, AllStand, either_next, either_place, answers_call, moved_setup}
-use Rattle.map_laws.proofs.OutMoves.{with_in}
-use Rattle.map_laws.proofs.AreasMade.{areas_after, no_settle, asks_settle}
-use Rattle.map_laws.proofs.AreaMoves.{IsOutside}
-use Rattle.map_laws.proofs.AreaWorlds.{IsLegalStep, IsLegallyLasting}
+use Rattle.map_laws.proofs.Places.{OnNext, either_next, either_place, answers_call}
 
 abbrev pub IsMapSearch : Search → Aim → Type 0
 IsMapSearch (ForPages pages align) (ForArea k) = Unit {0}

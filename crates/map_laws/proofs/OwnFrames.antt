@@ -1,19 +1,19 @@
 -- A frame is one page's, and a stale page has none.
-use Rattle.std.proofs.Common.{◌≡◌, ◌≢◌, ℕ, zero, suc, ◌+◌, ◌<◌, ◌≤◌, ◌⊎◌, inl, inr, Bool, true, false, not, ◌||◌, ◌==◌, cond, if◌then◌else◌, List, [], ◌∷◌, ◌++◌, length, filter, slice_get, slice_set, replicate, Option, Some, None, option_map, refl, ap, sym, ◌∙◌, subst, arith}
+use Rattle.std.proofs.Common.{◌≡◌, ◌≢◌, ℕ, zero, suc, ◌≤◌, inl, inr, Bool, true, false, not, ◌||◌, ◌==◌, cond, if◌then◌else◌, List, [], ◌∷◌, length, filter, slice_get, slice_set, replicate, Option, Some, None, option_map, refl, ap, sym, ◌∙◌, subst, arith}
 use Rattle.std.proofs.lemmas.Bool.Decides.{nat_tests}
 use Rattle.vm_model.specs.declared.calls.Call.{Call}
 use Rattle.vm_model.specs.Space.{holds, is_among, count_from, pages_of, paint}
 use Rattle.vm_model.specs.Setup.{Setup, pages_in_units}
 use Rattle.vm_model.specs.PlainMap.{PlainMap}
 use Rattle.vm_model.specs.Frames.{is_used, free_frames, give_frames}
-use Rattle.vm_model.specs.Legal.{IsUnmapped, IsBare, OnPages, IsLegalAs}
+use Rattle.vm_model.specs.Legal.{IsUnmapped, IsBare, IsLegalAs}
 use Rattle.vm_model.specs.Events.{Section, MapPages, Populate, Fill, Unmap, Depopulate, Flush}
 use Rattle.vm_model.specs.Effects.{effect_as}
-use Rattle.vm_model.specs.History.{World, opening_world}
+use Rattle.vm_model.specs.History.{opening_world}
 use Rattle.vm_model.proofs.Paint.{slice_get-paint, length-paint_from}
-use Rattle.map_laws.proofs.Lists.{there, same_or, set_same, set_other, set_cases}
+use Rattle.map_laws.proofs.Lists.{there, set_cases}
 use Rattle.map_laws.proofs.Spans.{covers_one, holds_from}
-use Rattle.map_laws.proofs.Touched.{painted, unpainted, painted_still, ungiven, in_row}
+use Rattle.map_laws.proofs.Touched.{painted, unpainted, ungiven, in_row}
 use Rattle.std.proofs.lemmas.List.{length-replicate}
 use Rattle.std.proofs.lemmas.Option.{slice_get_within}
 use Rattle.vm_model.specs.declared.areas.Span.{Span}

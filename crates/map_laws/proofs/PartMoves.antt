@@ -1,30 +1,26 @@
 -- What the sections that cut, add, settle, take up and retire parts do to blocks and parts.
-use Rattle.std.proofs.Common.{◌≡◌, ◌≢◌, ℕ, zero, suc, ◌+◌, ◌-◌, ◌<◌, ◌≤◌, ◌⊎◌, inl, inr, Bool, true, false, not, ◌&&◌, ◌||◌, ◌==◌, nat_lt, nat_le, if◌then◌else◌, List, [], ◌∷◌, ◌++◌, length, map, filter, find, slice_get, sum_by, Option, Some, None, is_some, option_map, refl, ap, sym, ◌∙◌, subst, arith}
+use Rattle.std.proofs.Common.{◌≡◌, ◌≢◌, ℕ, zero, suc, ◌+◌, ◌-◌, ◌<◌, ◌≤◌, ◌⊎◌, inl, inr, Bool, true, false, not, ◌&&◌, ◌==◌, nat_lt, nat_le, if◌then◌else◌, List, [], ◌∷◌, ◌++◌, filter, find, slice_get, sum_by, Option, Some, None, is_some, option_map, refl, ap, sym, ◌∙◌, subst, arith}
 use Rattle.std.proofs.lemmas.Bool.Decides.{nat_tests}
 use Rattle.std.proofs.lemmas.List.Sums.{sum_by-cons, sum_by-append}
-use Rattle.std.proofs.lemmas.Option.{slice_get-map}
-use Rattle.vm_model.specs.Space.{one_if, is_among}
+use Rattle.vm_model.specs.Space.{one_if}
 use Rattle.vm_model.specs.Setup.{Setup}
-use Rattle.vm_model.specs.PlainMap.{PlainMap, Block, Part, Life, InHand, Lives, Ended, is_live, is_ended, is_in_hand, lives_as}
-use Rattle.vm_model.specs.Blocks.{PartAt, first_page, rounded, size_of, parts_size, free_of, ended_parts, dirty_of, is_spent, is_fragmented, blocks_of, queue_of, first_with_room, cut_from, part_to_cut, is_named, named_in, named_parts, fragmented, change_block, with_part, with_life, set_life, spends, without_spent}
+use Rattle.vm_model.specs.PlainMap.{PlainMap, Block, Part, InHand, Lives, Ended}
+use Rattle.vm_model.specs.Blocks.{PartAt, first_page, rounded, size_of, parts_size, free_of, dirty_of, is_spent, blocks_of, queue_of, first_with_room, cut_from, change_block, with_part, with_life, set_life, spends}
 use Rattle.vm_model.specs.Legal.{IsUnmapped, IsMapped, IsBare, IsLegalAs}
-use Rattle.vm_model.specs.Events.{Section, CutPart, AddBlock, SettlePart, BeginUnmap, Retire, Fragment}
+use Rattle.vm_model.specs.Events.{CutPart, AddBlock, SettlePart, Retire}
 use Rattle.vm_model.specs.Effects.{effect_as}
-use Rattle.vm_model.specs.Places.{Place, CuttingPart, SettlingPart, BeginningUnmap, PurgeFragmenting, MappingPart, AddingBlock, UnmappingPart, Retiring, UnlinkingBlock}
+use Rattle.vm_model.specs.Places.{CuttingPart, SettlingPart, MappingPart, AddingBlock, Retiring, UnlinkingBlock}
 use Rattle.vm_model.specs.declared.calls.Reply.{Reply}
 use Rattle.vm_model.specs.Places.{Made, MadeNothing}
-use Rattle.vm_model.specs.Next.{Next, Go, Answer}
+use Rattle.vm_model.specs.Next.{Go, Answer}
 use Rattle.vm_model.specs.Carried.{count_of, starts_out}
 use Rattle.map_laws.proofs.Lists.{same_or, append_cases, append_first}
 use Rattle.map_laws.proofs.Chosen.{IsIn, in_more, find_has, filter_has, filter_in, sum_without, sum_by-filter-le}
 use Rattle.map_laws.proofs.Fits.{and_both}
-use Rattle.map_laws.proofs.Sizes.{mapped_at}
-use Rattle.map_laws.proofs.Places.{OnNext}
 use Rattle.map_laws.proofs.Powers.{rounded_some, rounded_low}
-use Rattle.map_laws.proofs.GivenMeets.{flat_in, map_in}
-use Rattle.map_laws.proofs.BlockFacts.{OnRow, IsStill, IsBlockArea, AreStacked, IsPartFine, IsBlockFine, IsPartIn, IsOut, IsBlockAt, block_starts, count_cons, count_append, same_test, to_same, among_count, not_among, count_among, block_count, counted_block, same_block, stacked_at, same_part, stacked_covers, size_cons, Stays, block_stays, part_stays}
-use Rattle.map_laws.proofs.BlockChanges.{in_of, changed_is, changed_in, unchanged_in, changed_starts, blocks_only, lived_blocks, lived_hand, own_lived, all_ended, ended_unmapped, hand_not_ended}
-use Rattle.map_laws.proofs.BlockMoves.{next_out, IsBlockMoved, part_within, row_of}
+use Rattle.map_laws.proofs.BlockFacts.{OnRow, IsStill, IsBlockArea, AreStacked, IsPartFine, IsBlockFine, IsPartIn, IsOut, block_starts, count_cons, count_append, to_same, same_block, same_part, size_cons, block_stays}
+use Rattle.map_laws.proofs.BlockChanges.{in_of, changed_is, changed_in, unchanged_in, changed_starts, blocks_only, lived_blocks, lived_hand, ended_unmapped, hand_not_ended}
+use Rattle.map_laws.proofs.BlockMoves.{IsBlockMoved, row_of}
 
 -- the count of a start as a sum over blocks
 pub sum_starts_of : (start : ℕ) (blocks : List Block) → count_of start (block_starts blocks) ≡ sum_by (λ (b : Block). one_if (b.start == start)) blocks

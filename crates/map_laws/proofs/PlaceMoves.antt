@@ -1,32 +1,27 @@
 -- What the sections of searches, areas and waits do to the pages that their caller holds, and to the map.
-use Rattle.std.proofs.Common.{◌≡◌, ◌≢◌, ℕ, zero, suc, ◌+◌, ◌-◌, ◌<◌, ◌≤◌, ◌⊎◌, inl, inr, Bool, true, false, not, ◌&&◌, ◌||◌, ◌==◌, ◌%◌, nat_lt, nat_le, cond, if◌then◌else◌, List, [], ◌∷◌, ◌++◌, length, map, filter, slice_get, slice_set, sum_by, Option, Some, None, option_map, refl, ap, sym, ◌∙◌, subst, arith, drop, find, length-set}
+use Rattle.std.proofs.Common.{◌≡◌, ℕ, zero, suc, ◌+◌, ◌-◌, ◌<◌, ◌≤◌, ◌⊎◌, inl, inr, Bool, true, false, not, ◌||◌, ◌==◌, if◌then◌else◌, List, [], ◌∷◌, length, slice_get, slice_set, Option, Some, None, option_map, refl, ap, sym, ◌∙◌, arith, drop, length-set}
 use Rattle.std.proofs.lemmas.Bool.Decides.{nat_tests}
 use Rattle.std.proofs.lemmas.Option.{slice_get-map}
 use Rattle.vm_model.specs.declared.areas.Span.{Span}
-use Rattle.vm_model.specs.declared.areas.Area.{Area}
 use Rattle.vm_model.specs.declared.areas.AreaKind.{AreaKind}
-use Rattle.vm_model.specs.declared.areas.AreaKind.TheVariants as kind
-use Rattle.vm_model.specs.Space.{span, holds, covers, is_among, one_if, times, paint, pages_of, count_from, lowest, fits, begins_free}
-use Rattle.vm_model.specs.Setup.{Setup, groups_at, pages_in_units}
+use Rattle.vm_model.specs.Space.{span, holds, covers, is_among, one_if, times, paint, pages_of, count_from, lowest, begins_free}
+use Rattle.vm_model.specs.Setup.{Setup, groups_at}
 use Rattle.vm_model.specs.PlainMap.{PlainMap, Mark, Free, Held, Live, Waits, Flushing, is_free, taken}
-use Rattle.vm_model.specs.Areas.{spans_of, mapped_part}
-use Rattle.vm_model.specs.Legal.{OnEach, OnPages, IsMarked, IsUnmapped, IsMapped, IsBare, IsLegalAs}
-use Rattle.vm_model.specs.Events.{Section, Carve, CarveGroups, Drop, Return, MapPages, Unmap, Flush, NoFrames}
+use Rattle.vm_model.specs.Areas.{spans_of}
+use Rattle.vm_model.specs.Legal.{OnEach, IsMarked, IsBare, IsLegalAs}
+use Rattle.vm_model.specs.Events.{Section, Carve, CarveGroups, Drop, Return}
 use Rattle.vm_model.specs.Effects.{effect_as}
-use Rattle.vm_model.specs.Places.{Place, Over, MappingArea, Dropping, SettlingArea, SettlingBlock, SettlingGroups, UnmappingArea, Waiting, PurgeFlushing, PurgeReturning, PurgeGiving, Then, ReplyWith}
-use Rattle.vm_model.specs.Next.{Next, Go, Answer, after_flush}
-use Rattle.vm_model.specs.Carried.{held, flushed}
+use Rattle.vm_model.specs.Places.{Place, MappingArea, Dropping, SettlingBlock, SettlingGroups, PurgeReturning, Then}
+use Rattle.vm_model.specs.Next.{Next, Go, Answer}
 use Rattle.vm_model.specs.Laws.{as_free}
-use Rattle.vm_model.proofs.Paint.{slice_get-paint, length-paint_from}
-use Rattle.vm_model.proofs.Search.{the_lowest_fits}
-use Rattle.vm_model.specs.Frames.{free_frames, give_frames}
+use Rattle.vm_model.specs.Frames.{give_frames}
 use Rattle.map_laws.proofs.Lists.{same_or, set_same, set_other}
 use Rattle.map_laws.proofs.Places.{OnNext}
-use Rattle.map_laws.proofs.Spans.{times-cons, times-append, times-one, covers_times, covers_none, none_covers, in_spans, InSpans, Inside, Outside, covers_one, holds_to, holds_from}
-use Rattle.map_laws.proofs.Touched.{touch, IsSame, untouched, unpainted, painted, painted_still}
-use Rattle.map_laws.proofs.AreaFacts.{IsHolding, IsPageFine, IsMapFine, own_uses, next_uses, holds_nothing, nothing_claimed, IsUnbearing}
+use Rattle.map_laws.proofs.Spans.{times-one, covers_times, in_spans, InSpans, Inside, Outside, covers_one, holds_to}
+use Rattle.map_laws.proofs.Touched.{touch, painted}
+use Rattle.map_laws.proofs.AreaFacts.{IsHolding, IsMapFine, own_uses, next_uses, holds_nothing, nothing_claimed, IsUnbearing}
 use Rattle.map_laws.proofs.MapMoves.{IsOuter, outer_map, held_fine, free_fine, free_one, painted_free, freed_le}
-use Rattle.map_laws.proofs.Quiet.{is_quiet, IsQuiet, quiet}
+use Rattle.map_laws.proofs.Quiet.{is_quiet, quiet}
 use Rattle.map_laws.proofs.Fits.{lowest_fit}
 
 -- what a section at a place does, where its caller goes on to the given next

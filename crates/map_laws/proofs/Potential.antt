@@ -1,11 +1,11 @@
 -- What all callers have left falls with each section.
-use Rattle.std.proofs.Common.{◌≡◌, ◌≢◌, ℕ, zero, suc, ◌+◌, ◌*◌, ◌-◌, ◌<◌, ◌≤◌, ◌⊎◌, inl, inr, Bool, true, false, List, [], ◌∷◌, ◌++◌, length, slice_get, slice_set, sum_by, Option, Some, None, refl, ap, sym, ◌∙◌, subst, arith, get_or, length-append}
-use Rattle.std.proofs.lemmas.List.Sums.{sum_by-set, sum_by-cons}
+use Rattle.std.proofs.Common.{◌≡◌, ◌≢◌, ℕ, zero, suc, ◌+◌, ◌*◌, ◌-◌, ◌<◌, ◌≤◌, Bool, true, false, List, [], ◌∷◌, ◌++◌, length, slice_get, slice_set, sum_by, Option, Some, None, refl, ap, sym, ◌∙◌, subst, arith, get_or, length-append}
+use Rattle.std.proofs.lemmas.List.Sums.{sum_by-set}
 use Rattle.std.proofs.lemmas.Option.{slice_get_within, get_or_from_slice_get}
 use Rattle.std.proofs.Math.Nat.{mul-suc}
 use Rattle.vm_model.specs.declared.calls.Call.{Call}
-use Rattle.vm_model.specs.Setup.{Setup, cpus}
-use Rattle.vm_model.specs.PlainMap.{PlainMap, Chunk}
+use Rattle.vm_model.specs.Setup.{Setup}
+use Rattle.vm_model.specs.PlainMap.{Chunk}
 use Rattle.vm_model.specs.Events.{Section}
 use Rattle.vm_model.specs.Effects.{effect_as}
 use Rattle.vm_model.specs.Places.{Place, Over, Sparing, NextFill, Filling, NotingFilled, ask}
@@ -14,8 +14,8 @@ use Rattle.vm_model.specs.Next.{Next, Go, Answer, next}
 use Rattle.vm_model.specs.Calls.{Answered, begin}
 use Rattle.vm_model.specs.History.{World, Local, answered, moved_to, made_by}
 use Rattle.vm_model.specs.Carried.{IsTurnKept, has_alloc}
-use Rattle.map_laws.proofs.Lists.{same_or, set_same, set_other}
-use Rattle.map_laws.proofs.Frames.{IsOwn, IsFramed, IsStep, not_over, has_call}
+use Rattle.map_laws.proofs.Lists.{set_same, set_other}
+use Rattle.map_laws.proofs.Frames.{IsFramed, IsStep, not_over, has_call}
 use Rattle.map_laws.proofs.Places.{IsProper, HaveBeginnings, begins_with, answers_call}
 use Rattle.map_laws.proofs.TurnMoves.{Change, Stays, Taken, Given}
 use Rattle.map_laws.proofs.TurnPlaces.{has_next, alloc_change}

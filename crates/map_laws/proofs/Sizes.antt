@@ -1,18 +1,15 @@
 -- Each chunk tells of each page of its unit whether it is populated.
-use Rattle.std.proofs.Common.{◌≡◌, ℕ, zero, suc, ◌+◌, inl, inr, Bool, true, false, not, ◌==◌, if◌then◌else◌, List, [], ◌∷◌, ◌++◌, length, map, filter, slice_get, replicate, Option, Some, None, option_map, refl, ap, sym, ◌∙◌, subst, arith}
+use Rattle.std.proofs.Common.{◌≡◌, ℕ, zero, suc, inl, inr, Bool, true, false, not, ◌==◌, if◌then◌else◌, List, [], ◌∷◌, ◌++◌, length, map, filter, slice_get, Option, Some, None, option_map, refl, ap, sym, ◌∙◌}
 use Rattle.std.proofs.lemmas.List.{length-replicate}
 use Rattle.std.proofs.lemmas.Option.{slice_get-map}
-use Rattle.vm_model.specs.declared.calls.Call.{Call}
 use Rattle.vm_model.specs.Setup.{Setup}
 use Rattle.vm_model.specs.PlainMap.{PlainMap, Chunk, Lives}
-use Rattle.vm_model.specs.Chunks.{ObjectAt, new_chunk, change_chunk, with_object, without_object, with_live_object, with_page}
+use Rattle.vm_model.specs.Chunks.{new_chunk, change_chunk, with_object, without_object, with_live_object, with_page}
 use Rattle.vm_model.specs.Events.{Section, AddChunk, PlaceObject, PlaceAtomic, SettleObject, Unplace, FreeObject, Spare, Filled}
 use Rattle.vm_model.specs.Effects.{effect_as}
-use Rattle.vm_model.specs.History.{World}
 use Rattle.vm_model.proofs.Paint.{length-paint_from}
 use Rattle.map_laws.proofs.Lists.{append_cases}
 use Rattle.map_laws.proofs.Chosen.{filter_has}
-use Rattle.map_laws.proofs.Frames.{IsLasting}
 
 pub record AreSized (c : Setup) (chunks : List Chunk) : Type 0 where
   pub each : (i : ℕ) (h : Chunk) → slice_get chunks i ≡ Some h → length h.populated ≡ c.unit_pages

@@ -1,28 +1,25 @@
 -- Each section lowers what all callers have left, their chunks' worth and the filler's credit together.
-use Rattle.std.proofs.Common.{◌≡◌, ◌≢◌, ℕ, zero, suc, ◌+◌, ◌*◌, ◌-◌, ◌<◌, ◌≤◌, ◌⊎◌, option_map, inl, inr, Bool, true, false, not, ◌&&◌, ◌==◌, if◌then◌else◌, List, [], ◌∷◌, ◌++◌, length, filter, slice_get, slice_set, sum_by, Option, Some, None, refl, ap, sym, ◌∙◌, subst, arith}
+use Rattle.std.proofs.Common.{◌≡◌, ℕ, ◌+◌, ◌*◌, ◌-◌, ◌<◌, ◌≤◌, ◌⊎◌, option_map, inl, inr, Bool, true, false, not, ◌&&◌, ◌==◌, if◌then◌else◌, List, [], ◌∷◌, length, slice_get, Option, Some, None, refl, ap, sym, ◌∙◌, subst, arith}
 use Rattle.std.proofs.lemmas.Bool.Decides.{nat_tests}
-use Rattle.std.proofs.Math.Nat.{mul-suc}
-use Rattle.vm_model.specs.declared.calls.Call.{Call}
 use Rattle.std.proofs.lemmas.List.Sums.{sum_by-cons}
 use Rattle.vm_model.proofs.Paint.{slice_get-paint}
 use Rattle.vm_model.specs.Space.{one_if, is_open, paint}
-use Rattle.vm_model.specs.Setup.{Setup, cpus}
+use Rattle.vm_model.specs.Setup.{Setup}
 use Rattle.vm_model.specs.PlainMap.{PlainMap, Chunk}
-use Rattle.vm_model.specs.Chunks.{spare_chunk, page_to_fill, populated_pages, change_chunk, with_page}
-use Rattle.vm_model.specs.Events.{Section, Spare, NoSpare, NextPage, Enough, Filled, Fill, NoFrames}
+use Rattle.vm_model.specs.Chunks.{spare_chunk, page_to_fill, change_chunk, with_page}
+use Rattle.vm_model.specs.Events.{Section, Filled, Fill, NoFrames}
 use Rattle.vm_model.specs.Effects.{effect_as}
-use Rattle.vm_model.specs.Told.{had_frames, spare_told, page_told}
-use Rattle.vm_model.specs.Places.{Place, Over, Sparing, NextFill, Filling, NotingFilled, GivingAlloc, Depopulating, AddingChunk, Ask, AskAddChunk, AskSpare, AskNextPage, AskFill, MadeNothing, ask}
-use Rattle.vm_model.specs.Next.{Next, Go, Answer, next, after_spare, after_page}
+use Rattle.vm_model.specs.Told.{spare_told, page_told}
+use Rattle.vm_model.specs.Places.{Place, Sparing, NextFill, Filling, NotingFilled, AddingChunk, AskFill, ask}
+use Rattle.vm_model.specs.Next.{next, after_spare, after_page}
 use Rattle.vm_model.specs.Given.{given, sparing, filling}
-use Rattle.vm_model.specs.Carried.{has_alloc}
 use Rattle.vm_model.specs.LegalHistory.{Meets}
 use Rattle.map_laws.proofs.Chosen.{filter_has, sum_has, sum_without}
 use Rattle.map_laws.proofs.Places.{IsProper}
 use Rattle.map_laws.proofs.ChunkFalls.{worth, worth_of, opens, open_in, added, lower_section}
 use Rattle.map_laws.proofs.ChunkRoom.{IsFillable, page_fillable, new_chunk_has_room}
 use Rattle.map_laws.proofs.GivenMeets.{HasRoom, given_meets}
-use Rattle.map_laws.proofs.Left.{left, left_next, chunk_cost, is_balancing, adds_chunk, chunk_left, step_falls}
+use Rattle.map_laws.proofs.Left.{left, left_next, is_balancing, adds_chunk, chunk_left, step_falls}
 use Rattle.map_laws.proofs.Filling.{credit, credit_next, asks_chunk, adds_nothing, no_credit_next, no_filling_next}
 use Rattle.map_laws.proofs.Sizes.{AreSized}
 

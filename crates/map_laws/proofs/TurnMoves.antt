@@ -1,22 +1,9 @@
 -- Each of the two turns is with the one caller whose place has it.
-use Rattle.std.proofs.Common.{◌≡◌, ◌≢◌, ℕ, suc, ◌⊎◌, inl, inr, Bool, true, false, nat_lt, if◌then◌else◌, List, [], ◌∷◌, ◌++◌, length, slice_get, slice_set, Option, Some, None, refl, ap, sym, ◌∙◌, subst}
-use Rattle.vm_model.specs.declared.areas.Span.{Span}
-use Rattle.vm_model.specs.declared.areas.Area.{Area}
-use Rattle.vm_model.specs.declared.calls.Call.{Call}
-use Rattle.vm_model.specs.declared.calls.Call.TheVariants.{Vmalloc, Vfree, MapRam, UnmapRam, UnmapAliases, AllocPercpu, AllocAtomic, FreePercpu, Add, Sum, Balance}
-use Rattle.vm_model.specs.Setup.{Setup}
-use Rattle.vm_model.specs.PlainMap.{PlainMap}
-use Rattle.vm_model.specs.Blocks.{PartAt}
-use Rattle.vm_model.specs.Chunks.{ObjectAt}
-use Rattle.vm_model.specs.Events.{Section}
-use Rattle.vm_model.specs.Places.{Place, Made, MadeNothing, MadeArea, MadePart, MadeObject, Over}
-use Rattle.vm_model.specs.Next.{Next, Go, Answer, next}
-use Rattle.vm_model.specs.Calls.{Answered, begin, begin_call}
-use Rattle.vm_model.specs.Effects.{effect_as}
-use Rattle.vm_model.specs.History.{World, Local, answered, answered_of, moved_to, made_by, event_of}
+use Rattle.std.proofs.Common.{◌≡◌, ◌≢◌, ℕ, ◌⊎◌, inl, inr, Bool, true, false, List, slice_get, slice_set, Option, Some, None, ap, sym, ◌∙◌, subst}
+use Rattle.vm_model.specs.Places.{Place}
+use Rattle.vm_model.specs.History.{World, Local}
 use Rattle.vm_model.specs.Carried.{IsTurnKept}
 use Rattle.map_laws.proofs.Lists.{same_or, set_same, set_cases, set_other}
-use Rattle.map_laws.proofs.Frames.{IsOwn, IsFramed, IsStep, not_over, has_call}
 
 -- a turn stays with its caller or with nobody, or is taken, or is given back
 pub data Change (t after : Option ℕ) (k : ℕ) (b now : Bool) : Type 0 where

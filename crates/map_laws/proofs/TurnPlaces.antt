@@ -1,5 +1,5 @@
 -- Which places have the two turns, before and after each section.
-use Rattle.std.proofs.Common.{◌≡◌, ℕ, suc, inl, inr, Bool, true, false, nat_lt, if◌then◌else◌, List, [], ◌∷◌, ◌++◌, length, slice_get, Option, Some, None, refl, ap, sym, ◌∙◌, subst}
+use Rattle.std.proofs.Common.{◌≡◌, ℕ, suc, Bool, true, false, nat_lt, if◌then◌else◌, List, [], ◌∷◌, ◌++◌, Option, Some, None, refl, ap}
 use Rattle.vm_model.specs.declared.areas.Span.{Span}
 use Rattle.vm_model.specs.declared.areas.Area.{Area}
 use Rattle.vm_model.specs.declared.areas.AreaKind.{AreaKind}
@@ -14,7 +14,7 @@ use Rattle.vm_model.specs.Places.{Place, Zeroing, Unplacing, UnmappingPart, Unma
 use Rattle.vm_model.specs.Next.{Next, Go, Answer, next, found, without_space, after_remove, go_on, after_fragments, after_collecting, after_flush, after_cut, after_begin, after_place, after_atomic, after_spare, after_page}
 use Rattle.vm_model.specs.Given.{given, taking}
 use Rattle.vm_model.specs.Carried.{has_purge, has_alloc, is_for_chunk, keeps_alloc}
-use Rattle.map_laws.proofs.Places.{IsAimed, IsProper, OnNext, either_next, no_span, HaveBeginnings}
+use Rattle.map_laws.proofs.Places.{IsAimed, IsProper, no_span}
 use Rattle.map_laws.proofs.TurnSections.{asks_turn, no_turn, purge_stays, alloc_stays}
 use Rattle.map_laws.proofs.TurnMoves.{Change, Stays, Taken, Given}
 

@@ -1,21 +1,20 @@
 -- The turns are kept in each reached world, and the purge turn is taken last.
-use Rattle.std.proofs.Common.{◌≡◌, ◌≢◌, ℕ, zero, suc, ◌+◌, ◌<◌, ◌⊎◌, inl, inr, Bool, true, false, List, [], ◌∷◌, ◌++◌, length, slice_get, slice_set, Option, Some, None, is_none, refl, ap, sym, ◌∙◌, subst}
+use Rattle.std.proofs.Common.{◌≡◌, ◌≢◌, ℕ, zero, suc, ◌<◌, ◌⊎◌, inl, inr, Bool, true, false, List, [], ◌∷◌, length, slice_get, Option, Some, None, is_none, refl, ap, sym, ◌∙◌, subst}
 use Rattle.vm_model.specs.declared.calls.Call.{Call}
 use Rattle.vm_model.specs.Setup.{Setup}
 use Rattle.vm_model.specs.PlainMap.{PlainMap}
 use Rattle.vm_model.specs.Events.{Section}
-use Rattle.vm_model.specs.Effects.{effect_as}
 use Rattle.vm_model.specs.Places.{Place, Over, PurgeTaking, PurgeFragmenting, PurgeUnlinking, PurgeWaiting, PurgeCollecting, PurgeFlushing, PurgeReturning, PurgeGiving, TakingAlloc, TakingToBalance, AskNothing, AskTakePurge, AskTakeAlloc, Ask, ask}
 use Rattle.vm_model.specs.Next.{Next, Go, Answer, next}
-use Rattle.vm_model.specs.Calls.{Answered, begin}
-use Rattle.vm_model.specs.Given.{can_move, given}
-use Rattle.vm_model.specs.History.{World, Local, started, answered, moved_to, made_by, opening_world, opening_answers, callers_from, with_callers, moves_in}
+use Rattle.vm_model.specs.Calls.{Answered}
+use Rattle.vm_model.specs.Given.{can_move}
+use Rattle.vm_model.specs.History.{World, Local, started, moved_to, made_by, opening_world, opening_answers, callers_from, with_callers, moves_in}
 use Rattle.vm_model.specs.Carried.{IsTurnKept, has_purge, has_alloc}
 use Rattle.vm_model.specs.LegalHistory.{IsReached}
-use Rattle.vm_model.specs.Laws.{IsPurgeLast, ThePurgeTurnIsTakenLast}
+use Rattle.vm_model.specs.Laws.{ThePurgeTurnIsTakenLast}
 use Rattle.map_laws.specs.Turns.{AreTurnsKept, TheTurnsAreKept}
 use Rattle.map_laws.proofs.Lists.{append_cases, append_first}
-use Rattle.map_laws.proofs.Frames.{IsOwn, IsFramed, IsStep, IsLasting, lasts, not_over, has_call}
+use Rattle.map_laws.proofs.Frames.{IsFramed, IsStep, IsLasting, lasts, not_over, has_call}
 use Rattle.map_laws.proofs.Places.{IsProper, AllStand, HaveBeginnings, begins_with, answers_call, proper_begins, proper_lasts, stand_first}
 use Rattle.map_laws.proofs.TurnMoves.{Change, turn_moves}
 use Rattle.map_laws.proofs.TurnPlaces.{Has, has_next, purge_change, alloc_change}

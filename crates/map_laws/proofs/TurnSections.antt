@@ -1,16 +1,15 @@
 -- Which sections leave the two turns as they are: all that ask for no turn.
-use Rattle.std.proofs.Common.{◌≡◌, ℕ, Bool, true, false, if◌then◌else◌, nat_lt, List, [], ◌∷◌, ◌++◌, length, slice_index, Option, Some, None, refl, sym, subst}
+use Rattle.std.proofs.Common.{◌≡◌, ℕ, Bool, true, false, if◌then◌else◌, nat_lt, List, [], ◌∷◌, ◌++◌, length, Option, Some, None, refl, subst}
 use Rattle.vm_model.specs.declared.areas.Area.{Area}
-use Rattle.vm_model.specs.Space.{lowest, sum_of_pages}
+use Rattle.vm_model.specs.Space.{lowest}
 use Rattle.vm_model.specs.Setup.{Setup, highest, pages_in_units}
-use Rattle.vm_model.specs.PlainMap.{PlainMap, Chunk, Ended, taken}
+use Rattle.vm_model.specs.PlainMap.{PlainMap, Chunk, taken}
 use Rattle.vm_model.specs.Areas.{named_areas}
 use Rattle.vm_model.specs.Frames.{free_frames}
-use Rattle.vm_model.specs.Blocks.{PartAt, part_to_cut, named_parts, spends, set_life}
+use Rattle.vm_model.specs.Blocks.{PartAt, part_to_cut, named_parts}
 use Rattle.vm_model.specs.Chunks.{ObjectAt, plain_fit, atomic_fit, placement, new_chunk, spare_chunk, page_to_fill, is_live_object}
-use Rattle.vm_model.specs.Events.{Section, Search, ForPages, ForGroups, Refuse, TakePurge, GivePurge, TakeAlloc, GiveAlloc, Carve, CarveGroups, NoHole, Drop, Return, Settle, Remove, AreaNotLive, Unlink, Wait, TakeWaiting, MapPages, Populate, Fill, NoFrames, Unmap, Depopulate, Flush, Zero, AddWord, SumWords, PlaceObject, NoPlace, AddChunk, PlaceAtomic, NoAtomic, SettleObject, Unplace, FreeObject, ObjectNotLive, Spare, NoSpare, NextPage, Enough, Filled, CutPart, NoPart, AddBlock, SettlePart, BeginUnmap, PartNotLive, Retire, Fragment, Dirty}
+use Rattle.vm_model.specs.Events.{Section, Search, ForPages, ForGroups, TakePurge, GivePurge, TakeAlloc, GiveAlloc, MapPages, Populate, Fill, NoFrames}
 use Rattle.vm_model.specs.Effects.{effect_as}
-use Rattle.vm_model.specs.Legal.{sum_of}
 use Rattle.vm_model.specs.Places.{Ask, AskNothing, AskRefuse, AskTakePurge, AskGivePurge, AskTakeAlloc, AskGiveAlloc, AskSearch, AskDrop, AskReturn, AskSettle, AskRemove, AskUnlink, AskWait, AskTakeWaiting, AskMap, AskPopulate, AskFill, AskUnmap, AskDepopulate, AskFlush, AskZero, AskAdd, AskSum, AskPlace, AskAddChunk, AskAtomic, AskSettleObject, AskUnplace, AskFree, AskSpare, AskNextPage, AskFilled, AskPart, AskAddBlock, AskSettlePart, AskBegin, AskRetire, AskFragment, AskDirty}
 use Rattle.vm_model.specs.Given.{given, carving, carving_groups, searching, removal, with_frames, placing, placing_new, placing_atomic, freeing, sparing, filling, cutting, beginning}
 

@@ -1,26 +1,23 @@
 -- A vmalloc call makes an area at a multiple of its alignment.
-use Rattle.std.proofs.Common.{◌≡◌, ◌≢◌, ℕ, zero, suc, ◌+◌, ◌%◌, ◌<◌, ◌≤◌, ◌⊎◌, inl, inr, Bool, true, false, nat_lt, if◌then◌else◌, List, [], ◌∷◌, ◌++◌, length, slice_get, slice_set, Option, Some, None, option_to_list, refl, ap, sym, ◌∙◌, subst, arith, length-append}
+use Rattle.std.proofs.Common.{◌≡◌, ℕ, zero, suc, ◌%◌, ◌<◌, inl, inr, Bool, true, false, nat_lt, if◌then◌else◌, List, [], ◌∷◌, ◌++◌, length, slice_get, Option, Some, None, refl, ap, sym, ◌∙◌, subst, arith, length-append}
 use Rattle.vm_model.specs.declared.areas.Span.{Span}
 use Rattle.vm_model.specs.declared.areas.AreaKind.{AreaKind}
-use Rattle.vm_model.specs.declared.areas.AreaKind.TheVariants as kind
 use Rattle.vm_model.specs.declared.calls.Call.{Call}
 use Rattle.vm_model.specs.declared.calls.Call.TheVariants.{Vmalloc, Vfree, MapRam, UnmapRam, UnmapAliases, AllocPercpu, AllocAtomic, FreePercpu, Add, Sum, Balance}
-use Rattle.vm_model.specs.declared.calls.Reply.{Reply}
-use Rattle.vm_model.specs.declared.calls.Reply.TheVariants as reply
-use Rattle.vm_model.specs.Space.{hull, span, lowest}
+use Rattle.vm_model.specs.Space.{hull, lowest}
 use Rattle.vm_model.specs.Setup.{Setup, cpus}
 use Rattle.vm_model.specs.PlainMap.{PlainMap, taken}
 use Rattle.vm_model.specs.Events.{Section, Search, ForPages, ForGroups}
 use Rattle.vm_model.specs.Told.{carved, carved_base, had_frames, spans_taken, blocks_gone}
-use Rattle.vm_model.specs.Places.{Place, Over, Refusing, Finding, FindingAgain, MappingArea, Dropping, SettlingArea, PurgeTaking, PurgeFragmenting, PurgeUnlinking, PurgeWaiting, PurgeCollecting, PurgeFlushing, PurgeReturning, PurgeGiving, Made, MadeNothing, MadeArea, MadePart, MadeObject, Aim, ForArea, ForBlock, ForChunk, Then, SearchAgain, ReplyWith, SpareAgain, AskSearch, ask}
+use Rattle.vm_model.specs.Places.{Place, Refusing, Finding, FindingAgain, MappingArea, Dropping, SettlingArea, PurgeTaking, PurgeFragmenting, PurgeUnlinking, PurgeWaiting, PurgeCollecting, PurgeFlushing, PurgeReturning, PurgeGiving, Made, MadeNothing, MadeArea, MadePart, MadeObject, Aim, ForArea, ForBlock, ForChunk, Then, SearchAgain, ReplyWith, SpareAgain, AskSearch, ask}
 use Rattle.vm_model.specs.Next.{Next, Go, Answer, next, found, without_space, go_on, after_fragments, after_collecting, after_flush}
 use Rattle.vm_model.specs.Calls.{Answered, begin, begin_call, align_pages, is_bad_vmalloc_size, is_bad_vmalloc_align}
 use Rattle.vm_model.specs.Given.{given, carving}
-use Rattle.vm_model.specs.History.{World, Local, started, answered, moved_to, made_by, opening_world, opening_answers, callers_from, with_callers}
+use Rattle.vm_model.specs.History.{World, Local, started, answered, moved_to, opening_world, opening_answers, callers_from}
 use Rattle.vm_model.specs.Laws.{IsMadeAligned}
 use Rattle.map_laws.proofs.Lists.{set_cases, append_cases}
 use Rattle.map_laws.proofs.Fits.{is_zero, lowest_fit}
-use Rattle.map_laws.proofs.Frames.{IsFramed, IsStep, IsLasting, not_over, has_call}
+use Rattle.map_laws.proofs.Frames.{IsLasting, not_over, has_call}
 use Rattle.map_laws.proofs.Places.{answers_call, either_place}
 
 abbrev pub IsSearchAt : ℕ → Search → Aim → Type 0

@@ -1,35 +1,32 @@
 -- What the sections that map, unmap, make wait and flush pages do to the pages that their caller holds, and to the map.
-use Rattle.std.proofs.Common.{◌≡◌, ◌≢◌, ℕ, zero, suc, ◌+◌, ◌-◌, ◌<◌, ◌≤◌, ◌⊎◌, inl, inr, Bool, true, false, not, ◌&&◌, ◌||◌, ◌==◌, ◌%◌, nat_lt, nat_le, cond, if◌then◌else◌, List, [], ◌∷◌, ◌++◌, length, map, filter, slice_get, slice_set, sum_by, Option, Some, None, option_to_list, option_map, refl, ap, sym, ◌∙◌, subst, arith, drop, find, length-set}
+use Rattle.std.proofs.Common.{◌≡◌, ℕ, zero, suc, ◌+◌, ◌-◌, ◌≤◌, ◌⊎◌, inl, inr, Bool, true, false, ◌||◌, if◌then◌else◌, List, [], ◌∷◌, ◌++◌, length, slice_get, Option, Some, None, option_to_list, refl, ap, sym, ◌∙◌, subst, arith}
 use Rattle.std.proofs.lemmas.Bool.Decides.{nat_tests}
 use Rattle.vm_model.specs.declared.areas.Span.{Span}
 use Rattle.vm_model.specs.declared.areas.Area.{Area}
 use Rattle.vm_model.specs.declared.areas.AreaKind.{AreaKind}
 use Rattle.vm_model.specs.declared.areas.AreaKind.TheVariants as kind
-use Rattle.vm_model.specs.Space.{hull, sum_of_pages, span, holds, covers, is_among, one_if, times, paint, pages_of, count_from, lowest, fits, begins_free}
-use Rattle.vm_model.specs.Setup.{Setup, groups_at, pages_in_units}
-use Rattle.vm_model.specs.PlainMap.{PlainMap, Mark, Free, Held, Live, Waits, Flushing, is_free, taken}
-use Rattle.vm_model.specs.Areas.{spans_of, mapped_part}
-use Rattle.vm_model.specs.Legal.{OnEach, OnPages, IsMarked, IsUnmapped, IsMapped, IsBare, IsLegalAs}
-use Rattle.vm_model.specs.Events.{Section, Wait, TakeWaiting, Populate, Fill, Depopulate, Carve, CarveGroups, Drop, Return, MapPages, Unmap, Flush, NoFrames}
+use Rattle.vm_model.specs.Space.{hull, span, holds, covers, one_if, times, paint, pages_of, count_from}
+use Rattle.vm_model.specs.Setup.{Setup}
+use Rattle.vm_model.specs.PlainMap.{PlainMap, Held, Waits, Flushing}
+use Rattle.vm_model.specs.Areas.{mapped_part}
+use Rattle.vm_model.specs.Legal.{OnEach, IsMarked, IsUnmapped, IsLegalAs}
+use Rattle.vm_model.specs.Events.{Wait, TakeWaiting, MapPages, Unmap, Flush, NoFrames}
 use Rattle.vm_model.specs.Effects.{effect_as}
-use Rattle.vm_model.specs.Places.{Place, Over, MappingArea, Dropping, SettlingArea, SettlingBlock, SettlingGroups, UnmappingArea, Waiting, PurgeFlushing, PurgeReturning, PurgeGiving, PurgeWaiting, PurgeCollecting, Then, ReplyWith, block_spans}
-use Rattle.vm_model.specs.Next.{Next, Go, Answer, after_flush, after_collecting}
+use Rattle.vm_model.specs.Places.{Place, MappingArea, Dropping, SettlingArea, UnmappingArea, Waiting, PurgeFlushing, PurgeReturning, PurgeGiving, PurgeCollecting, Then}
+use Rattle.vm_model.specs.Next.{Next, Go, after_flush, after_collecting}
 use Rattle.vm_model.specs.Carried.{held, flushed}
 use Rattle.vm_model.specs.Laws.{as_free}
-use Rattle.vm_model.proofs.Paint.{slice_get-paint, length-paint_from}
-use Rattle.vm_model.proofs.Search.{the_lowest_fits}
-use Rattle.vm_model.specs.Frames.{free_frames, give_frames}
+use Rattle.vm_model.proofs.Paint.{length-paint_from}
+use Rattle.vm_model.specs.Frames.{free_frames}
 use Rattle.std.proofs.lemmas.Option.{slice_get_within}
-use Rattle.map_laws.proofs.Lists.{there, same_or, set_same, set_other}
+use Rattle.map_laws.proofs.Lists.{there}
 use Rattle.map_laws.proofs.Places.{OnNext}
-use Rattle.map_laws.proofs.Spans.{IsHull, hull_is, covers_append, times-cons, times-append, times-one, covers_times, covers_none, none_covers, in_spans, InSpans, Inside, Outside, covers_one, holds_to, holds_from}
-use Rattle.map_laws.proofs.Touched.{touch, IsSame, ungiven, outside_row, untouched, unpainted, painted, painted_still}
-use Rattle.map_laws.proofs.AreaFacts.{IsHolding, IsPageFine, IsMapFine, own_uses, next_uses, holds_nothing, nothing_claimed, IsUnbearing}
-use Rattle.map_laws.proofs.AreaFacts.{IsAreaFine, guard_part, mapped_within, mapped_covers, guard_covers, guard_apart, area_stays, page_stays}
+use Rattle.map_laws.proofs.Spans.{hull_is, covers_append, times-append, times-one, covers_times, in_spans, InSpans, Inside, Outside, covers_one, holds_to, holds_from}
+use Rattle.map_laws.proofs.Touched.{IsSame, ungiven, outside_row, untouched, painted, painted_still}
+use Rattle.map_laws.proofs.AreaFacts.{IsHolding, IsMapFine, own_uses, holds_nothing, IsUnbearing}
+use Rattle.map_laws.proofs.AreaFacts.{guard_part, mapped_within, mapped_covers, guard_covers, guard_apart, area_stays}
 use Rattle.map_laws.proofs.PlaceMoves.{IsMoved, given_all, held_in_row, length-give_frames, unbearing_uses, unbearing_own}
-use Rattle.map_laws.proofs.MapMoves.{page_by, waits_fine, flushing_fine, live_fine, area_times, IsOuter, outer_map, held_fine, free_fine, free_one, painted_free, freed_le}
-use Rattle.map_laws.proofs.Quiet.{is_quiet, IsQuiet, quiet}
-use Rattle.map_laws.proofs.Chosen.{find_has}
+use Rattle.map_laws.proofs.MapMoves.{page_by, waits_fine, flushing_fine, area_times, IsOuter, outer_map, held_fine, painted_free}
 
 module _ (c : Setup) (m : PlainMap) (k : ℕ) (fine : IsMapFine m) where
   -- An area's pages get frames.

@@ -1,7 +1,6 @@
 -- Every run of a trace ends, after fewer events than a history may have.
 use Rattle.std.specs.Prelude.{◌<◌, length}
-use Rattle.vm_model.specs.PlainMap.{PlainMap}
-use Rattle.vm_model.specs.History.{World, finish, most_events}
+use Rattle.vm_model.specs.History.{finish, most_events}
 use Rattle.vm_model.specs.LegalHistory.{AllOver}
 use Rattle.vm_model.specs.Laws.{Always}
 

@@ -3,7 +3,7 @@ use Rattle.std.specs.Prelude.{◌≡◌, ℕ, ◌-◌, List, ◌∷◌, slice_ge
 use Rattle.vm_model.specs.declared.areas.Area.{Area}
 use Rattle.vm_model.specs.declared.areas.AreaKind.TheVariants as kind
 use Rattle.vm_model.specs.declared.calls.Call.{Call}
-use Rattle.vm_model.specs.declared.calls.Call.TheVariants.{Vmalloc, Vfree, MapRam, UnmapRam, UnmapAliases, AllocPercpu, AllocAtomic, FreePercpu, Add, Sum, Balance}
+use Rattle.vm_model.specs.declared.calls.Call.TheVariants.{Vmalloc, Vfree, MapRam, UnmapRam, UnmapAliases}
 use Rattle.vm_model.specs.Space.{end_of}
 use Rattle.vm_model.specs.Setup.{Setup}
 use Rattle.vm_model.specs.PlainMap.{PlainMap, Block, at_first}

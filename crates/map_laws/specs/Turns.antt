@@ -1,5 +1,4 @@
 -- Who has the two turns.
-use Rattle.vm_model.specs.PlainMap.{PlainMap}
 use Rattle.vm_model.specs.History.{World}
 use Rattle.vm_model.specs.Carried.{IsTurnKept, has_purge, has_alloc}
 use Rattle.vm_model.specs.Laws.{Always}
