@@ -47,3 +47,4 @@ pub mod BlockDispatch
 pub mod BlockWorlds
 pub mod MapLaws
 pub mod MapLegal
+pub mod EmptyGroupProofs

@@ -43,3 +43,10 @@ pub fn traces_without_objects()
     ensures parts { PartsWithoutObjectsAreDisjoint }
     ensures legal { HistoriesWithoutObjectsAreLegal }
 {}
+
+ghost use Rattle.map_laws.specs.EmptyGroups.{AnEmptyGroupIsNamedTwice};
+
+/// A chunk's group without pages has the start of another area, which is then named twice.
+pub fn empty_groups()
+    ensures named_twice { AnEmptyGroupIsNamedTwice }
+{}
