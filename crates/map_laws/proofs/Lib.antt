@@ -30,10 +30,8 @@ pub mod AreaWorlds
 pub mod OwnFrames
 pub mod AreasMade
 pub mod VmallocPlaces
-pub mod AreaPlaces
 pub mod LegalRuns
-pub mod AreaLaws
-pub mod AreaLegal
+pub mod AreaStarts
 pub mod Serials
 pub mod MapPlaces
 pub mod Powers

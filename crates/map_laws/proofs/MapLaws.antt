@@ -37,7 +37,7 @@ use Rattle.map_laws.proofs.AreasMade.{AreMadeWell, made_section, areas_after, no
 use Rattle.map_laws.proofs.VmallocPlaces.{AreAligned, aligned_first, aligned_lasts}
 use Rattle.map_laws.proofs.Serials.{IsPlainWorld, plain_first, plain_step, plain_joins, IsPlainPlace, removed_plain}
 use Rattle.map_laws.proofs.MapPlaces.{IsMapPlace, IsMapOnly, map_only_first, map_only_step, map_only_joins}
-use Rattle.map_laws.proofs.AreaLaws.{area_first, area_joins, guard_in}
+use Rattle.map_laws.proofs.AreaStarts.{area_first, area_joins, guard_in}
 use Rattle.map_laws.proofs.BlockFacts.{IsBlockAt, block_starts, AreStacked}
 use Rattle.map_laws.proofs.BlockPlaces.{HasParts, IsUnblocky, unblocky_at, unblocky_out}
 use Rattle.map_laws.proofs.BlockDispatch.{IsRemovedPlain, block_by}

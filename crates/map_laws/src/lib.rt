@@ -21,17 +21,6 @@ pub fn ends()
     ensures more_fuel { MoreFuelChangesNothing }
 {}
 
-ghost use Rattle.map_laws.specs.AreaTraces.{VmallocAreasAreDisjointAndAligned, TheVmallocGuardIsNeverMapped, FreePagesAreCleanForAreas, AreaHistoriesAreLegal};
-
-/// In traces whose calls make and free vmalloc areas alone, or purge: areas are disjoint and aligned, a guard is never
-/// mapped, free pages are clean, and the history is one legal history in which every caller ends.
-pub fn area_traces()
-    ensures apart { VmallocAreasAreDisjointAndAligned }
-    ensures guard { TheVmallocGuardIsNeverMapped }
-    ensures clean { FreePagesAreCleanForAreas }
-    ensures legal { AreaHistoriesAreLegal }
-{}
-
 ghost use Rattle.map_laws.specs.MapTraces.{AreasWithoutObjectsAreDisjointAndAligned, TheGuardWithoutObjectsIsNeverMapped, FreePagesAreCleanWithoutObjects, PartsWithoutObjectsAreDisjoint, HistoriesWithoutObjectsAreLegal};
 
 /// In traces whose calls use no per-CPU object: areas are disjoint and aligned, a guard is never mapped, free pages are

@@ -1,4 +1,4 @@
--- The laws of traces that make and free vmalloc areas alone.
+-- What is kept of areas holds at first, and stays where callers join.
 use Rattle.std.proofs.Common.{◌≡◌, ℕ, zero, suc, ◌-◌, ◌<◌, ◌≤◌, inl, inr, true, false, List, [], ◌∷◌, slice_get, replicate, sum_by, Option, Some, None, refl, ap, sym, ◌∙◌, subst, arith}
 use Rattle.std.proofs.lemmas.List.{length-replicate}
 use Rattle.std.proofs.lemmas.List.Sums.{sum_by-cons, sum_by-append}
@@ -13,7 +13,6 @@ use Rattle.vm_model.specs.History.{World, Local, started, made_by, opening_world
 use Rattle.vm_model.specs.Carried.{held, flushed}
 use Rattle.vm_model.specs.LegalHistory.{IsReached}
 use Rattle.vm_model.specs.Laws.{as_free}
-use Rattle.map_laws.specs.AreaTraces.{AreOnlyAreas, VmallocAreasAreDisjointAndAligned, TheVmallocGuardIsNeverMapped, FreePagesAreCleanForAreas}
 use Rattle.map_laws.proofs.Lists.{append_cases}
 use Rattle.map_laws.proofs.Places.{IsPlainKind, begins_with}
 use Rattle.map_laws.proofs.TurnProofs.{AreTurnsProper, turns_first, turns_last}
@@ -23,7 +22,6 @@ use Rattle.map_laws.proofs.AreaWorlds.{IsAreaWorld, area_kept, unbearing_begins,
 use Rattle.map_laws.proofs.OwnFrames.{AreFramesClean, clean_first, clean_lasts}
 use Rattle.map_laws.proofs.AreasMade.{AreMadeWell, made_section}
 use Rattle.map_laws.proofs.VmallocPlaces.{AreAligned, aligned_first, aligned_lasts}
-use Rattle.map_laws.proofs.AreaPlaces.{IsAreaOnly, area_outside, area_only_first, area_only_step, area_only_joins}
 
 -- The first world, and callers that join.
 
@@ -112,73 +110,6 @@ area_joins c calls w kept = record {
         subst (λ (x : Local). IsHolding x.setup w.map x.caller x.place) e (holds_nothing c w.map first (started c answers first own).place (begins_with IsUnbearing c (unbearing_begins c) answers [] (slice_get own 0)))
     joined answers first (own ∷ more) (suc j) l h = joined answers (suc first) more j l h
 
--- what every world of such a trace has
-pub record IsAreaTraceWorld (c : Setup) (w : World) : Type 0 where
-  pub turns : AreTurnsProper w
-  pub area : IsAreaWorld w
-  pub only : IsAreaOnly w
-  pub made : AreMadeWell c w.map.areas
-  pub clean : AreFramesClean w.map
-  pub aligned : AreAligned w
-
-module _ (c : Setup) (opening : List Call) (calls : List (List Call)) (areas : AreOnlyAreas opening calls) where
-  pub trace_lasts : IsLegallyLasting c calls (IsAreaTraceWorld c)
-  trace_lasts = record {
-    steps = λ w k l s framed is step.
-        let own = framed.own k l step.step.here in
-        let proper = is.turns.proper.each k l step.step.here in record {
-          turns = (turns_last c calls).steps w k l s framed is.turns step.step;
-          area = area_kept c w k l s framed is.area proper (area_outside l.setup w.map l.place (is.only.each k l step.step.here).place is.only.plain) step;
-          only = area_only_step c w k l s framed is.turns.proper is.only step;
-          made = subst (λ d. AreMadeWell d (made_by w l s).map.areas) own.setup (made_section l.setup w.map l.caller l.place s proper step.meets (subst (λ d. AreMadeWell d w.map.areas) (sym own.setup) is.made));
-          clean = (clean_lasts c calls).steps w k l s framed is.clean step;
-          aligned = (aligned_lasts c calls).steps w k l s framed is.aligned step.step;
-        };
-    joins = λ w framed one is over. record {
-      turns = (turns_last c calls).joins w framed one is.turns over;
-      area = area_joins c calls w is.area;
-      only = area_only_joins c opening calls w areas is.only;
-      made = is.made;
-      clean = is.clean;
-      aligned = (aligned_lasts c calls).joins w framed one is.aligned over;
-    };
-  }
-
-  pub trace_first : IsAreaTraceWorld c (opening_world c opening calls)
-  trace_first = record {
-    turns = turns_first c opening calls;
-    area = area_first c opening calls;
-    only = area_only_first c opening calls areas;
-    made = record { each = λ a there. (let at = there.at in cc) };
-    clean = clean_first c opening calls;
-    aligned = aligned_first c opening calls;
-  }
-
-  pub trace_reached : (w : World) → IsReached c opening calls w → IsAreaTraceWorld c w
-  trace_reached w reached = (legally_lasts c calls (IsAreaTraceWorld c) trace_lasts opening trace_first w reached).1
-
-pub areas_apart : VmallocAreasAreDisjointAndAligned
-areas_apart c opening calls w trace areas reached =
-    let is = trace_reached c opening calls areas w reached in record {
-      once = is.area.once;
-      aligned = λ i a h. (is.made.each a (record { place = i; at = h })).aligned;
-      made_aligned = λ k i l answer here h. (is.aligned.each k l here).answers i answer h;
-    }
-
+-- the last page of a vmalloc area is its guard
 pub guard_in : (s : Span) → 1 ≤ s.pages → covers (guard_part kind.Vmalloc s ∷ []) (end_of s - 1) ≡ true
 guard_in s some = covers_one (guard_part kind.Vmalloc s) (end_of s - 1) ∙ holds_from (guard_part kind.Vmalloc s) (end_of s - 1) (omega arith) (omega arith)
-
-pub guard_unmapped : TheVmallocGuardIsNeverMapped
-guard_unmapped c opening calls w trace areas reached i a h e =
-    let is = trace_reached c opening calls areas w reached in
-    let plain : IsPlainKind a.kind = subst IsPlainKind (sym e) tt in
-    let some = (is.made.each a (record { place = i; at = h })).wide plain in
-    (is.area.fine.areas i a h).guard plain (end_of a.span - 1) (ap (λ k. covers (guard_part k a.span ∷ []) (end_of a.span - 1)) e ∙ guard_in a.span some)
-
-pub free_clean : FreePagesAreCleanForAreas
-free_clean c opening calls w trace areas reached =
-    let is = trace_reached c opening calls areas w reached in record {
-      free = λ page h. (is.area.fine.pages page).free h;
-      stale = is.clean.stale.stale;
-      own = is.clean.own.own;
-    }
