@@ -68,7 +68,7 @@ only_one s start h = to_same s start (or_false (s == start) h)
     or_false false e = e
 
 -- the area of a start that a caller has out
-out_area : (c : Setup) (m : PlainMap) (j : ℕ) (p : Place) (start : ℕ) → IsMapPlace p → IsBlockAt c m j p → is_among (starts_out c p) start ≡ true → IsBlockArea c m start
+pub out_area : (c : Setup) (m : PlainMap) (j : ℕ) (p : Place) (start : ℕ) → IsMapPlace p → IsBlockAt c m j p → is_among (starts_out c p) start ≡ true → IsBlockArea c m start
 out_area c m j (PurgeFragmenting cpu gone extra after) start is at h = (at start h).area
 out_area c m j (PurgeUnlinking gone extra after) start is at h = (at start h).area
 out_area c m j (UnlinkingBlock s r) start is at h = subst (IsBlockArea c m) (only_one s start h) at.area

@@ -46,3 +46,4 @@ pub mod BlockWorlds
 pub mod MapLaws
 pub mod MapLegal
 pub mod EmptyGroupProofs
+pub mod CarriedKept

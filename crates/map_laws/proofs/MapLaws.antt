@@ -1,5 +1,5 @@
 -- The laws of traces without per-CPU objects.
-use Rattle.std.proofs.Common.{◌≡◌, ℕ, zero, suc, ◌+◌, ◌-◌, ◌<◌, ◌≤◌, inl, inr, Bool, true, false, List, [], ◌∷◌, map, slice_get, slice_set, sum_by, Some, refl, ap, sym, ◌∙◌, subst, arith}
+use Rattle.std.proofs.Common.{◌≡◌, ℕ, zero, suc, ◌+◌, ◌-◌, ◌<◌, ◌≤◌, inl, inr, Bool, true, false, List, [], ◌∷◌, map, filter, not, ◌==◌, slice_get, slice_set, sum_by, Some, refl, ap, sym, ◌∙◌, subst, arith}
 use Rattle.std.proofs.lemmas.List.Sums.{sum_by-cons, sum_by-append}
 use Rattle.vm_model.specs.declared.areas.Span.{Span}
 use Rattle.vm_model.specs.declared.areas.Area.{Area}
@@ -12,9 +12,13 @@ use Rattle.vm_model.specs.PlainMap.{PlainMap, Part}
 use Rattle.vm_model.specs.Areas.{spans_of, areas_of}
 use Rattle.vm_model.specs.Blocks.{size_of}
 use Rattle.vm_model.specs.Legal.{IsLegalAs}
-use Rattle.vm_model.specs.Events.{Section, Settle}
+use Rattle.vm_model.specs.Events.{Section, Settle, AddChunk, PlaceObject, PlaceAtomic, SettleObject, Unplace, FreeObject, Spare, Filled}
+use Rattle.vm_model.specs.Chunks.{change_chunk, with_object, without_object, with_live_object, with_page}
+use Rattle.vm_model.specs.PlainMap.{Chunk, Lives}
+use Rattle.map_laws.proofs.ChunkFalls.{added}
+use Rattle.map_laws.proofs.Filling.{asks_chunk, adds_nothing}
 use Rattle.vm_model.specs.Effects.{effect_as}
-use Rattle.vm_model.specs.Places.{Place, Removing, SettlingArea, SettlingBlock, SettlingGroups, ask}
+use Rattle.vm_model.specs.Places.{Place, AddingChunk, Removing, SettlingArea, SettlingBlock, SettlingGroups, ask}
 use Rattle.vm_model.specs.Next.{next}
 use Rattle.vm_model.specs.Calls.{Answered}
 use Rattle.vm_model.specs.History.{moved_to, World, Local, started, made_by, opening_world, opening_answers, callers_from, with_callers}
@@ -65,6 +69,22 @@ module _ (c : Setup) (m : PlainMap) (k : ℕ) (some : 1 ≤ c.block_pages) where
   pub full_after : (p : Place) (s : Section) → IsMapPlace p → IsProper c p → Meets c (ask c p) s → AreFull m → AreFull (effect_as c m k s)
   full_after p s is proper w full = full_by p s (asks_settle (ask c p)) refl is proper w full
 
+-- no chunk is added
+chunks_by : (c : Setup) (m : PlainMap) (k : ℕ) (s : Section) → added c s ≡ 0 → m.chunks ≡ [] → (effect_as c m k s).chunks ≡ []
+chunks_by c m k (AddChunk chunk base at align missing) e none = absurd (omega arith)
+chunks_by c m k (PlaceObject at align missing) e none = ap (λ chunks. change_chunk at.chunk (with_object k at) chunks) none
+chunks_by c m k (PlaceAtomic at align) e none = ap (λ chunks. change_chunk at.chunk (with_object k at) chunks) none
+chunks_by c m k (SettleObject at serial) e none = ap (λ chunks. change_chunk at.chunk (with_live_object at (Lives serial)) chunks) none
+chunks_by c m k (Unplace at) e none = ap (λ chunks. change_chunk at.chunk (without_object at) chunks) none
+chunks_by c m k (FreeObject at serial) e none = ap (λ chunks. change_chunk at.chunk (without_object at) chunks) none
+chunks_by c m k (Spare chunk base populated) e none = ap (λ chunks. filter (λ (h : Chunk). not (h.number == chunk)) chunks) none
+chunks_by c m k (Filled chunk page) e none = ap (λ chunks. change_chunk chunk (with_page page) chunks) none
+chunks_by c m k _ e none = none
+
+map_asks : (c : Setup) (p : Place) → IsMapPlace p → asks_chunk (ask c p) ≡ false
+map_asks c (AddingChunk base chunk bytes align) is = absurd is
+map_asks c _ is = refl
+
 -- what every world of such a trace has
 pub record IsMapTraceWorld (c : Setup) (w : World) : Type 0 where
   pub turns : AreTurnsProper w
@@ -76,6 +96,7 @@ pub record IsMapTraceWorld (c : Setup) (w : World) : Type 0 where
   pub clean : AreFramesClean w.map
   pub aligned : AreAligned w
   pub full : AreFull w.map
+  pub chunks : w.map.chunks ≡ []
 
 removed_by : (m : PlainMap) (p : Place) → IsPlainPlace m p → IsRemovedPlain m p
 removed_by m (Removing start serial) is = removed_plain m start serial is
@@ -122,6 +143,7 @@ module _ (c : Setup) (opening : List Call) (calls : List (List Call)) (areas : A
         clean = (clean_lasts c calls).steps w k l s framed is.clean step;
         aligned = (aligned_lasts c calls).steps w k l s framed is.aligned step.step;
         full = full_after l.setup w.map l.caller (subst (λ d. 1 ≤ d.block_pages) (sym own.setup) has.some) l.place s place proper step.meets is.full;
+        chunks = chunks_by l.setup w.map l.caller s (adds_nothing l.setup (ask l.setup l.place) s (map_asks l.setup l.place place) step.meets) is.chunks;
       }
 
   -- callers at their start have no block
@@ -167,6 +189,7 @@ module _ (c : Setup) (opening : List Call) (calls : List (List Call)) (areas : A
       clean = is.clean;
       aligned = (aligned_lasts c calls).joins w framed one is.aligned over;
       full = is.full;
+      chunks = is.chunks;
     };
   }
 
@@ -181,6 +204,7 @@ module _ (c : Setup) (opening : List Call) (calls : List (List Call)) (areas : A
     clean = clean_first c opening calls;
     aligned = aligned_first c opening calls;
     full = record { each = λ a there. (let at = there.at in cc) };
+    chunks = refl;
   }
 
   pub map_reached : (w : World) → IsReached c opening calls w → IsMapTraceWorld c w

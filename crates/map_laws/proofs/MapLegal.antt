@@ -113,7 +113,7 @@ module _ (c : Setup) (m : PlainMap) (k : ℕ) (once : (page : ℕ) → times pag
       first_is a (suc i) h = cc
   one_at start area there e (a ∷ b ∷ list) f = absurd (two_never (λ (x : Area). x.span.start == start) start a b list f (λ x h. to_same x.span.start start h))
 
-  block_at : (start : ℕ) → (is : IsBlockArea c m start) → areas_at start m.areas ≡ is.area ∷ []
+  pub block_at : (start : ℕ) → (is : IsBlockArea c m start) → areas_at start m.areas ≡ is.area ∷ []
   block_at start is = one_at start is.area is.there (area_start c m start is) (areas_at start m.areas) refl
 
   legal_starts : (starts : List ℕ) → ((start : ℕ) → is_among starts start ≡ true → IsOut c m start) → ((start : ℕ) → count_of start starts ≤ 1) → AreStarts m starts
@@ -129,7 +129,7 @@ module _ (c : Setup) (m : PlainMap) (k : ℕ) (once : (page : ℕ) → times pag
     in_if b at p true e there = (to_same b.start at.block e, there)
     in_if b at p false e there = (let no = there.at in cc)
 
-    held_life : (at : PartAt) → IsPartIn m k at → life_of_part at m.blocks ≡ Some (InHand k)
+    pub held_life : (at : PartAt) → IsPartIn m k at → life_of_part at m.blocks ≡ Some (InHand k)
     held_life at hand =
         let inside : IsIn hand.part (if hand.block.start == at.block then hand.block.parts else []) = subst (λ t. IsIn hand.part (if t then hand.block.parts else [])) (sym (let t : (hand.block.start == at.block) ≡ true = (let e = hand.start in grind (arith, nat_tests)) in t)) hand.part_there in
         let flat = flat_has (λ (b : Block). if b.start == at.block then b.parts else []) m.blocks hand.there.place hand.block hand.part hand.there.at inside in

@@ -10,6 +10,7 @@ use Rattle.vm_model.specs.PlainMap.{PlainMap, Block, at_first}
 use Rattle.vm_model.specs.Legal.{IsUnmapped}
 use Rattle.vm_model.specs.History.{World, placing_calls}
 use Rattle.vm_model.specs.Rules.{IsTrace}
+use Rattle.vm_model.specs.Carried.{IsKept}
 use Rattle.vm_model.specs.LegalHistory.{IsReached}
 use Rattle.vm_model.specs.Laws.{AreAreasApart, AreFreePagesClean, ArePartsApart, IsOneLegalHistory}
 
@@ -48,3 +49,6 @@ PartsWithoutObjectsAreDisjoint = AlwaysWithoutObjects (λ c m w. (i : ℕ) (b : 
 
 abbrev pub HistoriesWithoutObjectsAreLegal : Type 0
 HistoriesWithoutObjectsAreLegal = (c : Setup) (opening : List Call) (calls : List (List Call)) (picks : List ℕ) → IsTrace c opening calls → AreWithoutObjects opening calls → IsOneLegalHistory c opening calls picks
+
+abbrev pub WhatIsCarriedWithoutObjectsIsKept : Type 0
+WhatIsCarriedWithoutObjectsIsKept = AlwaysWithoutObjects (λ c m w. IsKept c w)
