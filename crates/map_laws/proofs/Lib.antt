@@ -47,3 +47,4 @@ pub mod MapLaws
 pub mod MapLegal
 pub mod EmptyGroupProofs
 pub mod CarriedKept
+pub mod EveryTraceProofs

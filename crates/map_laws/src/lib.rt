@@ -21,6 +21,14 @@ pub fn ends()
     ensures more_fuel { MoreFuelChangesNothing }
 {}
 
+ghost use Rattle.map_laws.specs.EveryTrace.{AreasAreAligned, FramesAreOwned};
+
+/// In every trace areas start where their kind and their call want it, a frame is one page's, and a stale page has none.
+pub fn every_trace()
+    ensures aligned { AreasAreAligned }
+    ensures owned { FramesAreOwned }
+{}
+
 ghost use Rattle.map_laws.specs.MapTraces.{AreasWithoutObjectsAreDisjointAndAligned, TheGuardWithoutObjectsIsNeverMapped, FreePagesAreCleanWithoutObjects, PartsWithoutObjectsAreDisjoint, WhatIsCarriedWithoutObjectsIsKept, HistoriesWithoutObjectsAreLegal};
 
 /// In traces whose calls use no per-CPU object: areas are disjoint and aligned, a guard is never mapped, free pages are
