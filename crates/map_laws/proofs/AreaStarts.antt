@@ -9,19 +9,14 @@ use Rattle.vm_model.specs.Space.{covers, times, end_of}
 use Rattle.vm_model.specs.Setup.{Setup}
 use Rattle.vm_model.specs.PlainMap.{Mark, Free, at_first}
 use Rattle.vm_model.specs.Calls.{Answered}
-use Rattle.vm_model.specs.History.{World, Local, started, made_by, opening_world, opening_answers, callers_from, with_callers}
+use Rattle.vm_model.specs.History.{World, Local, started, opening_world, opening_answers, callers_from, with_callers}
 use Rattle.vm_model.specs.Carried.{held, flushed}
-use Rattle.vm_model.specs.LegalHistory.{IsReached}
 use Rattle.vm_model.specs.Laws.{as_free}
 use Rattle.map_laws.proofs.Lists.{append_cases}
-use Rattle.map_laws.proofs.Places.{IsPlainKind, begins_with}
-use Rattle.map_laws.proofs.TurnProofs.{AreTurnsProper, turns_first, turns_last}
+use Rattle.map_laws.proofs.Places.{begins_with}
 use Rattle.map_laws.proofs.Spans.{covers_one, holds_from}
 use Rattle.map_laws.proofs.AreaFacts.{IsHolding, IsMapFine, IsUnbearing, nothing_held, nothing_flushed, holds_nothing, guard_part}
-use Rattle.map_laws.proofs.AreaWorlds.{IsAreaWorld, area_kept, unbearing_begins, IsLegallyLasting, legally_lasts}
-use Rattle.map_laws.proofs.OwnFrames.{AreFramesClean, clean_first, clean_lasts}
-use Rattle.map_laws.proofs.AreasMade.{AreMadeWell, made_section}
-use Rattle.map_laws.proofs.VmallocPlaces.{AreAligned, aligned_first, aligned_lasts}
+use Rattle.map_laws.proofs.AreaWorlds.{IsAreaWorld, unbearing_begins}
 
 -- The first world, and callers that join.
 

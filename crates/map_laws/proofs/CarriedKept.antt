@@ -1,24 +1,22 @@
 -- What callers carry is kept in traces without per-CPU objects.
-use Rattle.std.proofs.Common.{◌≡◌, ◌≢◌, ℕ, zero, suc, ◌+◌, ◌-◌, ◌<◌, ◌≤◌, ◌⊎◌, inl, inr, Bool, true, false, ◌||◌, ◌==◌, nat_lt, List, [], ◌∷◌, length, map, flat_map, slice_get, sum_by, Option, Some, None, IfSome, refl, ap, sym, ◌∙◌, subst, arith}
+use Rattle.std.proofs.Common.{◌≡◌, ℕ, zero, suc, ◌+◌, ◌-◌, ◌<◌, ◌≤◌, Bool, true, false, ◌||◌, ◌==◌, nat_lt, List, [], ◌∷◌, map, flat_map, slice_get, sum_by, Some, IfSome, refl, ap, sym, ◌∙◌, subst, arith}
 use Rattle.std.proofs.lemmas.Bool.Decides.{nat_tests}
 use Rattle.vm_model.specs.declared.areas.Span.{Span}
 use Rattle.vm_model.specs.declared.areas.Area.{Area}
 use Rattle.vm_model.specs.declared.areas.AreaKind.{AreaKind}
 use Rattle.vm_model.specs.declared.areas.AreaKind.TheVariants as kind
-use Rattle.vm_model.specs.declared.calls.Call.{Call}
 use Rattle.vm_model.specs.Space.{span, holds, covers, is_among}
 use Rattle.vm_model.specs.Setup.{Setup}
 use Rattle.vm_model.specs.PlainMap.{PlainMap, Block, Part, Chunk, Life, InHand, Lives, Ended, is_live, is_ended}
-use Rattle.vm_model.specs.Areas.{areas_at, mapped_part}
+use Rattle.vm_model.specs.Areas.{mapped_part}
 use Rattle.vm_model.specs.Blocks.{PartAt, first_page, mapped_pages, rounded, size_of, parts_size, life_of_part}
 use Rattle.vm_model.specs.Chunks.{life_of_object}
 use Rattle.vm_model.specs.Legal.{OnEach, IsBare, IsMapped, IsUnmapped}
 use Rattle.vm_model.specs.Places.{Place, Over, Refusing, Finding, FindingAgain, MappingArea, Dropping, SettlingArea, Removing, UnmappingArea, Waiting, PurgeTaking, PurgeFragmenting, PurgeUnlinking, PurgeWaiting, PurgeCollecting, PurgeFlushing, PurgeReturning, PurgeGiving, CuttingPart, SettlingBlock, AddingBlock, MappingPart, SettlingPart, BeginningUnmap, UnmappingPart, Retiring, UnlinkingBlock, LookingAtDirty, block_spans, group_starts}
 use Rattle.vm_model.specs.History.{World, Local}
-use Rattle.vm_model.specs.Carried.{fresh, leaving, emptied, part_in_hand, object_in_hand, starts_out, IsChunkOut, IsCarried, IsPartKept, IsBlockKept, part_spans, IsAreaKept, IsKept, count_of, namings}
+use Rattle.vm_model.specs.Carried.{fresh, leaving, emptied, part_in_hand, object_in_hand, starts_out, IsChunkOut, IsCarried, IsPartKept, IsBlockKept, part_spans, IsAreaKept, IsKept, count_of}
 use Rattle.map_laws.specs.MapTraces.{WhatIsCarriedWithoutObjectsIsKept}
-use Rattle.map_laws.proofs.Chosen.{IsIn}
-use Rattle.map_laws.proofs.Frames.{IsFramed, IsOwn}
+use Rattle.map_laws.proofs.Frames.{IsFramed}
 use Rattle.map_laws.proofs.Spans.{covers_one, holds_to, holds_from}
 use Rattle.map_laws.proofs.AreaFacts.{IsHolding, IsAreaFine}
 use Rattle.map_laws.proofs.MapPlaces.{IsMapPlace}
@@ -28,7 +26,6 @@ use Rattle.map_laws.proofs.MapLegal.{held_life, block_at}
 use Rattle.map_laws.proofs.MapLaws.{IsMapTraceWorld, map_lasts, map_first, has_parts, areas_once, own_names}
 use Rattle.map_laws.proofs.AreaWorlds.{legally_lasts}
 use Rattle.map_laws.proofs.Places.{IsPlainKind}
-use Rattle.std.specs.List.{list_any}
 use Rattle.std.proofs.lemmas.List.Sums.{sum_by-cons}
 
 covered_by : (c : Setup) (x page : ℕ) (xs : List ℕ) (t : Bool) → holds (span x c.block_pages) page ≡ t → (t || covers (block_spans c xs) page) ≡ true

@@ -1,8 +1,8 @@
 -- Areas are aligned and frames are owned in every trace.
-use Rattle.std.proofs.Common.{◌≡◌, ℕ, List, slice_get, Some, sym, subst}
+use Rattle.std.proofs.Common.{List, sym, subst}
 use Rattle.vm_model.specs.declared.calls.Call.{Call}
 use Rattle.vm_model.specs.Setup.{Setup}
-use Rattle.vm_model.specs.History.{World, opening_world, made_by}
+use Rattle.vm_model.specs.History.{World, made_by}
 use Rattle.vm_model.specs.LegalHistory.{IsReached}
 use Rattle.map_laws.specs.EveryTrace.{AreasAreAligned, FramesAreOwned}
 use Rattle.map_laws.proofs.Places.{IsProper, AllStand, proper_begins, proper_lasts, stand_first}

@@ -42,9 +42,10 @@ pub fn traces_without_objects()
     ensures legal { HistoriesWithoutObjectsAreLegal }
 {}
 
-ghost use Rattle.map_laws.specs.EmptyGroups.{AnEmptyGroupIsNamedTwice};
+ghost use Rattle.map_laws.specs.EmptyGroups.{AnEmptyGroupIsNamedTwice, AnEmptyGroupIsUnlinkedTwice};
 
-/// A chunk's group without pages has the start of another area, which is then named twice.
+/// A chunk's group without pages has the start of another area, which is then named and unlinked twice.
 pub fn empty_groups()
     ensures named_twice { AnEmptyGroupIsNamedTwice }
+    ensures unlinked_twice { AnEmptyGroupIsUnlinkedTwice }
 {}
