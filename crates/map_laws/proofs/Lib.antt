@@ -48,3 +48,4 @@ pub mod MapLegal
 pub mod EmptyGroupProofs
 pub mod CarriedKept
 pub mod EveryTraceProofs
+pub mod GroupsFree

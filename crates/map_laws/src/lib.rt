@@ -32,7 +32,8 @@ pub fn every_trace()
 ghost use Rattle.map_laws.specs.MapTraces.{AreasWithoutObjectsAreDisjointAndAligned, TheGuardWithoutObjectsIsNeverMapped, FreePagesAreCleanWithoutObjects, PartsWithoutObjectsAreDisjoint, WhatIsCarriedWithoutObjectsIsKept, HistoriesWithoutObjectsAreLegal};
 
 /// In traces whose calls use no per-CPU object: areas are disjoint and aligned, a guard is never mapped, free pages are
-/// clean, the parts of a block are disjoint, what callers carry is kept, and the history is one legal history in which every caller ends.
+/// clean, the parts of a block are disjoint, what callers carry is kept, and the history is one legal history in which
+/// every caller ends.
 pub fn traces_without_objects()
     ensures apart { AreasWithoutObjectsAreDisjointAndAligned }
     ensures guard { TheGuardWithoutObjectsIsNeverMapped }
