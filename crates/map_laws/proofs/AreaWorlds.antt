@@ -1,0 +1,196 @@
+-- What is kept of areas, held pages and free pages is kept by each legal section.
+use Rattle.std.proofs.Common.{◌≡◌, ◌≢◌, ℕ, suc, ◌+◌, ◌<◌, ◌≤◌, inl, inr, Bool, true, false, List, [], ◌∷◌, length, slice_get, slice_set, sum_by, Option, Some, None, refl, ap, sym, ◌∙◌, subst, arith}
+use Rattle.std.proofs.lemmas.List.Sums.{sum_by-set}
+use Rattle.std.proofs.lemmas.Option.{slice_get_within, get_or_from_slice_get}
+use Rattle.vm_model.specs.declared.calls.Call.{Call}
+use Rattle.vm_model.specs.declared.calls.Reply.{Reply}
+use Rattle.vm_model.specs.Space.{times}
+use Rattle.vm_model.specs.Setup.{Setup}
+use Rattle.vm_model.specs.PlainMap.{PlainMap}
+use Rattle.vm_model.specs.Legal.{IsLegalAs}
+use Rattle.vm_model.specs.Events.{Section, Event}
+use Rattle.vm_model.specs.Effects.{effect_as}
+use Rattle.vm_model.specs.Places.{Made, ask}
+use Rattle.vm_model.specs.Next.{Next, Go, Answer, next}
+use Rattle.vm_model.specs.History.{World, Local, moved_to, made_by, opening_world, with_callers}
+use Rattle.vm_model.specs.Carried.{held, flushed}
+use Rattle.vm_model.specs.LegalHistory.{Meets, IsNext, IsNextOf, after_event_of, IsRun, IsReached, AllOver, after_event, world_after, callers_world}
+use Rattle.vm_model.specs.Laws.{uses}
+use Rattle.vm_model.proofs.OneNext.{one_next}
+use Rattle.map_laws.proofs.Lists.{set_cases}
+use Rattle.map_laws.proofs.Chosen.{sum_has}
+use Rattle.map_laws.proofs.Frames.{IsFramed, IsStep, IsOpening, IsLasting, framed_opening, framed_callers, framed_step, opening_step, not_over, has_call}
+use Rattle.map_laws.proofs.Places.{IsProper, OnNext, HaveBeginnings, begins_with, answers_call, moved_setup}
+use Rattle.map_laws.proofs.Touched.{touch, IsSame, untouched}
+use Rattle.map_laws.proofs.AreaFacts.{IsHolding, IsMapFine, own_uses, next_uses, IsClaimed, holding_stays, holds_nothing, nothing_claimed, IsUnbearing}
+use Rattle.map_laws.proofs.PlaceMoves.{IsMoved}
+use Rattle.map_laws.proofs.OutMoves.{sum_two}
+use Rattle.map_laws.proofs.AreaMoves.{IsOutside, moved_by}
+
+-- what is kept of areas, of what callers hold and of free pages
+pub record IsAreaWorld (w : World) : Type 0 where
+  pub fine : IsMapFine w.map
+  pub once : (page : ℕ) → uses w page ≤ 1
+  pub each : (k : ℕ) (l : Local) → slice_get w.locals k ≡ Some l → IsHolding l.setup w.map l.caller l.place
+
+-- at the beginning of a call a caller holds nothing
+pub unbearing_begins : (c : Setup) → HaveBeginnings IsUnbearing c
+unbearing_begins c = record {
+  over = refl;
+  refused = λ r. refl;
+  area = λ pages align k plain some. refl;
+  part = λ cpu pages e f. refl;
+  dirty = refl;
+  object = λ bytes align few. refl;
+  atomic = λ bytes align few. refl;
+  remove = λ start serial. refl;
+  unmap = λ cpu page serial. refl;
+  free = λ at serial. refl;
+  add = λ at serial cpu index amount. refl;
+  sum = λ at serial index. refl;
+  balance = refl;
+}
+
+pub moved_caller : (l : Local) (n : Next) → length l.answers < length l.calls → (moved_to l n).caller ≡ l.caller
+moved_caller l (Go p) h = refl
+moved_caller l (Answer r made) h = ap (λ (x : Local). x.caller) (answers_call l r made h).2
+
+-- where an answered call leads
+answer_unbearing : (l : Local) (r : Reply) (made : Made) → length l.answers < length l.calls → IsUnbearing (moved_to l (Answer r made)).place
+answer_unbearing l r made h = let e = answers_call l r made h in
+    subst (λ (x : Local). IsUnbearing x.place) (sym e.2) (begins_with IsUnbearing l.setup (unbearing_begins l.setup) l.opening _ (slice_get l.calls (suc (length l.answers))))
+
+module _ (l : Local) (call : length l.answers < length l.calls) where
+  pub moved_uses : (c : Setup) (m : PlainMap) (n : Next) (page : ℕ) → own_uses c m (moved_to l n).place page ≡ next_uses c m n page
+  moved_uses c m (Go p) page = refl
+  moved_uses c m (Answer r made) page = let z = nothing_claimed c (moved_to l (Answer r made)).place page (answer_unbearing l r made call) in omega arith
+
+  pub moved_holding : (c : Setup) (m : PlainMap) (k : ℕ) (n : Next) → OnNext (IsHolding c m k) n → IsHolding c m k (moved_to l n).place
+  moved_holding c m k (Go p) h = h
+  moved_holding c m k (Answer r made) h = holds_nothing c m k (moved_to l (Answer r made)).place (answer_unbearing l r made call)
+
+module _ (w : World) (l : Local) (s : Section) (kept : IsAreaWorld w) (here : slice_get w.locals l.caller ≡ Some l) (call : length l.answers < length l.calls)
+    (moved : IsMoved l.setup w.map l.caller l.place s (next l.setup l.place s)) where
+  abbrev holdings : ℕ → Local → ℕ
+  holdings page x = times page (held x.setup x.place)
+
+  abbrev flushings : ℕ → Local → ℕ
+  flushings page x = times page (flushed x.place)
+
+  abbrev after_local : Local
+  after_local = moved_to l (next l.setup l.place s)
+
+  held_sum : (page : ℕ) → sum_by (λ (x : Local). times page (held x.setup x.place)) (slice_set w.locals l.caller after_local) + times page (held l.setup l.place)
+      ≡ sum_by (λ (x : Local). times page (held x.setup x.place)) w.locals + times page (held after_local.setup after_local.place)
+  held_sum page = ap (λ n. sum_by (holdings page) (slice_set w.locals l.caller after_local) + n) (sym (ap (holdings page) (get_or_from_slice_get w.locals l.caller l l here)))
+      ∙ sum_by-set (holdings page) w.locals l.caller after_local l (slice_get_within w.locals l.caller l here)
+
+  flushed_sum : (page : ℕ) → sum_by (λ (x : Local). times page (flushed x.place)) (slice_set w.locals l.caller after_local) + times page (flushed l.place)
+      ≡ sum_by (λ (x : Local). times page (flushed x.place)) w.locals + times page (flushed after_local.place)
+  flushed_sum page = ap (λ n. sum_by (flushings page) (slice_set w.locals l.caller after_local) + n) (sym (ap (flushings page) (get_or_from_slice_get w.locals l.caller l l here)))
+      ∙ sum_by-set (flushings page) w.locals l.caller after_local l (slice_get_within w.locals l.caller l here)
+
+  after_setup : (page : ℕ) → times page (held after_local.setup after_local.place) ≡ times page (held l.setup after_local.place)
+  after_setup page = ap (λ d. times page (held d after_local.place)) (moved_setup l (next l.setup l.place s))
+
+  step_once : (page : ℕ) → uses (made_by w l s) page ≤ 1
+  step_once page =
+      let before = kept.once page in let less = moved.uses page in
+      omega (arith, held_sum page, flushed_sum page, after_setup page, moved_uses l call l.setup (effect_as l.setup w.map l.caller s) (next l.setup l.place s) page)
+
+  -- a touched page is no other caller's
+  not_others : (j : ℕ) (x : Local) → slice_get w.locals j ≡ Some x → j ≢ l.caller → (page : ℕ) → IsClaimed x.setup x.place page → touch l.setup w.map s page ≡ true → ⊥
+  not_others j x at n page claimed t =
+      let own = moved.source page t in let before = kept.once page in
+      let apart : l.caller ≢ j = λ e. n (sym e) in
+      omega (arith, sum_two (holdings page) w.locals l.caller j l x here at apart, sum_two (flushings page) w.locals l.caller j l x here at apart)
+
+  other_same : (page : ℕ) (b : Bool) → touch l.setup w.map s page ≡ b → (touch l.setup w.map s page ≡ true → ⊥) → IsSame w.map (effect_as l.setup w.map l.caller s) page
+  other_same page true t never = absurd (never t)
+  other_same page false t never = untouched l.setup w.map l.caller s page t
+
+  other_holding : (j : ℕ) (x : Local) → slice_get w.locals j ≡ Some x → j ≢ l.caller → IsHolding x.setup (effect_as l.setup w.map l.caller s) x.caller x.place
+  other_holding j x at n = holding_stays x.setup w.map (effect_as l.setup w.map l.caller s) x.caller x.place
+      (λ page claimed. other_same page _ refl (not_others j x at n page claimed)) (kept.each j x at)
+
+  own_holding : IsHolding after_local.setup (effect_as l.setup w.map l.caller s) after_local.caller after_local.place
+  own_holding =
+      subst (λ d. IsHolding d (effect_as l.setup w.map l.caller s) after_local.caller after_local.place) (sym (moved_setup l (next l.setup l.place s)))
+      (subst (λ i. IsHolding l.setup (effect_as l.setup w.map l.caller s) i after_local.place) (sym (moved_caller l (next l.setup l.place s) call))
+      (moved_holding l call l.setup (effect_as l.setup w.map l.caller s) l.caller (next l.setup l.place s) moved.own))
+
+  pub area_step : IsAreaWorld (made_by w l s)
+  area_step = record {
+    fine = moved.fine;
+    once = step_once;
+    each = λ j x at. elim (set_cases w.locals l.caller j after_local x at) [
+      | inl e ↦ subst (λ (y : Local). IsHolding y.setup (effect_as l.setup w.map l.caller s) y.caller y.place) (sym e.1) own_holding
+      | inr e ↦ other_holding j x e.1 e.0
+    ];
+  }
+
+-- the uses of a page by the caller alone are no more than all
+pub own_once : (w : World) (k : ℕ) (l : Local) → IsAreaWorld w → slice_get w.locals k ≡ Some l → (page : ℕ) → own_uses l.setup w.map l.place page ≤ 1
+own_once w k l kept here page = let all = kept.once page in
+    omega (arith, sum_has (λ (x : Local). times page (held x.setup x.place)) w.locals l k here, sum_has (λ (x : Local). times page (flushed x.place)) w.locals l k here)
+
+-- a legal section of a caller
+pub record IsLegalStep (w : World) (k : ℕ) (l : Local) (s : Section) : Type 0 where
+  pub step : IsStep w k l s
+  pub meets : Meets l.setup (ask l.setup l.place) s
+  pub legal : IsLegalAs l.setup w.map k s
+
+pub area_kept : (c : Setup) (w : World) (k : ℕ) (l : Local) (s : Section) → IsFramed c w → IsAreaWorld w → IsProper l.setup l.place → IsOutside l.setup w.map l.place → IsLegalStep w k l s → IsAreaWorld (made_by w l s)
+area_kept c w k l s framed kept proper outside step =
+    let own = framed.own k l step.step.here in
+    let here : slice_get w.locals l.caller ≡ Some l = subst (λ i. slice_get w.locals i ≡ Some l) (sym own.caller) step.step.here in
+    area_step w l s kept here (has_call c k l own (not_over l.setup w.map l.place s step.step.gives))
+    (moved_by l.setup w.map l.caller kept.fine l.place s proper (kept.each k l step.step.here) (own_once w k l kept step.step.here) outside step.step.gives step.meets
+    (subst (λ i. IsLegalAs l.setup w.map i s) (sym own.caller) step.legal))
+
+-- Legal runs.
+
+abbrev pub IsKeptByLegal : Setup → (World → Type 0) → Type 0
+IsKeptByLegal c P = (w : World) (k : ℕ) (l : Local) (s : Section) → IsFramed c w → P w → IsLegalStep w k l s → P (made_by w l s)
+
+-- an event that comes next is a legal section
+pub event_legal : (w : World) (e : Event) → IsNext w e → (l : Local) × IsLegalStep w e.caller l e.section × (after_event w e ≡ made_by w l e.section)
+event_legal w e next = by_option (slice_get w.locals e.caller) refl next
+  where
+    by_option : (o : Option Local) → slice_get w.locals e.caller ≡ o → IsNextOf w e o → (l : Local) × IsLegalStep w e.caller l e.section × (after_event w e ≡ made_by w l e.section)
+    by_option None h is = absurd is
+    by_option (Some l) h is = (l, record { step = record { here = h; gives = one_next l.setup w.map e.caller (ask l.setup l.place) e.section is.0 is.1 }; meets = is.0; legal = is.1 }, ap (after_event_of w e) h)
+
+-- a fact that the first world has, that each legal section keeps, and that more callers at their start keep too
+pub record IsLegallyLasting (c : Setup) (calls : List (List Call)) (P : World → Type 0) : Type 0 where
+  pub steps : IsKeptByLegal c P
+  pub joins : (w : World) → IsFramed c w → length w.locals ≡ 1 → P w → AllOver w.locals → P (with_callers c calls w)
+
+module _ (c : Setup) (calls : List (List Call)) (P : World → Type 0) (is : IsLegallyLasting c calls P) where
+  legal_run : (w : World) (es : List Event) → IsOpening c w → P w → IsRun w es → IsOpening c (world_after w es) × P (world_after w es)
+  legal_run w [] alone first run = (alone, first)
+  legal_run w (e ∷ es) alone first run =
+      let step = event_legal w e run.0 in
+      legal_run (after_event w e) es (subst (IsOpening c) (sym step.2) (opening_step c w e.caller step.0 e.section alone step.1.step))
+      (subst P (sym step.2) (is.steps w e.caller step.0 e.section alone.framed first step.1)) run.1
+
+  legal_goes_on : (w : World) (es : List Event) → IsFramed c w → P w → IsRun w es → IsFramed c (world_after w es) × P (world_after w es)
+  legal_goes_on w [] framed first run = (framed, first)
+  legal_goes_on w (e ∷ es) framed first run =
+      let step = event_legal w e run.0 in
+      legal_goes_on (after_event w e) es (subst (IsFramed c) (sym step.2) (framed_step c w e.caller step.0 e.section framed step.1.step))
+      (subst P (sym step.2) (is.steps w e.caller step.0 e.section framed first step.1)) run.1
+
+  pub legally_lasts : (opening : List Call) → P (opening_world c opening calls) → (w : World) → IsReached c opening calls w → IsFramed c w × P w
+  legally_lasts opening first w (inl r) =
+      let end = legal_run (opening_world c opening calls) r.0 (record { framed = framed_opening c opening calls; one = refl }) first r.1 in
+      subst (λ v. IsFramed c v × P v) (sym r.2) (end.0.framed, end.1)
+  legally_lasts opening first w (inr r) =
+      let end = legal_run (opening_world c opening calls) r.0 (record { framed = framed_opening c opening calls; one = refl }) first r.2.0 in
+      let begun = legal_goes_on (callers_world c opening calls r.0) r.1 (framed_callers c calls (world_after (opening_world c opening calls) r.0) end.0.one end.0.framed)
+      (is.joins (world_after (opening_world c opening calls) r.0) end.0.framed end.0.one end.1 r.2.1) r.2.2 in
+      subst (λ v. IsFramed c v × P v) (sym r.3) begun
+
+-- a lasting fact that needs no legality
+pub legally : (c : Setup) (calls : List (List Call)) (P : World → Type 0) → IsLasting c calls P → IsLegallyLasting c calls P
+legally c calls P is = record { steps = λ w k l s framed kept step. is.steps w k l s framed kept step.step; joins = is.joins }

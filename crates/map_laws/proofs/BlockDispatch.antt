@@ -1,0 +1,155 @@
+-- Each section at its place, as to blocks and parts.
+use Rattle.std.proofs.Common.{◌≡◌, ℕ, zero, suc, ◌+◌, ◌<◌, ◌≤◌, ◌⊎◌, inl, inr, Bool, true, false, nat_lt, if◌then◌else◌, List, [], ◌∷◌, ◌++◌, length, Option, Some, None, refl, ap, ◌∙◌, arith}
+use Rattle.vm_model.specs.declared.areas.Span.{Span}
+use Rattle.vm_model.specs.declared.areas.Area.{Area}
+use Rattle.vm_model.specs.declared.areas.AreaKind.{AreaKind}
+use Rattle.vm_model.specs.declared.areas.AreaKind.TheVariants as kind
+use Rattle.vm_model.specs.declared.calls.Reply.{Reply}
+use Rattle.vm_model.specs.Space.{count_from, span, holds, is_among, times, pages_of}
+use Rattle.vm_model.specs.Setup.{Setup, cpus}
+use Rattle.vm_model.specs.PlainMap.{PlainMap, Block}
+use Rattle.vm_model.specs.Areas.{spans_of, named_areas, mapped_part}
+use Rattle.vm_model.specs.Frames.{free_frames}
+use Rattle.vm_model.specs.Blocks.{PartAt, first_page, mapped_pages, rounded}
+use Rattle.vm_model.specs.Legal.{IsMapped, IsBare, IsLegalAs}
+use Rattle.vm_model.specs.Events.{Section, ForPages, Refuse, TakePurge, GivePurge, Carve, NoHole, Drop, Return, Settle, Remove, AreaNotLive, Unlink, Wait, TakeWaiting, MapPages, NoFrames, Unmap, Flush, CutPart, NoPart, AddBlock, SettlePart, BeginUnmap, PartNotLive, Retire, Fragment, Dirty}
+use Rattle.vm_model.specs.Effects.{effect_as}
+use Rattle.vm_model.specs.Places.{Place, Over, Refusing, Finding, FindingAgain, MappingArea, Dropping, SettlingArea, Removing, UnmappingArea, Waiting, PurgeTaking, PurgeFragmenting, PurgeUnlinking, PurgeWaiting, PurgeCollecting, PurgeFlushing, PurgeReturning, PurgeGiving, CuttingPart, SettlingBlock, AddingBlock, MappingPart, SettlingPart, BeginningUnmap, UnmappingPart, Retiring, UnlinkingBlock, block_spans, LookingAtDirty, ForArea, ForBlock, Then, ask}
+use Rattle.vm_model.specs.Next.{Go, next, after_fragments}
+use Rattle.vm_model.specs.Carried.{count_of, starts_out}
+use Rattle.vm_model.specs.LegalHistory.{Meets}
+use Rattle.map_laws.proofs.Chosen.{IsIn}
+use Rattle.map_laws.proofs.Places.{IsPlainKind, IsProper, either_next}
+use Rattle.map_laws.proofs.Powers.{rounded_high}
+use Rattle.map_laws.proofs.Spans.{covers_one, holds_from}
+use Rattle.map_laws.proofs.Touched.{painted, unpainted, painted_still, ungiven, outside_row}
+use Rattle.map_laws.proofs.AreaFacts.{IsHolding, IsMapFine, own_uses, mapped_within}
+use Rattle.map_laws.proofs.PlaceMoves.{given_all, held_in_row}
+use Rattle.map_laws.proofs.MapPlaces.{IsMapPlace}
+use Rattle.map_laws.proofs.BlockFacts.{OnRow, IsBlockFine, IsPartIn, IsOut, IsBlockAt, block_starts}
+use Rattle.map_laws.proofs.BlockMoves.{part_within, row_of, IsBlockMoved, outer_moved, inner_moved}
+use Rattle.map_laws.proofs.PartMoves.{cut_moved, add_moved, settle_part_moved, retire_moved}
+use Rattle.map_laws.proofs.FragmentMoves.{begin_moved, fragment_moved, to_next, to_unlink}
+use Rattle.map_laws.proofs.BlockPlaces.{HasParts, IsUnblocky, no_space_un, went_on_un, collected_un, flushed_un, hand_same, not_held, quiet_b, settle_b, held_b, remove_b, unlink_b, as_b, block_settled}
+
+-- of the area that is removed at a place
+abbrev pub IsRemovedPlain : PlainMap → Place → Type 0
+IsRemovedPlain m (Removing start serial) = (area : Area) → named_areas start serial m.areas ≡ area ∷ [] → IsPlainKind area.kind
+IsRemovedPlain m _ = Unit {0}
+
+module _ (c : Setup) (m : PlainMap) (k : ℕ) (fine : IsMapFine m) (has : HasParts c) (all : (b : Block) → IsIn b m.blocks → IsBlockFine c m b) where
+  module _ (at : PartAt) (hand : IsPartIn m k at) (areas_once : (page : ℕ) → times page (spans_of m.areas) ≤ 1)
+      (named : (start : ℕ) → count_of start (block_starts m.blocks) + 0 ≤ 1) where
+    row_out : (page : ℕ) → (page < first_page at) ⊎ (first_page at + at.pages ≤ page) → holds (mapped_pages at) page ≡ false
+    row_out page out = not_held (mapped_pages at) page out
+
+    length_row : (n first : ℕ) → length (count_from n first) ≡ n
+    length_row zero first = refl
+    length_row (suc n) first = ap suc (length_row n (suc first))
+
+    pub map_part : OnRow (first_page at) (rounded at.pages) (IsBare m) → at.pages ≤ rounded at.pages → IsLegalAs c m k (MapPages (mapped_pages at)) → IsBlockMoved c m k (MappingPart at) (MapPages (mapped_pages at)) (Go (SettlingPart at))
+    map_part bare less legal = inner_moved c m k (MappingPart at) (MapPages (mapped_pages at)) (Go (SettlingPart at)) all named at hand areas_once refl refl
+        (λ page out. record { frame = ungiven (pages_of (mapped_pages at)) (free_frames c m.frames) m.frames page (outside_row (mapped_pages at) page (row_out page out)); clean = λ h. h })
+        (λ start. omega arith) (
+          hand_same m (effect_as c m k (MapPages (mapped_pages at))) k at refl hand,
+          (λ page low high. given_all (pages_of (mapped_pages at)) (free_frames c m.frames) m.frames page None (held_in_row (mapped_pages at) page (holds_from (mapped_pages at) page low high))
+              (let l = legal.1 in omega (arith, length_row at.pages (first_page at))) (bare page low (omega arith)).unmapped),
+        )
+
+    pub unmap_part : (r : Reply) → OnRow (first_page at) at.pages (IsMapped m) → IsBlockMoved c m k (UnmappingPart at) (Unmap (mapped_pages at)) (Go (Retiring at r))
+    unmap_part r mapped = inner_moved c m k (UnmappingPart at) (Unmap (mapped_pages at)) (Go (Retiring at r)) all named at hand areas_once refl refl
+        (λ page out. record { frame = unpainted (holds (mapped_pages at)) None m.frames page (row_out page out); clean = λ h. unpainted (holds (mapped_pages at)) true m.stale page (row_out page out) ∙ h })
+        (λ start. omega arith) (
+          hand_same m (effect_as c m k (Unmap (mapped_pages at))) k at refl hand,
+          (λ page low high. (let was = mapped page low high in painted (holds (mapped_pages at)) None (Some was.0) m.frames page (holds_from (mapped_pages at) page low high) was.1)),
+        )
+
+    pub no_frames_part : (asked : ℕ) (r : Reply) → OnRow (first_page at) (rounded at.pages) (IsBare m) → at.pages ≤ rounded at.pages → IsBlockMoved c m k (MappingPart at) (NoFrames asked) (Go (Retiring at r))
+    no_frames_part asked r bare less = outer_moved c m k (MappingPart at) (NoFrames asked) (Go (Retiring at r)) all named refl (λ a cpu there kd z. there)
+        (λ page start area a b. record { frame = refl; clean = λ h. h }) (λ start. omega arith)
+        (hand_same m (effect_as c m k (NoFrames asked)) k at refl hand, (λ page low high. (bare page low (omega arith)).unmapped))
+
+  not_mapped : (kd : AreaKind) (place : Span) (page : ℕ) → (holds place page ≡ true → ⊥) → holds (mapped_part kd place) page ≡ false
+  not_mapped kd place page never = by_test (holds (mapped_part kd place) page) refl
+    where
+      by_test : (t : Bool) → holds (mapped_part kd place) page ≡ t → holds (mapped_part kd place) page ≡ false
+      by_test true e = absurd (never (mapped_within kd place page e))
+      by_test false e = e
+
+  purge_begins : (extra : Option Span) (after : Then) (named : (start : ℕ) → count_of start (block_starts m.blocks) + 0 ≤ 1) → IsBlockMoved c m k (PurgeTaking extra after) TakePurge (Go (PurgeFragmenting 0 [] extra after))
+  purge_begins extra after named = outer_moved c m k (PurgeTaking extra after) TakePurge (Go (PurgeFragmenting 0 [] extra after)) all named refl (λ a cpu there kd z. there)
+      (λ page start area a b. record { frame = refl; clean = λ h. h }) (λ start. omega arith) (λ start h. cc)
+
+  fragment_by : (cpu : ℕ) (gone g : List ℕ) (extra : Option Span) (after : Then) (once : (start : ℕ) → count_of start (block_starts m.blocks) ≤ 1) → IsLegalAs c m k (Fragment cpu g) → ((start : ℕ) → is_among gone start ≡ true → IsOut c m start)
+      → (t : Bool) → IsBlockMoved c m k (PurgeFragmenting cpu gone extra after) (Fragment cpu g) (if t then Go (PurgeFragmenting (suc cpu) (gone ++ g) extra after) else Go (after_fragments (gone ++ g) extra after))
+  fragment_by cpu gone g extra after once legal outs true = fragment_moved c m k all once cpu gone g extra after legal outs _ (to_next c m k all once cpu gone g extra after legal outs)
+  fragment_by cpu gone g extra after once legal outs false = fragment_moved c m k all once cpu gone g extra after legal outs _ (to_unlink c m k all once cpu gone g extra after legal outs (gone ++ g) refl)
+
+  module _ (p : Place) where
+    less_one : (once : (page : ℕ) → own_uses c m p page ≤ 1) (page : ℕ) → times page (spans_of m.areas) ≤ 1
+    less_one once page = let o = once page in omega arith
+
+    starts_one : ((start : ℕ) → count_of start (block_starts m.blocks) + count_of start (starts_out c p) ≤ 1) → (start : ℕ) → count_of start (block_starts m.blocks) ≤ 1
+    starts_one named start = let n = named start in omega arith
+
+  size_low : (at : PartAt) → IsPartIn m k at → at.pages ≤ rounded at.pages
+  size_low at hand = let w = (part_within c m hand.block hand.part (all hand.block hand.there) hand.part_there).1 in let r = row_of m k at hand in omega (arith, r.1, r.2)
+
+  pub block_by : (p : Place) (s : Section) → IsMapPlace p → IsProper c p → IsHolding c m k p → IsRemovedPlain m p → (once : (page : ℕ) → own_uses c m p page ≤ 1)
+      → (named : (start : ℕ) → count_of start (block_starts m.blocks) + count_of start (starts_out c p) ≤ 1) → IsBlockAt c m k p → Meets c (ask c p) s → IsLegalAs c m k s → IsBlockMoved c m k p s (next c p s)
+  block_by Over s is proper own plain once named at w legal = absurd w
+  block_by (Refusing r) s is proper own plain once named at w legal = as_b c m k fine has all (Refusing r) once named s (Refuse) w legal (λ l. quiet_b c m k fine has all (Refusing r) once named (Refuse) _ tt refl refl refl (λ page h. h))
+  block_by (Finding (ForPages pages align) (ForArea kd)) s is proper own plain once named at (inl w) legal = as_b c m k fine has all (Finding (ForPages pages align) (ForArea kd)) once named s (Carve (span w.0 pages) align) w.1 legal (λ l. quiet_b c m k fine has all (Finding (ForPages pages align) (ForArea kd)) once named (Carve (span w.0 pages) align) _ refl refl refl refl (λ page h. h))
+  block_by (Finding (ForPages pages align) (ForArea kd)) s is proper own plain once named at (inr w) legal = as_b c m k fine has all (Finding (ForPages pages align) (ForArea kd)) once named s (NoHole (ForPages pages align)) w legal (λ l. quiet_b c m k fine has all (Finding (ForPages pages align) (ForArea kd)) once named (NoHole (ForPages pages align)) _ refl refl refl refl (λ page h. h))
+  block_by (Finding (ForPages pages align) (ForBlock cpu asked)) s is proper own plain once named at (inl w) legal = as_b c m k fine has all (Finding (ForPages pages align) (ForBlock cpu asked)) once named s (Carve (span w.0 pages) align) w.1 legal (λ l. quiet_b c m k fine has all (Finding (ForPages pages align) (ForBlock cpu asked)) once named (Carve (span w.0 pages) align) _ refl refl refl refl (λ page h. h))
+  block_by (Finding (ForPages pages align) (ForBlock cpu asked)) s is proper own plain once named at (inr w) legal = as_b c m k fine has all (Finding (ForPages pages align) (ForBlock cpu asked)) once named s (NoHole (ForPages pages align)) w legal (λ l. quiet_b c m k fine has all (Finding (ForPages pages align) (ForBlock cpu asked)) once named (NoHole (ForPages pages align)) _ refl refl refl refl (λ page h. h))
+  block_by (FindingAgain (ForPages pages align) (ForArea kd)) s is proper own plain once named at (inl w) legal = as_b c m k fine has all (FindingAgain (ForPages pages align) (ForArea kd)) once named s (Carve (span w.0 pages) align) w.1 legal (λ l. quiet_b c m k fine has all (FindingAgain (ForPages pages align) (ForArea kd)) once named (Carve (span w.0 pages) align) _ refl refl refl refl (λ page h. h))
+  block_by (FindingAgain (ForPages pages align) (ForArea kd)) s is proper own plain once named at (inr w) legal = as_b c m k fine has all (FindingAgain (ForPages pages align) (ForArea kd)) once named s (NoHole (ForPages pages align)) w legal (λ l. quiet_b c m k fine has all (FindingAgain (ForPages pages align) (ForArea kd)) once named (NoHole (ForPages pages align)) _ (no_space_un (ForArea kd)) refl refl refl (λ page h. h))
+  block_by (FindingAgain (ForPages pages align) (ForBlock cpu asked)) s is proper own plain once named at (inl w) legal = as_b c m k fine has all (FindingAgain (ForPages pages align) (ForBlock cpu asked)) once named s (Carve (span w.0 pages) align) w.1 legal (λ l. quiet_b c m k fine has all (FindingAgain (ForPages pages align) (ForBlock cpu asked)) once named (Carve (span w.0 pages) align) _ refl refl refl refl (λ page h. h))
+  block_by (FindingAgain (ForPages pages align) (ForBlock cpu asked)) s is proper own plain once named at (inr w) legal = as_b c m k fine has all (FindingAgain (ForPages pages align) (ForBlock cpu asked)) once named s (NoHole (ForPages pages align)) w legal (λ l. quiet_b c m k fine has all (FindingAgain (ForPages pages align) (ForBlock cpu asked)) once named (NoHole (ForPages pages align)) _ (no_space_un (ForBlock cpu asked)) refl refl refl (λ page h. h))
+  block_by (MappingArea place kd) s is proper own plain once named at (inl w) legal = as_b c m k fine has all (MappingArea place kd) once named s (MapPages (mapped_part kd place)) w legal (λ l. held_b c m k fine has all (MappingArea place kd) once named (MapPages (mapped_part kd place)) _ refl refl refl
+      (λ page free. record { frame = ungiven (pages_of (mapped_part kd place)) (free_frames c m.frames) m.frames page (outside_row (mapped_part kd place) page (not_mapped kd place page (λ t. free (own.held page (covers_one place page ∙ t))))); clean = λ h. h }))
+  block_by (MappingArea place kd) s is proper own plain once named at (inr w) legal = as_b c m k fine has all (MappingArea place kd) once named s (NoFrames (mapped_part kd place).pages) w legal (λ l. quiet_b c m k fine has all (MappingArea place kd) once named (NoFrames (mapped_part kd place).pages) _ refl refl refl refl (λ page h. h))
+  block_by (Dropping place) s is proper own plain once named at w legal = as_b c m k fine has all (Dropping place) once named s (Drop place) w legal (λ l. quiet_b c m k fine has all (Dropping place) once named (Drop place) _ tt refl refl refl (λ page h. h))
+  block_by (SettlingArea place kd) s is proper own plain once named at w legal = as_b c m k fine has all (SettlingArea place kd) once named s (Settle ((place, kd) ∷ []) w.0) w.1 legal
+      (λ l. settle_b c m k fine has all (SettlingArea place kd) once named ((place, kd) ∷ []) w.0 _ (λ start. omega arith) tt)
+  block_by (Removing start serial) s is proper own plain once named at (inl w) legal = as_b c m k fine has all (Removing start serial) once named s (Remove start serial w.0) w.1 legal
+      (λ l. remove_b c m k fine has all (Removing start serial) once named start serial w.0 _ refl l (plain w.0 l))
+  block_by (Removing start serial) s is proper own plain once named at (inr w) legal = as_b c m k fine has all (Removing start serial) once named s (AreaNotLive start serial) w legal (λ l. quiet_b c m k fine has all (Removing start serial) once named (AreaNotLive start serial) _ tt refl refl refl (λ page h. h))
+  block_by (UnmappingArea area) s is proper own plain once named at w legal = as_b c m k fine has all (UnmappingArea area) once named s (Unmap (mapped_part area.kind area.span)) w legal (λ l. held_b c m k fine has all (UnmappingArea area) once named (Unmap (mapped_part area.kind area.span)) _ refl refl refl
+      (λ page free. (let out = not_mapped area.kind area.span page (λ t. free (own.held page (covers_one area.span page ∙ t))) in
+      record { frame = unpainted (holds (mapped_part area.kind area.span)) None m.frames page out; clean = λ h. unpainted (holds (mapped_part area.kind area.span)) true m.stale page out ∙ h })))
+  block_by (Waiting spans after) s is proper own plain once named at w legal = as_b c m k fine has all (Waiting spans after) once named s (Wait spans w.0) w.1 legal (λ l. quiet_b c m k fine has all (Waiting spans after) once named (Wait spans w.0) _ (either_next IsUnblocky (nat_lt c.lazy w.0) _ _ refl (went_on_un after)) refl refl refl (λ page h. h))
+  block_by (PurgeTaking extra after) s is proper own plain once named at w legal = as_b c m k fine has all (PurgeTaking extra after) once named s TakePurge w legal (λ l. purge_begins extra after named)
+  block_by (PurgeFragmenting cpu gone extra after) s is proper own plain once named at w legal = as_b c m k fine has all (PurgeFragmenting cpu gone extra after) once named s (Fragment cpu w.0) w.1 legal
+      (λ l. fragment_by cpu gone w.0 extra after (starts_one (PurgeFragmenting cpu gone extra after) named) l at (nat_lt (suc cpu) (cpus c)))
+  block_by (PurgeUnlinking gone extra after) s is proper own plain once named at w legal = as_b c m k fine has all (PurgeUnlinking gone extra after) once named s (Unlink gone) w legal (λ l. unlink_b c m k fine has all (PurgeUnlinking gone extra after) once named gone _ refl refl)
+  block_by (PurgeWaiting gone extra after) s is proper own plain once named at w legal = as_b c m k fine has all (PurgeWaiting gone extra after) once named s (Wait (block_spans c gone) w.0) w.1 legal (λ l. quiet_b c m k fine has all (PurgeWaiting gone extra after) once named (Wait (block_spans c gone) w.0) _ refl refl refl refl (λ page h. h))
+  block_by (PurgeCollecting extra after) s is proper own plain once named at w legal = as_b c m k fine has all (PurgeCollecting extra after) once named s (TakeWaiting w.0) w.1 legal (λ l. quiet_b c m k fine has all (PurgeCollecting extra after) once named (TakeWaiting w.0) _ (collected_un w.0 _ after) refl refl refl (λ page h. h))
+  block_by (PurgeFlushing hull waited after) s is proper own plain once named at w legal = as_b c m k fine has all (PurgeFlushing hull waited after) once named s (Flush hull) w legal
+      (λ l. quiet_b c m k fine has all (PurgeFlushing hull waited after) once named (Flush hull) _ (flushed_un waited after) refl refl refl (λ page h. painted_still (holds hull) false m.stale page h))
+  block_by (PurgeReturning waited after) s is proper own plain once named at w legal = as_b c m k fine has all (PurgeReturning waited after) once named s (Return waited) w legal (λ l. quiet_b c m k fine has all (PurgeReturning waited after) once named (Return waited) _ refl refl refl refl (λ page h. h))
+  block_by (PurgeGiving after) s is proper own plain once named at w legal = as_b c m k fine has all (PurgeGiving after) once named s (GivePurge) w legal (λ l. quiet_b c m k fine has all (PurgeGiving after) once named (GivePurge) _ (went_on_un after) refl refl refl (λ page h. h))
+  block_by (CuttingPart cpu pages) s is proper own plain once named at (inl w) legal = as_b c m k fine has all (CuttingPart cpu pages) once named s (CutPart w.0) w.3 legal
+      (λ l. cut_moved c m k all cpu pages w.0 named (let few = proper.1 in let small = has.small in omega (arith, w.2)) l)
+  block_by (CuttingPart cpu pages) s is proper own plain once named at (inr w) legal = as_b c m k fine has all (CuttingPart cpu pages) once named s (NoPart cpu pages) w legal (λ l. quiet_b c m k fine has all (CuttingPart cpu pages) once named (NoPart cpu pages) _ refl refl refl refl (λ page h. h))
+  block_by (SettlingBlock place cpu pages) s is proper own plain once named at w legal = as_b c m k fine has all (SettlingBlock place cpu pages) once named s (Settle ((place, kind.Block cpu) ∷ []) w.0) w.1 legal
+      (λ l. block_settled c m k fine has all place cpu pages w.0 once named own proper.0)
+  block_by (AddingBlock part) s is proper own plain once named at w legal = as_b c m k fine has all (AddingBlock part) once named s (AddBlock part) w legal
+      (λ l. (let high = rounded_high part.pages c.part_limit has.power proper.1 proper.2 in add_moved c m k all part at.0 at.2 proper.0 (let f = has.fits in omega arith) (let f = has.small in let g = proper.2 in omega arith)))
+  block_by (MappingPart part) s is proper own plain once named at (inl w) legal = as_b c m k fine has all (MappingPart part) once named s (MapPages (mapped_pages part)) w legal
+      (λ l. map_part part at.0 (less_one (MappingPart part) once) named at.1 (size_low part at.0) l)
+  block_by (MappingPart part) s is proper own plain once named at (inr w) legal = as_b c m k fine has all (MappingPart part) once named s (NoFrames part.pages) w legal
+      (λ l. no_frames_part part at.0 (less_one (MappingPart part) once) named part.pages _ at.1 (size_low part at.0))
+  block_by (SettlingPart part) s is proper own plain once named at w legal = as_b c m k fine has all (SettlingPart part) once named s (SettlePart part w.0) w.1 legal
+      (λ l. settle_part_moved c m k all part at.0 (starts_one (SettlingPart part) named) w.0 _ _ at.1)
+  block_by (BeginningUnmap cpu page serial) s is proper own plain once named at (inl w) legal = as_b c m k fine has all (BeginningUnmap cpu page serial) once named s (BeginUnmap w.0 serial) w.3 legal
+      (λ l. begin_moved c m k all (starts_one (BeginningUnmap cpu page serial) named) cpu page serial w.0 l)
+  block_by (BeginningUnmap cpu page serial) s is proper own plain once named at (inr w) legal = as_b c m k fine has all (BeginningUnmap cpu page serial) once named s (PartNotLive cpu page serial) w legal (λ l. quiet_b c m k fine has all (BeginningUnmap cpu page serial) once named (PartNotLive cpu page serial) _ tt refl refl refl (λ page h. h))
+  block_by (UnmappingPart part) s is proper own plain once named at w legal = as_b c m k fine has all (UnmappingPart part) once named s (Unmap (mapped_pages part)) w legal
+      (λ l. unmap_part part at.0 (less_one (UnmappingPart part) once) named _ at.1)
+  block_by (Retiring part r) s is proper own plain once named at w legal = as_b c m k fine has all (Retiring part r) once named s (Retire part w.0) w.1 legal
+      (λ l. retire_moved c m k all part at.0 (starts_one (Retiring part r) named) at.1 r w.0 l.1)
+  block_by (UnlinkingBlock start r) s is proper own plain once named at w legal = as_b c m k fine has all (UnlinkingBlock start r) once named s (Unlink (start ∷ [])) w legal (λ l. unlink_b c m k fine has all (UnlinkingBlock start r) once named (start ∷ []) _ refl refl)
+  block_by (LookingAtDirty cpu ranges) s is proper own plain once named at w legal = as_b c m k fine has all (LookingAtDirty cpu ranges) once named s (Dirty cpu w.0) w.1 legal (λ l. quiet_b c m k fine has all (LookingAtDirty cpu ranges) once named (Dirty cpu w.0) _ (either_next IsUnblocky (nat_lt (suc cpu) (cpus c)) _ _ refl refl) refl refl refl (λ page h. h))
+  block_by _ s is proper own plain once named at w legal = absurd is

@@ -1,0 +1,240 @@
+-- What each section does to blocks and parts at its place, for callers that use no per-CPU object.
+use Rattle.std.proofs.Common.{◌≡◌, ℕ, zero, suc, ◌+◌, ◌<◌, ◌≤◌, ◌⊎◌, inl, inr, Bool, true, false, not, ◌==◌, nat_lt, if◌then◌else◌, List, [], ◌∷◌, slice_get, Option, Some, None, refl, ap, sym, ◌∙◌, subst, arith}
+use Rattle.vm_model.specs.declared.areas.Span.{Span}
+use Rattle.vm_model.specs.declared.areas.Area.{Area}
+use Rattle.vm_model.specs.declared.areas.AreaKind.{AreaKind}
+use Rattle.vm_model.specs.declared.areas.AreaKind.TheVariants as kind
+use Rattle.vm_model.specs.declared.calls.Reply.TheVariants as reply
+use Rattle.vm_model.specs.Space.{span, holds, is_among, one_if, put_by}
+use Rattle.vm_model.specs.Setup.{Setup}
+use Rattle.vm_model.specs.PlainMap.{PlainMap, Block, Held}
+use Rattle.vm_model.specs.Areas.{is_area, named_areas, areas_of, with_areas}
+use Rattle.vm_model.specs.Blocks.{PartAt}
+use Rattle.vm_model.specs.Legal.{IsLegalAs, IsMarked}
+use Rattle.vm_model.specs.Events.{Section, Search, ForPages, ForGroups, Settle, Remove, Unlink}
+use Rattle.vm_model.specs.Effects.{effect_as}
+use Rattle.vm_model.specs.Places.{Place, PurgeFragmenting, PurgeUnlinking, SettlingBlock, AddingBlock, MappingPart, SettlingPart, UnmappingPart, Retiring, UnlinkingBlock, AddingChunk, Depopulating, UnlinkingGroups, MadeNothing, Aim, ForArea, ForBlock, ForChunk, Then, SearchAgain, ReplyWith, SpareAgain}
+use Rattle.vm_model.specs.Next.{Next, Go, Answer, next, found, without_space, after_remove, go_on, after_collecting, after_flush}
+use Rattle.vm_model.specs.Carried.{count_of, starts_out}
+use Rattle.vm_model.specs.Rules.{IsPower}
+use Rattle.map_laws.proofs.Chosen.{IsIn, in_more, filter_in}
+use Rattle.map_laws.proofs.Places.{OnNext, IsPlainKind}
+use Rattle.map_laws.proofs.Spans.{times-one, covers_one, holds_to, holds_from}
+use Rattle.map_laws.proofs.AreaFacts.{IsHolding, IsMapFine, own_uses}
+use Rattle.map_laws.proofs.MapMoves.{area_times}
+use Rattle.map_laws.proofs.MapPlaces.{IsMapSearch}
+use Rattle.map_laws.proofs.BlockFacts.{IsStill, IsBlockArea, IsBlockFine, IsPartIn, IsBlockAt, block_starts, count_cons, not_among, counted_block, to_same}
+use Rattle.map_laws.proofs.BlockMoves.{next_out, IsBlockMoved, outer_moved, area_holds}
+use Rattle.map_laws.proofs.BlockChanges.{in_of}
+
+-- places of which nothing is said as to blocks
+abbrev pub is_blocky : Place → Bool
+is_blocky (PurgeFragmenting cpu gone extra after) = true
+is_blocky (PurgeUnlinking gone extra after) = true
+is_blocky (UnlinkingBlock start reply) = true
+is_blocky (AddingBlock at) = true
+is_blocky (MappingPart at) = true
+is_blocky (SettlingPart at) = true
+is_blocky (UnmappingPart at) = true
+is_blocky (Retiring at reply) = true
+is_blocky (AddingChunk base chunk bytes align) = true
+is_blocky (Depopulating base populated) = true
+is_blocky (UnlinkingGroups base) = true
+is_blocky _ = false
+
+abbrev pub IsUnblocky : Place → Type 0
+IsUnblocky p = is_blocky p ≡ false
+
+pub unblocky_out : (c : Setup) (p : Place) (start : ℕ) → IsUnblocky p → count_of start (starts_out c p) ≡ 0
+unblocky_out c (PurgeFragmenting cpu gone extra after) start h = cc
+unblocky_out c (PurgeUnlinking gone extra after) start h = cc
+unblocky_out c (UnlinkingBlock s reply) start h = cc
+unblocky_out c (AddingBlock at) start h = cc
+unblocky_out c (AddingChunk base chunk bytes align) start h = cc
+unblocky_out c (Depopulating base populated) start h = cc
+unblocky_out c (UnlinkingGroups base) start h = cc
+unblocky_out c _ start h = refl
+
+pub unblocky_at : (c : Setup) (m : PlainMap) (k : ℕ) (p : Place) → IsUnblocky p → IsBlockAt c m k p
+unblocky_at c m k (PurgeFragmenting cpu gone extra after) h = cc
+unblocky_at c m k (PurgeUnlinking gone extra after) h = cc
+unblocky_at c m k (UnlinkingBlock s reply) h = cc
+unblocky_at c m k (AddingBlock at) h = cc
+unblocky_at c m k (MappingPart at) h = cc
+unblocky_at c m k (SettlingPart at) h = cc
+unblocky_at c m k (UnmappingPart at) h = cc
+unblocky_at c m k (Retiring at reply) h = cc
+unblocky_at c m k _ h = tt
+
+no_next_out : (c : Setup) (n : Next) (start : ℕ) → OnNext IsUnblocky n → next_out c n start ≡ 0
+no_next_out c (Go p) start h = unblocky_out c p start h
+no_next_out c (Answer r made) start h = refl
+
+no_next_at : (c : Setup) (m : PlainMap) (k : ℕ) (n : Next) → OnNext IsUnblocky n → OnNext (IsBlockAt c m k) n
+no_next_at c m k (Go p) h = unblocky_at c m k p h
+no_next_at c m k (Answer r made) h = tt
+
+pub found_un : (search : Search) (aim : Aim) (o : Option Span) (base : Option ℕ) (otherwise : Next) → IsMapSearch search aim → OnNext IsUnblocky otherwise → OnNext IsUnblocky (found aim o base otherwise)
+found_un search (ForArea k) (Some place) base otherwise is h = refl
+found_un search (ForArea k) None (Some base) otherwise is h = tt
+found_un search (ForArea k) None None otherwise is h = h
+found_un search (ForBlock cpu pages) (Some place) base otherwise is h = refl
+found_un search (ForBlock cpu pages) None (Some base) otherwise is h = tt
+found_un search (ForBlock cpu pages) None None otherwise is h = h
+found_un (ForPages pages align) (ForChunk chunk bytes to) o base otherwise is h = absurd is
+found_un ForGroups (ForChunk chunk bytes to) o base otherwise is h = absurd is
+
+pub no_space_un : (aim : Aim) → OnNext IsUnblocky (without_space aim)
+no_space_un (ForArea k) = tt
+no_space_un (ForBlock cpu pages) = tt
+no_space_un (ForChunk chunk bytes align) = refl
+
+pub removed_un : (o : Option Area) → OnNext IsUnblocky (after_remove o)
+removed_un None = tt
+removed_un (Some area) = refl
+
+pub went_on_un : (after : Then) → OnNext IsUnblocky (go_on after)
+went_on_un (SearchAgain search aim) = refl
+went_on_un (ReplyWith reply) = tt
+went_on_un SpareAgain = refl
+
+pub collected_un : (waited : List Span) (o : Option Span) (after : Then) → OnNext IsUnblocky (after_collecting waited o after)
+collected_un waited None after = refl
+collected_un waited (Some s) after = refl
+
+pub flushed_un : (waited : List Span) (after : Then) → OnNext IsUnblocky (after_flush waited after)
+flushed_un [] after = refl
+flushed_un (s ∷ waited) after = refl
+
+-- Areas that stay among others.
+
+put_keeps_by : (key : Area → ℕ) (x y : Area) (ys : List Area) (t : Bool) (a : Area) → IsIn a (y ∷ ys) → (IsIn a ys → IsIn a (put_by key x ys)) → IsIn a (if t then x ∷ y ∷ ys else y ∷ put_by key x ys)
+put_keeps_by key x y ys true a h more = in_more a x (y ∷ ys) h
+put_keeps_by key x y ys false a h more = by_place h.place h.at
+  where
+    by_place : (i : ℕ) → slice_get (y ∷ ys) i ≡ Some a → IsIn a (y ∷ put_by key x ys)
+    by_place zero e = record { place = 0; at = e }
+    by_place (suc i) e = in_more a y (put_by key x ys) (more (in_of ys i a e))
+
+put_keeps : (key : Area → ℕ) (x : Area) (ys : List Area) (a : Area) → IsIn a ys → IsIn a (put_by key x ys)
+put_keeps key x [] a h = (let no = h.at in cc)
+put_keeps key x (y ∷ ys) a h = put_keeps_by key x y ys _ a h (put_keeps key x ys a)
+
+with_keeps : (xs areas : List Area) (a : Area) → IsIn a areas → IsIn a (with_areas xs areas)
+with_keeps [] areas a h = h
+with_keeps (x ∷ xs) areas a h = with_keeps xs (put_by (λ (b : Area). b.span.start) x areas) a (put_keeps (λ (b : Area). b.span.start) x areas a h)
+
+put_new : (key : Area → ℕ) (x : Area) (ys : List Area) → IsIn x (put_by key x ys)
+put_new key x [] = record { place = 0; at = refl }
+put_new key x (y ∷ ys) = by_test (nat_lt (key x) (key y)) (put_new key x ys)
+  where
+    by_test : (t : Bool) → IsIn x (put_by key x ys) → IsIn x (if t then x ∷ y ∷ ys else y ∷ put_by key x ys)
+    by_test true more = record { place = 0; at = refl }
+    by_test false more = in_more x y (put_by key x ys) more
+
+-- a part in hand where the blocks are the same
+pub hand_same : (m m' : PlainMap) (k : ℕ) (at : PartAt) → m'.blocks ≡ m.blocks → IsPartIn m k at → IsPartIn m' k at
+hand_same m m' k at e is = record { block = is.block; there = subst (IsIn is.block) (sym e) is.there; start = is.start; part = is.part; part_there = is.part_there; offset = is.offset; pages = is.pages; life = is.life }
+
+pub not_held : (s : Span) (page : ℕ) → (page < s.start) ⊎ (s.start + s.pages ≤ page) → holds s page ≡ false
+not_held s page out = by_test (holds s page) refl
+  where
+    by_test : (t : Bool) → holds s page ≡ t → holds s page ≡ false
+    by_test true e = absurd (let r = holds_to s page e in elim out [ inl low ↦ omega arith | inr high ↦ omega arith ])
+    by_test false e = e
+
+-- what the numbers of a header say of parts
+pub record HasParts (c : Setup) : Type 0 where
+  pub power : IsPower c.part_limit
+  pub fits : c.part_limit ≤ c.block_pages
+  pub small : c.part_limit ≤ 1048576
+  pub some : 1 ≤ c.block_pages
+
+module _ (c : Setup) (m : PlainMap) (k : ℕ) (fine : IsMapFine m) (has : HasParts c) (all : (b : Block) → IsIn b m.blocks → IsBlockFine c m b) where
+  module _ (p : Place) (once : (page : ℕ) → own_uses c m p page ≤ 1) (named : (start : ℕ) → count_of start (block_starts m.blocks) + count_of start (starts_out c p) ≤ 1) where
+    -- a section that leaves blocks, block areas and frames
+    pub quiet_b : (s : Section) (n : Next) → OnNext IsUnblocky n → (effect_as c m k s).blocks ≡ m.blocks → (effect_as c m k s).areas ≡ m.areas → (effect_as c m k s).frames ≡ m.frames
+        → ((page : ℕ) → slice_get m.stale page ≡ Some false → slice_get (effect_as c m k s).stale page ≡ Some false) → IsBlockMoved c m k p s n
+    quiet_b s n un blocks areas frames clean = outer_moved c m k p s n all named blocks (λ a cpu there kd z. subst (IsIn a) (sym areas) there)
+        (λ page start area a b. record { frame = ap (λ l. slice_get l page) frames; clean = clean page }) (λ start. omega (arith, no_next_out c n start un)) (no_next_at c (effect_as c m k s) k n un)
+
+    pub settle_b : (areas : List (Span × AreaKind)) (first : ℕ) (n : Next) → ((start : ℕ) → next_out c n start ≤ count_of start (starts_out c p)) → OnNext (IsBlockAt c (effect_as c m k (Settle areas first)) k) n → IsBlockMoved c m k p (Settle areas first) n
+    settle_b areas first n outs own = outer_moved c m k p (Settle areas first) n all named refl (λ a cpu there kd z. with_keeps (areas_of k first areas) m.areas a there)
+        (λ page start area a b. record { frame = refl; clean = λ h. h }) outs own
+
+    -- frames of pages that the caller holds
+    pub held_b : (s : Section) (n : Next) → OnNext IsUnblocky n → (effect_as c m k s).blocks ≡ m.blocks → (effect_as c m k s).areas ≡ m.areas
+        → ((page : ℕ) → (IsMarked m (Held k) page → ⊥) → IsStill m (effect_as c m k s) page) → IsBlockMoved c m k p s n
+    held_b s n un blocks areas still = outer_moved c m k p s n all named blocks (λ a cpu there kd z. subst (IsIn a) (sym areas) there)
+        (λ page start area a b. still page (λ h. (let live = (fine.areas area.there.place area.area area.there.at).marked page (covers_one area.area.span page ∙ area_holds c m start area page a b) in cc)))
+        (λ start. omega (arith, no_next_out c n start un)) (no_next_at c (effect_as c m k s) k n un)
+
+    pub remove_b : (start serial : ℕ) (area : Area) (n : Next) → OnNext IsUnblocky n → named_areas start serial m.areas ≡ area ∷ [] → IsPlainKind area.kind → IsBlockMoved c m k p (Remove start serial area) n
+    remove_b start serial area n un legal plain = outer_moved c m k p (Remove start serial area) n all named refl
+        (λ a cpu there kd z. filter_in (λ x. not (is_area start serial x)) m.areas a there.place there.at (unnamed a cpu there kd (is_area start serial a) refl))
+        (λ page start area a b. record { frame = refl; clean = λ h. h }) (λ start. omega (arith, no_next_out c n start un)) (no_next_at c (effect_as c m k (Remove start serial area)) k n un)
+      where
+        only : (a : Area) → IsIn a (area ∷ []) → a ≡ area
+        only a there = by_place there.place there.at
+          where
+            by_place : (i : ℕ) → slice_get (area ∷ []) i ≡ Some a → a ≡ area
+            by_place zero e = (let same : area ≡ a = cc in sym same)
+            by_place (suc i) e = cc
+
+        unnamed : (a : Area) (cpu : ℕ) → IsIn a m.areas → a.kind ≡ kind.Block cpu → (t : Bool) → is_area start serial a ≡ t → not (is_area start serial a) ≡ true
+        unnamed a cpu there kd true e =
+            let same = only a (subst (IsIn a) legal (filter_in (is_area start serial) m.areas a there.place there.at e)) in
+            let block : IsPlainKind (kind.Block cpu) = subst IsPlainKind kd (subst (λ (x : Area). IsPlainKind x.kind) (sym same) plain) in absurd block
+        unnamed a cpu there kd false e = ap not e
+
+    pub unlink_b : (starts : List ℕ) (n : Next) → starts_out c p ≡ starts → OnNext IsUnblocky n → IsBlockMoved c m k p (Unlink starts) n
+    unlink_b starts n e un = outer_moved c m k p (Unlink starts) n all named refl
+        (λ a cpu there kd z. filter_in (λ (x : Area). not (is_among starts x.span.start)) m.areas a there.place there.at (ap not (not_among a.span.start starts (sym (ap (count_of a.span.start) e) ∙ z))))
+        (λ page start area a b. record { frame = refl; clean = λ h. h }) (λ start. omega (arith, no_next_out c n start un)) (no_next_at c (effect_as c m k (Unlink starts)) k n un)
+
+    pub as_b : (s t : Section) → s ≡ t → IsLegalAs c m k s → (IsLegalAs c m k t → IsBlockMoved c m k p t (next c p t)) → IsBlockMoved c m k p s (next c p s)
+    as_b s t e legal f = subst (λ (x : Section). IsBlockMoved c m k p x (next c p x)) (sym e) (f (subst (IsLegalAs c m k) e legal))
+
+  -- A block that is settled.
+
+  module _ (place : Span) (cpu pages first : ℕ) (once : (page : ℕ) → own_uses c m (SettlingBlock place cpu pages) page ≤ 1)
+      (named : (start : ℕ) → count_of start (block_starts m.blocks) + count_of start (starts_out c (SettlingBlock place cpu pages)) ≤ 1)
+      (own : IsHolding c m k (SettlingBlock place cpu pages)) (size : place.pages ≡ c.block_pages) where
+    -- no other block area has its start
+    never : IsBlockArea c m place.start → ⊥
+    never area =
+        let here : one_if (holds place place.start) ≡ 1 = ap one_if (holds_from place place.start (omega arith) (let s = has.some in omega arith)) in
+        let there = area_times place.start m.areas area.there.place area.area area.there.at (covers_one area.area.span place.start ∙ area_holds c m place.start area place.start (omega arith) (let s = has.some in omega arith)) in
+        let o = once place.start in omega (arith, times-one place.start place)
+
+    fresh_names : (start others : ℕ) → count_of start (block_starts m.blocks) + others + 0 ≤ 1 → (1 ≤ others → IsBlockArea c m start) → (t : Bool) → (place.start == start) ≡ t
+        → count_of start (block_starts m.blocks) + others + count_of start (place.start ∷ []) ≤ 1
+    fresh_names start others o known true e =
+        let same = to_same place.start start e in
+        let none : count_of start (block_starts m.blocks) + others ≡ 0 = no_names (count_of start (block_starts m.blocks)) others refl refl in
+        omega (arith, count_cons start place.start [], ap one_if e)
+      where
+        no_names : (a b : ℕ) → count_of start (block_starts m.blocks) ≡ a → others ≡ b → a + b ≡ 0
+        no_names zero zero f g = refl
+        no_names zero (suc b) f g = absurd (never (subst (IsBlockArea c m) (sym (to_same place.start start e)) (known (omega arith))))
+        no_names (suc a) b f g = absurd (let is = counted_block start m.blocks (omega arith) in never (subst (IsBlockArea c m) (is.2 ∙ sym (to_same place.start start e)) (all is.0 is.1).area))
+    fresh_names start others o known false e = omega (arith, count_cons start place.start [], ap one_if e)
+
+    abbrev new_area : IsBlockArea c (effect_as c m k (Settle ((place, kind.Block cpu) ∷ []) first)) place.start
+    new_area = record {
+      area = record { span = place; kind = kind.Block cpu; caller = k; serial = first };
+      cpu = cpu;
+      there = put_new (λ (b : Area). b.span.start) (record { span = place; kind = kind.Block cpu; caller = k; serial = first }) m.areas;
+      span = ap (λ n. span place.start n) size;
+      kind = refl;
+    }
+
+    pub block_settled : IsBlockMoved c m k (SettlingBlock place cpu pages) (Settle ((place, kind.Block cpu) ∷ []) first) (Go (AddingBlock (record { cpu = cpu; block = place.start; offset = 0; pages = pages })))
+    block_settled =
+        let base = settle_b (SettlingBlock place cpu pages) once named ((place, kind.Block cpu) ∷ []) first (Answer reply.Done MadeNothing) (λ start. omega arith) tt in record {
+          names = λ start others o known. fresh_names start others o known _ refl;
+          blocks = base.blocks;
+          own = (new_area, refl, (λ page a b. (let was = own.bare page (covers_one place page ∙ holds_from place page a (omega arith)) in record { unmapped = was.unmapped; not_stale = was.not_stale })));
+          stays = base.stays;
+          hands = base.hands;
+        }

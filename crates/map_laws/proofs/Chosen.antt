@@ -1,0 +1,112 @@
+-- What a filter, a least element and a row of numbers hold.
+use Rattle.std.proofs.Common.{◌≡◌, ℕ, zero, suc, ◌+◌, ◌<◌, ◌≤◌, Bool, true, false, cond, nat_le, if◌then◌else◌, List, [], ◌∷◌, slice_get, filter, find, sum_by, Option, Some, None, refl, ap, sym, ◌∙◌, arith}
+use Rattle.std.proofs.lemmas.List.Sums.{sum_by-cons}
+use Rattle.vm_model.specs.Setup.{last_of}
+use Rattle.vm_model.specs.Space.{count_from, least_by, smaller_by}
+
+pub record IsIn {X : Type 0} (x : X) (xs : List X) : Type 0 where
+  pub place : ℕ
+  pub at : slice_get xs place ≡ Some x
+
+pub in_more : {X : Type 0} (x y : X) (xs : List X) → IsIn x xs → IsIn x (y ∷ xs)
+in_more x y xs h = record { place = suc h.place; at = h.at }
+
+-- what a filter keeps stood in the list and passes
+pub record IsKept {X : Type 0} (p : X → Bool) (xs : List X) (x : X) : Type 0 where
+  pub there : IsIn x xs
+  pub passes : p x ≡ true
+
+kept_more : {X : Type 0} (p : X → Bool) (xs : List X) (y x : X) → IsKept p xs x → IsKept p (y ∷ xs) x
+kept_more p xs y x h = record { there = in_more x y xs h.there; passes = h.passes }
+
+kept_by : {X : Type 0} (p : X → Bool) (xs : List X) (y : X) (b : Bool) → p y ≡ b → (i : ℕ) (x : X) → slice_get (cond b (y ∷ filter p xs) (filter p xs)) i ≡ Some x
+    → ((j : ℕ) → slice_get (filter p xs) j ≡ Some x → IsKept p xs x) → IsKept p (y ∷ xs) x
+kept_by p xs y true e zero x h more = let same : y ≡ x = cc in record { there = record { place = 0; at = h }; passes = ap p (sym same) ∙ e }
+kept_by p xs y true e (suc i) x h more = kept_more p xs y x (more i h)
+kept_by p xs y false e i x h more = kept_more p xs y x (more i h)
+
+pub filter_has : {X : Type 0} (p : X → Bool) (xs : List X) (i : ℕ) (x : X) → slice_get (filter p xs) i ≡ Some x → IsKept p xs x
+filter_has p [] i x h = cc
+filter_has p (y ∷ xs) i x h = kept_by p xs y _ refl i x h (λ j e. filter_has p xs j x e)
+
+filter_keeps_by : {X : Type 0} (p : X → Bool) (xs : List X) (y x : X) (b : Bool) → p y ≡ b → IsIn x (filter p xs) → IsIn x (cond b (y ∷ filter p xs) (filter p xs))
+filter_keeps_by p xs y x true e h = in_more x y (filter p xs) h
+filter_keeps_by p xs y x false e h = h
+
+-- the least is one of the elements
+least_of : {X : Type 0} (key : X → ℕ) (x : X) (xs : List X) (o : Option X) (y : X) → least_by key xs ≡ o → smaller_by key x o ≡ Some y → ((z : X) → least_by key xs ≡ Some z → IsIn z xs) → IsIn y (x ∷ xs)
+least_of key x xs None y e h more = record { place = 0; at = h }
+least_of key x xs (Some z) y e h more = case (nat_le (key x) (key z)) refl
+  where
+    case : (b : Bool) → nat_le (key x) (key z) ≡ b → IsIn y (x ∷ xs)
+    case true t = record { place = 0; at = (let is : (if nat_le (key x) (key z) then Some x else Some z) ≡ Some x = ap (λ b. if b then Some x else Some z) t in sym is ∙ h) }
+    case false t = let is : (if nat_le (key x) (key z) then Some x else Some z) ≡ Some z = ap (λ b. if b then Some x else Some z) t in
+        in_more y x xs (more y (e ∙ sym is ∙ h))
+
+pub least_in : {X : Type 0} (key : X → ℕ) (xs : List X) (y : X) → least_by key xs ≡ Some y → IsIn y xs
+least_in key [] y h = cc
+least_in key (x ∷ xs) y h = least_of key x xs _ y refl h (least_in key xs)
+
+-- where there is an element there is a least one
+smaller_some : {X : Type 0} (key : X → ℕ) (x : X) (o : Option X) → (y : X) × (smaller_by key x o ≡ Some y)
+smaller_some key x None = (x, refl)
+smaller_some key x (Some z) = case (nat_le (key x) (key z)) refl
+  where
+    case : (b : Bool) → nat_le (key x) (key z) ≡ b → (y : _) × ((if nat_le (key x) (key z) then Some x else Some z) ≡ Some y)
+    case true t = (x, ap (λ b. if b then Some x else Some z) t)
+    case false t = (z, ap (λ b. if b then Some x else Some z) t)
+
+pub least_some : {X : Type 0} (key : X → ℕ) (xs : List X) (x : X) → IsIn x xs → (y : X) × (least_by key xs ≡ Some y)
+least_some key [] x h = let at = h.at in cc
+least_some key (z ∷ xs) x h = smaller_some key z (least_by key xs)
+
+pub filter_in : {X : Type 0} (p : X → Bool) (xs : List X) (x : X) (i : ℕ) → slice_get xs i ≡ Some x → p x ≡ true → IsIn x (filter p xs)
+filter_in p [] x i h e = cc
+filter_in p (y ∷ xs) x zero h e = let same : y ≡ x = cc in
+    let now : filter p (y ∷ xs) ≡ y ∷ filter p xs = ap (λ b. cond b (y ∷ filter p xs) (filter p xs)) (ap p same ∙ e) in
+    record { place = 0; at = ap (λ l. slice_get l 0) now ∙ h }
+filter_in p (y ∷ xs) x (suc i) h e = filter_keeps_by p xs y x _ refl (filter_in p xs x i h e)
+
+-- a sum loses what a filter leaves out
+sum_kept : {X : Type 0} (f : X → ℕ) (p : X → Bool) (y : X) (xs : List X) (b : Bool) → sum_by f (cond b (y ∷ filter p xs) (filter p xs)) ≤ f y + sum_by f (filter p xs)
+sum_kept f p y xs true = omega (arith, sum_by-cons f y (filter p xs))
+sum_kept f p y xs false = omega arith
+
+pub sum_by-filter-le : {X : Type 0} (f : X → ℕ) (p : X → Bool) (xs : List X) → sum_by f (filter p xs) ≤ sum_by f xs
+sum_by-filter-le f p [] = omega arith
+sum_by-filter-le f p (y ∷ xs) = omega (arith, sum_kept f p y xs (p y), sum_by-filter-le f p xs, sum_by-cons f y xs)
+
+pub sum_without : {X : Type 0} (f : X → ℕ) (p : X → Bool) (xs : List X) (x : X) (i : ℕ) → slice_get xs i ≡ Some x → p x ≡ false → sum_by f (filter p xs) + f x ≤ sum_by f xs
+sum_without f p [] x i h e = cc
+sum_without f p (y ∷ xs) x zero h e =
+    let same : y ≡ x = cc in
+    let now : filter p (y ∷ xs) ≡ filter p xs = ap (λ b. cond b (y ∷ filter p xs) (filter p xs)) (ap p same ∙ e) in
+    omega (arith, ap (sum_by f) now, ap f same, sum_by-filter-le f p xs, sum_by-cons f y xs)
+sum_without f p (y ∷ xs) x (suc i) h e = omega (arith, sum_kept f p y xs (p y), sum_without f p xs x i h e, sum_by-cons f y xs)
+
+-- the sum has each of its terms
+pub sum_has : {X : Type 0} (f : X → ℕ) (xs : List X) (x : X) (i : ℕ) → slice_get xs i ≡ Some x → f x ≤ sum_by f xs
+sum_has f [] x i h = cc
+sum_has f (y ∷ xs) x zero h = let same : y ≡ x = cc in omega (arith, ap f same, sum_by-cons f y xs)
+sum_has f (y ∷ xs) x (suc i) h = omega (arith, sum_has f xs x i h, sum_by-cons f y xs)
+
+-- a row of numbers
+pub count_from-below : (n first i x : ℕ) → slice_get (count_from n first) i ≡ Some x → x < first + n
+count_from-below zero first i x h = cc
+count_from-below (suc n) first zero x h = let same : first ≡ x = cc in omega arith
+count_from-below (suc n) first (suc i) x h = omega (arith, count_from-below n (suc first) i x h)
+
+-- what is found is in the list and passes
+find_by : {X : Type 0} (p : X → Bool) (xs : List X) (y x : X) (b : Bool) → p y ≡ b → cond b (Some y) (find p xs) ≡ Some x → (find p xs ≡ Some x → IsIn x xs × (p x ≡ true)) → IsIn x (y ∷ xs) × (p x ≡ true)
+find_by p xs y x true e h more = let same : y ≡ x = cc in (record { place = 0; at = h }, ap p (sym same) ∙ e)
+find_by p xs y x false e h more = let is = more h in (in_more x y xs is.0, is.1)
+
+pub find_has : {X : Type 0} (p : X → Bool) (xs : List X) (x : X) → find p xs ≡ Some x → IsIn x xs × (p x ≡ true)
+find_has p [] x h = cc
+find_has p (y ∷ xs) x h = find_by p xs y x _ refl h (find_has p xs x)
+
+-- the last of the elements is one of them
+pub last_in : {X : Type 0} (xs : List X) (x : X) → last_of xs ≡ Some x → IsIn x xs
+last_in [] x h = cc
+last_in (y ∷ []) x h = record { place = 0; at = h }
+last_in (y ∷ z ∷ xs) x h = in_more x y (z ∷ xs) (last_in (z ∷ xs) x h)

@@ -1,0 +1,140 @@
+-- What every caller has beside its place, and how a fact is carried from the first world to each reached one.
+use Rattle.std.proofs.Common.{◌≡◌, ◌≢◌, ℕ, zero, suc, ◌+◌, ◌<◌, ◌⊎◌, inl, inr, List, [], ◌∷◌, ◌++◌, length, slice_get, Option, Some, None, refl, ap, sym, ◌∙◌, subst, arith, length-append, length-set}
+use Rattle.std.proofs.lemmas.Option.{slice_get_within}
+use Rattle.vm_model.specs.declared.calls.Call.{Call}
+use Rattle.vm_model.specs.Setup.{Setup}
+use Rattle.vm_model.specs.PlainMap.{PlainMap}
+use Rattle.vm_model.specs.Events.{Section, Event}
+use Rattle.vm_model.specs.Places.{Place, Over, ask}
+use Rattle.vm_model.specs.Next.{Next, Go, Answer, next}
+use Rattle.vm_model.specs.Calls.{Answered, begin}
+use Rattle.vm_model.specs.Given.{given}
+use Rattle.vm_model.specs.History.{Local, World, started, answered, answered_of, moved_to, made_by, opening_world, opening_answers, callers_from, with_callers}
+use Rattle.vm_model.specs.LegalHistory.{IsNext, IsNextOf, IsRun, IsReached, AllOver, after_event, after_event_of, world_after, callers_world}
+use Rattle.vm_model.proofs.OneNext.{one_next}
+use Rattle.map_laws.proofs.Lists.{set_cases, append_cases}
+
+-- the caller stands under its number, over this setup, and has a call at hand or has ended
+pub record IsOwn (c : Setup) (k : ℕ) (l : Local) : Type 0 where
+  pub setup : l.setup ≡ c
+  pub caller : l.caller ≡ k
+  pub call : (l.place ≡ Over) ⊎ (length l.answers < length l.calls)
+
+pub record IsFramed (c : Setup) (w : World) : Type 0 where
+  pub own : (k : ℕ) (l : Local) → slice_get w.locals k ≡ Some l → IsOwn c k l
+
+-- the section that a caller makes next
+pub record IsStep (w : World) (k : ℕ) (l : Local) (s : Section) : Type 0 where
+  pub here : slice_get w.locals k ≡ Some l
+  pub gives : given l.setup w.map (ask l.setup l.place) ≡ Some s
+
+-- who makes a section hasn't ended
+pub not_over : (c : Setup) (m : PlainMap) (p : Place) (s : Section) → given c m (ask c p) ≡ Some s → p ≢ Over
+not_over c m p s h e = let none : given c m (ask c Over) ≡ Some s = subst (λ (q : Place). given c m (ask c q) ≡ Some s) e h in cc
+
+module _ (c : Setup) (k : ℕ) (l : Local) (own : IsOwn c k l) where
+  pub has_call : l.place ≢ Over → length l.answers < length l.calls
+  has_call n = elim own.call [ inl e ↦ absurd (n e) | inr h ↦ h ]
+
+  own_answered : (answer : Answered) (o : Option Call) → slice_get l.calls (suc (length l.answers)) ≡ o → IsOwn c k (answered l answer)
+  own_answered answer None h = record { setup = own.setup; caller = own.caller; call = inl (ap (begin l.setup l.opening (l.answers ++ answer ∷ [])) h) }
+  own_answered answer (Some call) h = record {
+    setup = own.setup;
+    caller = own.caller;
+    call = inr (let n = slice_get_within l.calls (suc (length l.answers)) call h in omega (arith, length-append l.answers (answer ∷ [])));
+  }
+
+  own_answered_of : (answer : Call → Answered) (o : Option Call) → slice_get l.calls (length l.answers) ≡ o → IsOwn c k (answered_of l o answer)
+  own_answered_of answer None h = own
+  own_answered_of answer (Some call) h = own_answered (answer call) _ refl
+
+  pub own_moved : l.place ≢ Over → (n : Next) → IsOwn c k (moved_to l n)
+  own_moved n (Go place) = record { setup = own.setup; caller = own.caller; call = inr (has_call n) }
+  own_moved n (Answer reply made) = own_answered_of _ _ refl
+
+pub framed_step : (c : Setup) (w : World) (k : ℕ) (l : Local) (s : Section) → IsFramed c w → IsStep w k l s → IsFramed c (made_by w l s)
+framed_step c w k l s framed step = record {
+  own = λ j l' h. let is = framed.own k l step.here in
+      elim (set_cases w.locals l.caller j _ l' h) [
+        | inl e ↦ subst (λ (x : Local). IsOwn c j x) (sym e.1) (subst (λ i. IsOwn c i (moved_to l (next l.setup l.place s))) (sym is.caller ∙ sym e.0) (own_moved c k l is (not_over l.setup w.map l.place s step.gives) _))
+        | inr e ↦ framed.own j l' e.1
+      ];
+}
+
+-- a caller at its start
+own_started : (c : Setup) (opening : List Answered) (k : ℕ) (calls : List Call) (o : Option Call) → slice_get calls 0 ≡ o → IsOwn c k (started c opening k calls)
+own_started c opening k calls None h = record { setup = refl; caller = refl; call = inl (ap (begin c opening []) h) }
+own_started c opening k calls (Some call) h = record { setup = refl; caller = refl; call = inr (slice_get_within calls 0 call h) }
+
+pub framed_opening : (c : Setup) (opening : List Call) (calls : List (List Call)) → IsFramed c (opening_world c opening calls)
+framed_opening c opening calls = record { own = first }
+  where
+    first : (k : ℕ) (l : Local) → slice_get (started c [] 0 opening ∷ []) k ≡ Some l → IsOwn c k l
+    first zero l h = let e : started c [] 0 opening ≡ l = cc in subst (λ (x : Local). IsOwn c 0 x) e (own_started c [] 0 opening _ refl)
+    first (suc k) l h = cc
+
+own_callers : (c : Setup) (answers : List Answered) (first : ℕ) (calls : List (List Call)) (j : ℕ) (l : Local) → slice_get (callers_from c answers first calls) j ≡ Some l → IsOwn c (first + j) l
+own_callers c answers first [] j l h = cc
+own_callers c answers first (own ∷ calls) zero l h =
+    let e : started c answers first own ≡ l = cc in let n : first ≡ first + 0 = omega arith in
+    subst (λ i. IsOwn c i l) n (subst (λ (x : Local). IsOwn c first x) e (own_started c answers first own _ refl))
+own_callers c answers first (own ∷ calls) (suc j) l h = let n : suc first + j ≡ first + suc j = omega arith in subst (λ i. IsOwn c i l) n (own_callers c answers (suc first) calls j l h)
+
+pub framed_callers : (c : Setup) (calls : List (List Call)) (w : World) → length w.locals ≡ 1 → IsFramed c w → IsFramed c (with_callers c calls w)
+framed_callers c calls w one framed = record {
+  own = λ k l h. elim (append_cases w.locals (callers_from c (opening_answers w.locals) 1 calls) k l h) [
+    | inl e ↦ framed.own k l e
+    | inr e ↦ let n : 1 + e.0 ≡ k = omega (arith, one, e.1) in subst (λ i. IsOwn c i l) n (own_callers c (opening_answers w.locals) 1 calls e.0 l e.2)
+  ];
+}
+
+-- an event that comes next is the section that the map gives
+after_option : (w : World) (e : Event) (o : Option Local) → slice_get w.locals e.caller ≡ o → IsNextOf w e o → (l : Local) × IsStep w e.caller l e.section × (after_event_of w e o ≡ made_by w l e.section)
+after_option w e None h next = absurd next
+after_option w e (Some l) h next = (l, record { here = h; gives = one_next l.setup w.map e.caller (ask l.setup l.place) e.section next.0 next.1 }, refl)
+
+pub event_steps : (w : World) (e : Event) → IsNext w e → (l : Local) × IsStep w e.caller l e.section × (after_event w e ≡ made_by w l e.section)
+event_steps w e next = after_option w e _ refl next
+
+-- what each section keeps
+abbrev pub IsKeptBySteps : (World → Type 0) → Type 0
+IsKeptBySteps P = (w : World) (k : ℕ) (l : Local) (s : Section) → P w → IsStep w k l s → P (made_by w l s)
+
+pub run_keeps : (P : World → Type 0) → IsKeptBySteps P → (w : World) (es : List Event) → P w → IsRun w es → P (world_after w es)
+run_keeps P keeps w [] first run = first
+run_keeps P keeps w (e ∷ es) first run =
+    let step = event_steps w e run.0 in
+    run_keeps P keeps (after_event w e) es (subst P (sym step.2) (keeps w e.caller step.0 e.section first step.1)) run.1
+
+-- a fact of the opening's worlds, and one of the callers' worlds that it leads to
+pub reached_have : (P Q : World → Type 0) (c : Setup) (opening : List Call) (calls : List (List Call)) → P (opening_world c opening calls) → IsKeptBySteps P
+    → ((w : World) → P w → AllOver w.locals → Q (with_callers c calls w)) → IsKeptBySteps Q → (w : World) → IsReached c opening calls w → P w ⊎ Q w
+reached_have P Q c opening calls first keeps leads goes_on w (inl r) = inl (subst P (sym r.2) (run_keeps P keeps (opening_world c opening calls) r.0 first r.1))
+reached_have P Q c opening calls first keeps leads goes_on w (inr r) =
+    let opened = run_keeps P keeps (opening_world c opening calls) r.0 first r.2.0 in
+    let begun = leads (world_after (opening_world c opening calls) r.0) opened r.2.1 in
+    inr (subst Q (sym r.3) (run_keeps Q goes_on (callers_world c opening calls r.0) r.1 begun r.2.2))
+
+-- the opening has one caller
+pub record IsOpening (c : Setup) (w : World) : Type 0 where
+  pub framed : IsFramed c w
+  pub one : length w.locals ≡ 1
+
+pub opening_step : (c : Setup) → IsKeptBySteps (IsOpening c)
+opening_step c w k l s is step = record { framed = framed_step c w k l s is.framed step; one = length-set w.locals l.caller (moved_to l (next l.setup l.place s)) ∙ is.one }
+
+-- a fact that the first world has, that each section keeps, and that more callers at their start keep too
+pub record IsLasting (c : Setup) (calls : List (List Call)) (P : World → Type 0) : Type 0 where
+  pub steps : (w : World) (k : ℕ) (l : Local) (s : Section) → IsFramed c w → P w → IsStep w k l s → P (made_by w l s)
+  pub joins : (w : World) → IsFramed c w → length w.locals ≡ 1 → P w → AllOver w.locals → P (with_callers c calls w)
+
+pub lasts : (c : Setup) (opening : List Call) (calls : List (List Call)) (P : World → Type 0) → P (opening_world c opening calls) → IsLasting c calls P
+    → (w : World) → IsReached c opening calls w → IsFramed c w × P w
+lasts c opening calls P first is w reached =
+    elim (reached_have (λ v. IsOpening c v × P v) (λ v. IsFramed c v × P v) c opening calls (record { framed = framed_opening c opening calls; one = refl }, first)
+    (λ v k l s h step. (opening_step c v k l s h.0 step, is.steps v k l s h.0.framed h.1 step))
+    (λ v h over. (framed_callers c calls v h.0.one h.0.framed, is.joins v h.0.framed h.0.one h.1 over))
+    (λ v k l s h step. (framed_step c v k l s h.0 step, is.steps v k l s h.0 h.1 step)) w reached) [
+      | inl h ↦ (h.0.framed, h.1)
+      | inr h ↦ h
+    ]

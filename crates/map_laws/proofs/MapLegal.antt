@@ -1,0 +1,278 @@
+-- Each section that the map gives to a caller without per-CPU objects is legal.
+use Rattle.std.proofs.Common.{◌≡◌, ℕ, zero, suc, ◌+◌, ◌<◌, ◌≤◌, Bool, true, false, ◌==◌, cond, nat_lt, if◌then◌else◌, List, [], ◌∷◌, ◌++◌, length, map, filter, find, flat_map, not, slice_get, sum_by, Option, Some, None, option_map, refl, ap, sym, ◌∙◌, subst, arith, length-append}
+use Rattle.std.proofs.lemmas.Bool.Decides.{nat_tests}
+use Rattle.std.proofs.lemmas.List.Sums.{sum_by-cons}
+use Rattle.vm_model.specs.declared.areas.Span.{Span}
+use Rattle.vm_model.specs.declared.areas.Area.{Area}
+use Rattle.vm_model.specs.declared.areas.AreaKind.TheVariants as kind
+use Rattle.vm_model.specs.Space.{span, holds, covers, one_if, times, lowest, is_among}
+use Rattle.vm_model.specs.Setup.{Setup}
+use Rattle.vm_model.specs.PlainMap.{PlainMap, Block, Part, InHand, lives_as, taken}
+use Rattle.vm_model.specs.Areas.{is_area, named_areas, areas_at, mapped_part, spans_of}
+use Rattle.vm_model.specs.Frames.{free_frames}
+use Rattle.vm_model.specs.Blocks.{PartAt, first_page, mapped_pages, rounded, size_of, parts_size, blocks_of, part_to_cut, life_of_part, is_named, named_in, named_parts}
+use Rattle.vm_model.specs.Legal.{OnEach, IsBare, IsLegalAs, AreStarts}
+use Rattle.vm_model.specs.Events.{Section, ForPages, TakePurge, MapPages, NoFrames}
+use Rattle.vm_model.specs.Places.{Place, Over, Refusing, Finding, FindingAgain, MappingArea, Dropping, SettlingArea, Removing, UnmappingArea, Waiting, PurgeTaking, PurgeFragmenting, PurgeUnlinking, PurgeWaiting, PurgeCollecting, PurgeFlushing, PurgeReturning, PurgeGiving, CuttingPart, SettlingBlock, AddingBlock, MappingPart, SettlingPart, BeginningUnmap, UnmappingPart, Retiring, UnlinkingBlock, LookingAtDirty, block_spans, ask}
+use Rattle.vm_model.specs.Given.{given, carving, removal, cutting, beginning}
+use Rattle.vm_model.specs.History.{World, Local}
+use Rattle.vm_model.specs.Carried.{has_purge, count_of, starts_out}
+use Rattle.map_laws.specs.MapTraces.{HistoriesWithoutObjectsAreLegal}
+use Rattle.map_laws.proofs.Chosen.{IsIn, in_more, filter_has, filter_in, find_has, sum_by-filter-le}
+use Rattle.map_laws.proofs.Fits.{and_both}
+use Rattle.map_laws.proofs.Frames.{IsFramed, IsStep}
+use Rattle.map_laws.proofs.Places.{IsProper}
+use Rattle.map_laws.proofs.TurnPlaces.{taking_is}
+use Rattle.map_laws.proofs.Spans.{times-cons, covers_one, holds_to, holds_from, in_spans, InSpans, Inside, Outside}
+use Rattle.map_laws.proofs.StepFalls.{has_room}
+use Rattle.map_laws.proofs.GivenMeets.{given_meets, cut_of, begun_of, flat_in}
+use Rattle.map_laws.proofs.AreaFacts.{IsHolding, mapped_covers}
+use Rattle.map_laws.proofs.MapMoves.{times_both}
+use Rattle.map_laws.proofs.AreaWorlds.{IsLegalStep}
+use Rattle.map_laws.proofs.MapPlaces.{IsMapPlace}
+use Rattle.map_laws.proofs.BlockFacts.{IsBlockArea, IsBlockFine, IsPartIn, IsOut, IsBlockAt, AreStacked, block_starts, among_count, counted_block, to_same, size_cons}
+use Rattle.map_laws.proofs.BlockMoves.{part_within, row_of, same_start, area_start}
+use Rattle.map_laws.proofs.PartMoves.{own_is}
+use Rattle.map_laws.proofs.BlockWorlds.{times_count, row_covers, covered_start, only_one}
+use Rattle.map_laws.proofs.MapLaws.{IsMapTraceWorld, AreFull, own_names, areas_once, map_lasts, map_first, has_parts}
+use Rattle.map_laws.proofs.LegalRuns.{one_legal}
+use Rattle.map_laws.proofs.Powers.{rounded_some}
+
+-- Lists that are searched.
+
+find_by : {X : Type 0} (p : X → Bool) (xs : List X) (y x : X) (b : Bool) → p y ≡ b → ((z : X) × (find p xs ≡ Some z)) → (z : X) × (cond b (Some y) (find p xs) ≡ Some z)
+find_by p xs y x true e more = (y, refl)
+find_by p xs y x false e more = more
+
+find_some : {X : Type 0} (p : X → Bool) (xs : List X) (x : X) (i : ℕ) → slice_get xs i ≡ Some x → p x ≡ true → (z : X) × (find p xs ≡ Some z)
+find_some p [] x i h e = cc
+find_some p (y ∷ xs) x zero h e = let same : y ≡ x = cc in (y, ap (λ b. cond b (Some y) (find p xs)) (ap p same ∙ e))
+find_some p (y ∷ xs) x (suc i) h e = find_by p xs y x _ refl (find_some p xs x i h e)
+
+append_second : {X : Type 0} (xs ys : List X) (y : X) → IsIn y ys → IsIn y (xs ++ ys)
+append_second [] ys y there = there
+append_second (x ∷ xs) ys y there = in_more y x (xs ++ ys) (append_second xs ys y there)
+
+append_front : {X : Type 0} (xs ys : List X) (y : X) (i : ℕ) → slice_get xs i ≡ Some y → IsIn y (xs ++ ys)
+append_front [] ys y i h = cc
+append_front (x ∷ xs) ys y zero h = record { place = 0; at = h }
+append_front (x ∷ xs) ys y (suc i) h = in_more y x (xs ++ ys) (append_front xs ys y i h)
+
+flat_has : {X Y : Type 0} (f : X → List Y) (xs : List X) (i : ℕ) (x : X) (y : Y) → slice_get xs i ≡ Some x → IsIn y (f x) → IsIn y (flat_map f xs)
+flat_has f [] i x y h there = cc
+flat_has f (z ∷ xs) zero x y h there = let same : z ≡ x = cc in append_front (f z) (flat_map f xs) y there.place (ap (λ v. slice_get (f v) there.place) same ∙ there.at)
+flat_has f (z ∷ xs) (suc i) x y h there = append_second (f z) (flat_map f xs) y (flat_has f xs i x y h there)
+
+length_flat : {X Y : Type 0} (f : X → List Y) (xs : List X) → length (flat_map f xs) ≡ sum_by (λ x. length (f x)) xs
+length_flat f [] = refl
+length_flat f (x ∷ xs) = omega (arith, length-append (f x) (flat_map f xs), length_flat f xs, sum_by-cons (λ x. length (f x)) x xs)
+
+length_map : {X Y : Type 0} (f : X → Y) (xs : List X) → length (map f xs) ≡ length xs
+length_map f [] = refl
+length_map f (x ∷ xs) = ap suc (length_map f xs)
+
+sum_le : {X : Type 0} (f g : X → ℕ) (xs : List X) → ((x : X) → IsIn x xs → f x ≤ g x) → sum_by f xs ≤ sum_by g xs
+sum_le f g [] h = omega arith
+sum_le f g (x ∷ xs) h = omega (arith, sum_by-cons f x xs, sum_by-cons g x xs, h x (record { place = 0; at = refl }), sum_le f g xs (λ y there. h y (in_more y x xs there)))
+
+-- Areas of a start.
+
+module _ (c : Setup) (m : PlainMap) (k : ℕ) (once : (page : ℕ) → times page (spans_of m.areas) ≤ 1) (full : AreFull m) where
+  at_start : (start : ℕ) (a : Area) → IsIn a m.areas → a.span.start ≡ start → one_if (holds a.span start) ≡ 1
+  at_start start a there e = let some = full.each a there in ap one_if (holds_from a.span start (omega arith) (omega arith))
+
+  -- of areas that pass a test for a start there is at most one
+  two_never : (q : Area → Bool) (start : ℕ) (a b : Area) (list : List Area) → filter q m.areas ≡ a ∷ b ∷ list → ((x : Area) → q x ≡ true → x.span.start ≡ start) → ⊥
+  two_never q start a b list e starts =
+      let first = filter_has q m.areas 0 a (ap (λ l. slice_get l 0) e) in let second = filter_has q m.areas 1 b (ap (λ l. slice_get l 1) e) in
+      let o = once start in let all : times start (spans_of (filter q m.areas)) ≡ times start (spans_of (a ∷ b ∷ list)) = ap (λ l. times start (spans_of l)) e in
+      omega (
+        arith,
+        times_both start q (λ x. not (q x)) (λ x. refl) m.areas,
+        times-cons start a.span (b.span ∷ spans_of list),
+        times-cons start b.span (spans_of list),
+        at_start start a first.there (starts a first.passes),
+        at_start start b second.there (starts b second.passes),
+      )
+
+  removal_by : (start serial : ℕ) (list : List Area) → named_areas start serial m.areas ≡ list → IsLegalAs c m k (removal start serial list)
+  removal_by start serial [] e = e
+  removal_by start serial (a ∷ []) e = e
+  removal_by start serial (a ∷ b ∷ list) e = absurd (two_never (is_area start serial) start a b list e (λ x h. to_same x.span.start start (and_both (x.span.start == start) (x.serial == serial) h).0))
+
+  one_at : (start : ℕ) (area : Area) → IsIn area m.areas → area.span.start ≡ start → (list : List Area) → areas_at start m.areas ≡ list → areas_at start m.areas ≡ area ∷ []
+  one_at start area there e [] f = absurd (let kept = filter_in (λ (a : Area). a.span.start == start) m.areas area there.place there.at (let t : (area.span.start == start) ≡ true = grind (arith, nat_tests) in t) in
+      let no : slice_get (areas_at start m.areas) kept.place ≡ None = ap (λ l. slice_get l kept.place) f in let yes = kept.at in cc)
+  one_at start area there e (a ∷ []) f =
+      let kept = filter_in (λ (a : Area). a.span.start == start) m.areas area there.place there.at (let t : (area.span.start == start) ≡ true = grind (arith, nat_tests) in t) in
+      let only : slice_get (a ∷ []) kept.place ≡ Some area = sym (ap (λ l. slice_get l kept.place) f) ∙ kept.at in
+      f ∙ ap (λ x. x ∷ []) (first_is a kept.place only)
+    where
+      first_is : (a : Area) (i : ℕ) → slice_get (a ∷ []) i ≡ Some area → a ≡ area
+      first_is a zero h = cc
+      first_is a (suc i) h = cc
+  one_at start area there e (a ∷ b ∷ list) f = absurd (two_never (λ (x : Area). x.span.start == start) start a b list f (λ x h. to_same x.span.start start h))
+
+  pub block_at : (start : ℕ) → (is : IsBlockArea c m start) → areas_at start m.areas ≡ is.area ∷ []
+  block_at start is = one_at start is.area is.there (area_start c m start is) (areas_at start m.areas) refl
+
+  legal_starts : (starts : List ℕ) → ((start : ℕ) → is_among starts start ≡ true → IsOut c m start) → ((start : ℕ) → count_of start starts ≤ 1) → AreStarts m starts
+  legal_starts starts outs few = λ start h. ((let n = among_count start starts h in let f = few start in omega arith), ((outs start h).area.area, block_at start (outs start h).area))
+
+  -- Parts.
+
+  module _ (all : (b : Block) → IsIn b m.blocks → IsBlockFine c m b) (names : (start : ℕ) → count_of start (block_starts m.blocks) ≤ 1) where
+    in_part : (at : PartAt) → Block → List Part
+    in_part at b = if b.start == at.block then b.parts else []
+
+    in_if : (b : Block) (at : PartAt) (p : Part) (t : Bool) → (b.start == at.block) ≡ t → IsIn p (if t then b.parts else []) → (b.start ≡ at.block) × IsIn p b.parts
+    in_if b at p true e there = (to_same b.start at.block e, there)
+    in_if b at p false e there = (let no = there.at in cc)
+
+    pub held_life : (at : PartAt) → IsPartIn m k at → life_of_part at m.blocks ≡ Some (InHand k)
+    held_life at hand =
+        let inside : IsIn hand.part (if hand.block.start == at.block then hand.block.parts else []) = subst (λ t. IsIn hand.part (if t then hand.block.parts else [])) (sym (let t : (hand.block.start == at.block) ≡ true = (let e = hand.start in grind (arith, nat_tests)) in t)) hand.part_there in
+        let flat = flat_has (λ (b : Block). if b.start == at.block then b.parts else []) m.blocks hand.there.place hand.block hand.part hand.there.at inside in
+        let found = find_some (λ (p : Part). p.offset == at.offset) (flat_map (λ (b : Block). if b.start == at.block then b.parts else []) m.blocks) hand.part flat.place flat.at (let t : (hand.part.offset == at.offset) ≡ true = (let e = hand.offset in grind (arith, nat_tests)) in t) in
+        let is = find_has (λ (p : Part). p.offset == at.offset) (flat_map (λ (b : Block). if b.start == at.block then b.parts else []) m.blocks) found.0 found.1 in
+        let from = flat_in (λ (b : Block). if b.start == at.block then b.parts else []) m.blocks found.0 is.0 in
+        let own = in_if from.0 at found.0 _ refl from.2 in
+        let one = (own_is c m k all at hand names from.0 found.0 from.1 own.0 own.1 (to_same found.0.offset at.offset is.1)).1 in
+        ap (option_map (λ (p : Part). p.life)) found.1 ∙ ap (λ (p : Part). Some p.life) one ∙ ap (λ l. Some l) hand.life
+
+    -- of a block at most one part is named, and only where the page is in the block
+    named_by : (b : Block) (page serial off : ℕ) (p : Part) (ps : List Part) (t : Bool) → is_named page serial b p ≡ t → p.offset ≡ off → (rest : length (filter (is_named page serial b) ps) ≤ one_if (holds (span (b.start + (off + size_of p)) (parts_size ps)) page))
+        → length (cond t (p ∷ filter (is_named page serial b) ps) (filter (is_named page serial b) ps)) ≤ one_if (holds (span (b.start + off) (size_of p + parts_size ps)) page)
+    named_by b page serial off p ps true e at rest =
+        let first = to_same (b.start + p.offset) page (and_both (b.start + p.offset == page) (lives_as serial p.life) e).0 in
+        let size = rounded_some p.pages in
+        let whole : one_if (holds (span (b.start + off) (size_of p + parts_size ps)) page) ≡ 1 = ap one_if (holds_from (span (b.start + off) (size_of p + parts_size ps)) page (omega arith) (omega arith)) in
+        let out : one_if (holds (span (b.start + (off + size_of p)) (parts_size ps)) page) ≡ 0 = outside (holds (span (b.start + (off + size_of p)) (parts_size ps)) page) refl in omega arith
+      where
+        outside : (u : Bool) → holds (span (b.start + (off + size_of p)) (parts_size ps)) page ≡ u → one_if (holds (span (b.start + (off + size_of p)) (parts_size ps)) page) ≡ 0
+        outside true f = absurd (let r = holds_to (span (b.start + (off + size_of p)) (parts_size ps)) page f in let first = to_same (b.start + p.offset) page (and_both (b.start + p.offset == page) (lives_as serial p.life) e).0 in let size = rounded_some p.pages in omega arith)
+        outside false f = ap one_if f
+    named_by b page serial off p ps false e at rest = wider (holds (span (b.start + (off + size_of p)) (parts_size ps)) page) refl
+      where
+        wider : (u : Bool) → holds (span (b.start + (off + size_of p)) (parts_size ps)) page ≡ u → length (filter (is_named page serial b) ps) ≤ one_if (holds (span (b.start + off) (size_of p + parts_size ps)) page)
+        wider true f = let r = holds_to (span (b.start + (off + size_of p)) (parts_size ps)) page f in
+            omega (arith, ap one_if f, ap one_if (holds_from (span (b.start + off) (size_of p + parts_size ps)) page (omega arith) (omega arith)))
+        wider false f = omega (arith, ap one_if f)
+
+    named_few : (b : Block) (page serial off : ℕ) (ps : List Part) → AreStacked off ps → length (filter (is_named page serial b) ps) ≤ one_if (holds (span (b.start + off) (parts_size ps)) page)
+    named_few b page serial off [] st = omega arith
+    named_few b page serial off (p ∷ ps) st =
+        subst (λ n. length (filter (is_named page serial b) (p ∷ ps)) ≤ one_if (holds (span (b.start + off) n) page)) (sym (size_cons p ps)) (named_by b page serial off p ps _ refl st.0 (named_few b page serial (off + size_of p) ps st.2))
+
+    named_block : (page serial : ℕ) (b : Block) → IsIn b m.blocks → length (named_in page serial b) ≤ one_if (holds (span b.start c.block_pages) page)
+    named_block page serial b there =
+        let fine = all b there in
+        let few = named_few b page serial 0 b.parts fine.stacked in
+        omega (arith, length_map {Y = PartAt} (λ (p : Part). record { cpu = b.cpu; block = b.start; offset = p.offset; pages = p.pages }) (filter (is_named page serial b) b.parts), few, wide fine.within (holds (span (b.start + 0) (parts_size b.parts)) page) refl)
+      where
+        wide : parts_size b.parts ≤ c.block_pages → (u : Bool) → holds (span (b.start + 0) (parts_size b.parts)) page ≡ u → one_if (holds (span (b.start + 0) (parts_size b.parts)) page) ≤ one_if (holds (span b.start c.block_pages) page)
+        wide w true f = let r = holds_to (span (b.start + 0) (parts_size b.parts)) page f in omega (arith, ap one_if f, ap one_if (holds_from (span b.start c.block_pages) page (omega arith) (omega arith)))
+        wide w false f = omega (arith, ap one_if f)
+
+    blocks_times : (page : ℕ) (blocks : List Block) → sum_by (λ (b : Block). one_if (holds (span b.start c.block_pages) page)) blocks ≡ times page (block_spans c (block_starts blocks))
+    blocks_times page [] = refl
+    blocks_times page (b ∷ blocks) = omega (arith, sum_by-cons (λ (b : Block). one_if (holds (span b.start c.block_pages) page)) b blocks, times-cons page (span b.start c.block_pages) (block_spans c (block_starts blocks)), blocks_times page blocks)
+
+    start_area : (start : ℕ) → is_among (block_starts m.blocks) start ≡ true → IsBlockArea c m start
+    start_area start h = let is = counted_block start m.blocks (among_count start (block_starts m.blocks) h) in subst (IsBlockArea c m) is.2 (all is.0 is.1).area
+
+    blocks_once : (page : ℕ) → InSpans page (block_spans c (block_starts m.blocks)) → times page (block_spans c (block_starts m.blocks)) ≤ 1
+    blocks_once page (Inside e n) =
+        let is = covered_start c m once (block_starts m.blocks) page e in let r = row_covers c m once is.0 page is.2 in
+        let low = times_count c m once is.0 page (block_starts m.blocks) (λ x g f. (let v = row_covers c m once x page f in same_start c m page x is.0 (once page) (start_area x g) (start_area is.0 is.1) v.0 v.1 r.0 r.1)) in
+        let one = names is.0 in omega arith
+    blocks_once page (Outside e n) = omega arith
+
+    few_named : (cpu page serial : ℕ) → length (named_parts cpu page serial m.blocks) ≤ 1
+    few_named cpu page serial =
+        let each = sum_le (λ (b : Block). length (named_in page serial b)) (λ (b : Block). one_if (holds (span b.start c.block_pages) page)) (blocks_of cpu m.blocks)
+        (λ b there. named_block page serial b (filter_has (λ (b : Block). b.cpu == cpu) m.blocks there.place b there.at).there) in
+        let less = sum_by-filter-le (λ (b : Block). one_if (holds (span b.start c.block_pages) page)) (λ (b : Block). b.cpu == cpu) m.blocks in
+        omega (arith, length_flat (named_in page serial) (blocks_of cpu m.blocks), blocks_times page m.blocks, blocks_once page (in_spans page (block_spans c (block_starts m.blocks))))
+
+    legal_beginning : (cpu page serial : ℕ) (list : List PartAt) → named_parts cpu page serial m.blocks ≡ list → IsLegalAs c m k (beginning cpu page serial list)
+    legal_beginning cpu page serial [] e = e
+    legal_beginning cpu page serial (at ∷ []) e =
+        let is = begun_of cpu page serial m.blocks at (record { place = 0; at = ap (λ l. slice_get l 0) e }) in
+        subst (λ n. named_parts n (first_page at) serial m.blocks ≡ at ∷ []) (sym is.0) (subst (λ n. named_parts cpu n serial m.blocks ≡ at ∷ []) (sym is.1) e)
+    legal_beginning cpu page serial (at ∷ other ∷ list) e = absurd (let few = few_named cpu page serial in omega (arith, ap length e))
+
+    legal_cutting : (cpu pages : ℕ) (o : Option PartAt) → part_to_cut c cpu pages m.blocks ≡ o → IsLegalAs c m k (cutting cpu pages o)
+    legal_cutting cpu pages None e = e
+    legal_cutting cpu pages (Some at) e = let is = cut_of c cpu pages m.blocks at e in
+        subst (λ n. part_to_cut c n at.pages m.blocks ≡ Some at) (sym is.0) (subst (λ n. part_to_cut c cpu n m.blocks ≡ Some at) (sym is.1) e)
+
+    told_legal : (s t : Section) → Some t ≡ Some s → IsLegalAs c m k t → IsLegalAs c m k s
+    told_legal s t e h = let same : t ≡ s = cc in subst (IsLegalAs c m k) same h
+
+    carving_legal : (pages align : ℕ) (o : Option ℕ) → lowest (taken m) pages align ≡ o → IsLegalAs c m k (carving pages align o)
+    carving_legal pages align None e = e
+    carving_legal pages align (Some start) e = e
+
+    frames_legal : (p : Span) (b : Bool) → nat_lt (length (free_frames c m.frames)) p.pages ≡ b → OnEach (p ∷ []) (IsBare m) → IsLegalAs c m k (if b then NoFrames p.pages else MapPages p)
+    frames_legal p true e bare = grind (arith, nat_tests)
+    frames_legal p false e bare = (bare, (let enough : p.pages ≤ length (free_frames c m.frames) = grind (arith, nat_tests) in enough))
+
+    row_in : (at : PartAt) (page : ℕ) → covers (mapped_pages at ∷ []) page ≡ true → (first_page at ≤ page) × (page < first_page at + at.pages)
+    row_in at page e = holds_to (mapped_pages at) page (sym (covers_one (mapped_pages at) page) ∙ e)
+
+    low_size : (at : PartAt) → IsPartIn m k at → at.pages ≤ rounded at.pages
+    low_size at hand = let z = (part_within c m hand.block hand.part (all hand.block hand.there) hand.part_there).1 in let r = row_of m k at hand in omega (arith, r.1, r.2)
+
+    pub legal_map : (p : Place) (s : Section) → IsMapPlace p → IsProper c p → IsHolding c m k p → IsBlockAt c m k p → ((start : ℕ) → count_of start (starts_out c p) ≤ 1) → (has_purge p ≡ true → m.purge_turn ≡ Some k) → given c m (ask c p) ≡ Some s → IsLegalAs c m k s
+    legal_map Over s is proper own at few turn e = cc
+    legal_map (Refusing r) s is proper own at few turn e = told_legal s _ e tt
+    legal_map (Finding (ForPages pages align) aim) s is proper own at few turn e = told_legal s _ e (carving_legal pages align (lowest (taken m) pages align) refl)
+    legal_map (FindingAgain (ForPages pages align) aim) s is proper own at few turn e = told_legal s _ e (carving_legal pages align (lowest (taken m) pages align) refl)
+    legal_map (MappingArea place kd) s is proper own at few turn e = told_legal s _ e (frames_legal (mapped_part kd place) _ refl (λ page h. own.bare page (mapped_covers kd place page h)))
+    legal_map (Dropping place) s is proper own at few turn e = told_legal s _ e (own.held, own.bare)
+    legal_map (SettlingArea place kd) s is proper own at few turn e = told_legal s _ e (own.held, refl)
+    legal_map (Removing start serial) s is proper own at few turn e = told_legal s _ e (removal_by start serial (named_areas start serial m.areas) refl)
+    legal_map (UnmappingArea area) s is proper own at few turn e = told_legal s _ e own.mapped
+    legal_map (Waiting spans after) s is proper own at few turn e = told_legal s _ e (own.held, refl)
+    legal_map (PurgeTaking extra after) s is proper own at few turn e = let v = taking_is m.purge_turn TakePurge s e in subst (IsLegalAs c m k) (sym v.1) v.0
+    legal_map (PurgeFragmenting cpu gone extra after) s is proper own at few turn e = told_legal s _ e refl
+    legal_map (PurgeUnlinking gone extra after) s is proper own at few turn e = told_legal s _ e (legal_starts gone at few)
+    legal_map (PurgeWaiting gone extra after) s is proper own at few turn e = told_legal s _ e (own.held, refl)
+    legal_map (PurgeCollecting extra after) s is proper own at few turn e = told_legal s _ e refl
+    legal_map (PurgeFlushing hull waited after) s is proper own at few turn e = told_legal s _ e tt
+    legal_map (PurgeReturning waited after) s is proper own at few turn e = told_legal s _ e (own.flushed, own.bare)
+    legal_map (PurgeGiving after) s is proper own at few turn e = told_legal s _ e (turn refl)
+    legal_map (CuttingPart cpu pages) s is proper own at few turn e = told_legal s _ e (legal_cutting cpu pages (part_to_cut c cpu pages m.blocks) refl)
+    legal_map (SettlingBlock place cpu pages) s is proper own at few turn e = told_legal s _ e (own.held, refl)
+    legal_map (AddingBlock part) s is proper own at few turn e = told_legal s _ e
+        ((at.0.area, block_at part.block at.0, ap (λ (v : Span). v.pages) at.0.span, at.0.kind ∙ ap (λ n. kind.Block n) at.1), proper.0)
+    legal_map (MappingPart part) s is proper own at few turn e = told_legal s _ e
+        (frames_legal (mapped_pages part) _ refl (λ page h. (let r = row_in part page h in let l = low_size part at.0 in at.1 page r.0 (let b = r.1 in omega arith))))
+    legal_map (SettlingPart part) s is proper own at few turn e = told_legal s _ e (held_life part at.0, refl)
+    legal_map (BeginningUnmap cpu page serial) s is proper own at few turn e = told_legal s _ e (legal_beginning cpu page serial (named_parts cpu page serial m.blocks) refl)
+    legal_map (UnmappingPart part) s is proper own at few turn e = told_legal s _ e (λ page h. (let r = row_in part page h in at.1 page r.0 r.1))
+    legal_map (Retiring part r) s is proper own at few turn e = told_legal s _ e (held_life part at.0, refl)
+    legal_map (UnlinkingBlock start r) s is proper own at few turn e = told_legal s _ e (legal_starts (start ∷ []) (λ n h. subst (IsOut c m) (only_one start n h) at) few)
+    legal_map (LookingAtDirty cpu ranges) s is proper own at few turn e = told_legal s _ e refl
+    legal_map _ s is proper own at few turn e = absurd is
+
+trace_legal : (c : Setup) (units : 8 ≤ c.unit_pages) (w : World) (k : ℕ) (l : Local) (s : Section) → IsFramed c w → IsMapTraceWorld c w → IsStep w k l s → IsLegalStep w k l s
+trace_legal c units w k l s framed is step =
+    let own = framed.own k l step.here in
+    let proper = is.turns.proper.each k l step.here in
+    let named : (start : ℕ) → count_of start (block_starts w.map.blocks) + count_of start (starts_out c l.place) ≤ 1 = own_names c w framed is k l step.here in
+    let gives : given c w.map (ask c l.place) ≡ Some s = subst (λ d. given d w.map (ask d l.place) ≡ Some s) own.setup step.gives in
+    let holding : IsHolding c w.map k l.place = subst (λ d. IsHolding d w.map k l.place) own.setup (subst (λ i. IsHolding l.setup w.map i l.place) own.caller (is.area.each k l step.here)) in
+    let legal : IsLegalAs c w.map k s = legal_map c w.map k (areas_once c w framed is k l step.here) is.full is.blocks.blocks (λ start. (let n = named start in omega arith)) l.place s (is.only.each k l step.here).place
+    (subst (λ d. IsProper d l.place) own.setup proper) holding (subst (λ i. IsBlockAt c w.map i l.place) own.caller (is.blocks.each k l step.here)) (λ start. (let n = named start in omega arith))
+    (λ has. is.turns.turns.purge.mine k l step.here has) gives in record {
+      step = step;
+      meets = given_meets l.setup w.map s (ask l.setup l.place) (has_room l.setup w.map l.place (subst (λ d. 8 ≤ d.unit_pages) (sym own.setup) units) proper) step.gives;
+      legal = subst (λ d. IsLegalAs d w.map k s) (sym own.setup) legal;
+    }
+
+pub map_histories : HistoriesWithoutObjectsAreLegal
+map_histories c opening calls picks trace areas =
+    let has = has_parts c opening calls trace in
+    one_legal c calls (IsMapTraceWorld c) (map_lasts c opening calls areas has) (trace_legal c trace.setup.unit_low) opening trace (map_first c opening calls areas has) picks

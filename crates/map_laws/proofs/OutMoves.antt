@@ -1,0 +1,221 @@
+-- What the sections that settle, remove and unlink areas do to the pages that their caller holds, and to the map.
+use Rattle.std.proofs.Common.{◌≡◌, ◌≢◌, ℕ, zero, suc, ◌+◌, ◌≤◌, ◌⊎◌, inl, inr, Bool, true, false, not, ◌||◌, if◌then◌else◌, List, [], ◌∷◌, length, map, filter, slice_get, sum_by, Some, option_map, refl, ap, sym, ◌∙◌, arith}
+use Rattle.vm_model.specs.declared.areas.Span.{Span}
+use Rattle.vm_model.specs.declared.areas.Area.{Area}
+use Rattle.vm_model.specs.declared.areas.AreaKind.{AreaKind}
+use Rattle.vm_model.specs.Space.{put_by, holds, covers, one_if, times, paint}
+use Rattle.vm_model.specs.Setup.{Setup}
+use Rattle.vm_model.specs.PlainMap.{PlainMap, Mark, Held, Live}
+use Rattle.vm_model.specs.Areas.{areas_starting, areas_of, with_areas, mark_live, spans_of, mapped_part}
+use Rattle.vm_model.specs.Legal.{OnEach, IsMarked, IsUnmapped, IsMapped}
+use Rattle.vm_model.specs.Events.{Section, Settle}
+use Rattle.vm_model.specs.Effects.{effect_as}
+use Rattle.vm_model.specs.Places.{Place}
+use Rattle.vm_model.specs.Next.{Next}
+use Rattle.vm_model.specs.Carried.{held, flushed}
+use Rattle.vm_model.specs.Laws.{as_free}
+use Rattle.vm_model.proofs.Paint.{slice_get-paint}
+use Rattle.map_laws.proofs.Lists.{there, same_or}
+use Rattle.map_laws.proofs.Places.{OnNext, IsPlainKind}
+use Rattle.map_laws.proofs.Chosen.{IsIn, in_more, filter_has, sum_has}
+use Rattle.std.proofs.lemmas.List.Sums.{sum_by-cons}
+use Rattle.map_laws.proofs.Spans.{times-cons, covers_times, none_covers, in_spans, InSpans, Inside, Outside, covers_one}
+use Rattle.map_laws.proofs.Touched.{touch, IsSame, unmarked_live, spans_of-areas_of, untouched, painted}
+use Rattle.map_laws.proofs.AreaFacts.{IsMapFine, own_uses, IsUnbearing}
+use Rattle.map_laws.proofs.AreaFacts.{IsAreaFine, guard_part, area_stays}
+use Rattle.map_laws.proofs.PlaceMoves.{IsMoved, unbearing_uses, unbearing_own}
+use Rattle.map_laws.proofs.MapMoves.{times_areas, times_both, page_by, live_fine, area_times, held_fine, painted_free}
+
+-- Areas put among others.
+
+first_or : (a x : Area) (xs : List Area) → IsIn a (x ∷ xs) → (a ≡ x) ⊎ IsIn a xs
+first_or a x xs h = by_place h.place h.at
+  where
+    by_place : (i : ℕ) → slice_get (x ∷ xs) i ≡ Some a → (a ≡ x) ⊎ IsIn a xs
+    by_place zero e = inl (let same : x ≡ a = cc in sym same)
+    by_place (suc i) e = inr (record { place = i; at = e })
+
+pub times_in : (page : ℕ) (spans : List Span) → 1 ≤ times page spans → covers spans page ≡ true
+times_in page spans h = by_in (in_spans page spans)
+  where
+    by_in : InSpans page spans → covers spans page ≡ true
+    by_in (Inside e n) = e
+    by_in (Outside e n) = absurd (omega arith)
+
+put_by-in : (key : Area → ℕ) (x y : Area) (ys : List Area) (b : Bool) (a : Area) → IsIn a (if b then x ∷ y ∷ ys else y ∷ put_by key x ys) → (IsIn a (put_by key x ys) → (a ≡ x) ⊎ IsIn a ys) → (a ≡ x) ⊎ IsIn a (y ∷ ys)
+put_by-in key x y ys true a h more = first_or a x (y ∷ ys) h
+put_by-in key x y ys false a h more = elim (first_or a y (put_by key x ys) h) [
+  | inl e ↦ inr (record { place = 0; at = ap (λ z. Some z) (sym e) })
+  | inr there ↦ elim (more there) [ inl e ↦ inl e | inr is ↦ inr (in_more a y ys is) ]
+]
+
+put_in : (key : Area → ℕ) (x : Area) (ys : List Area) (a : Area) → IsIn a (put_by key x ys) → (a ≡ x) ⊎ IsIn a ys
+put_in key x [] a h = first_or a x [] h
+put_in key x (y ∷ ys) a h = put_by-in key x y ys _ a h (put_in key x ys a)
+
+pub with_in : (xs areas : List Area) (a : Area) → IsIn a (with_areas xs areas) → IsIn a xs ⊎ IsIn a areas
+with_in [] areas a h = inr h
+with_in (x ∷ xs) areas a h = elim (with_in xs (put_by (λ (b : Area). b.span.start) x areas) a h) [
+  | inl there ↦ inl (in_more a x xs there)
+  | inr put ↦ elim (put_in (λ (b : Area). b.span.start) x areas a put) [ inl e ↦ inl (record { place = 0; at = ap (λ z. Some z) (sym e) }) | inr is ↦ inr is ]
+]
+
+put_sum_by : (f : Area → ℕ) (key : Area → ℕ) (x y : Area) (ys : List Area) (b : Bool) → sum_by f (put_by key x ys) ≡ f x + sum_by f ys → sum_by f (if b then x ∷ y ∷ ys else y ∷ put_by key x ys) ≡ f x + sum_by f (y ∷ ys)
+put_sum_by f key x y ys true e = sum_by-cons f x (y ∷ ys)
+put_sum_by f key x y ys false e = omega (arith, sum_by-cons f y (put_by key x ys), sum_by-cons f y ys)
+
+put_sum : (f : Area → ℕ) (key : Area → ℕ) (x : Area) (ys : List Area) → sum_by f (put_by key x ys) ≡ f x + sum_by f ys
+put_sum f key x [] = sum_by-cons f x []
+put_sum f key x (y ∷ ys) = put_sum_by f key x y ys _ (put_sum f key x ys)
+
+with_sum : (f : Area → ℕ) (xs areas : List Area) → sum_by f (with_areas xs areas) ≡ sum_by f xs + sum_by f areas
+with_sum f [] areas = omega arith
+with_sum f (x ∷ xs) areas = omega (arith, with_sum f xs (put_by (λ (b : Area). b.span.start) x areas), put_sum f (λ (b : Area). b.span.start) x areas, sum_by-cons f x xs)
+
+pub with_times : (page : ℕ) (xs areas : List Area) → times page (spans_of (with_areas xs areas)) ≡ times page (spans_of xs) + times page (spans_of areas)
+with_times page xs areas = omega (arith, times_areas page (with_areas xs areas), times_areas page xs, times_areas page areas, with_sum (λ (a : Area). one_if (holds a.span page)) xs areas)
+
+-- Marks of settled areas.
+
+cover_by : (page : ℕ) (x : Area) (xs : List Area) (b : Bool) → holds x.span page ≡ b → (b || covers (spans_of xs) page) ≡ true → (covers (spans_of xs) page ≡ true → (a : Area) × IsIn a xs × (holds a.span page ≡ true))
+    → (a : Area) × IsIn a (x ∷ xs) × (holds a.span page ≡ true)
+cover_by page x xs true e h more = (x, record { place = 0; at = refl }, e)
+cover_by page x xs false e h more = let is = more h in (is.0, in_more is.0 x xs is.1, is.2)
+
+-- a page of the spans is in one of the areas
+pub covering : (page : ℕ) (xs : List Area) → covers (spans_of xs) page ≡ true → (a : Area) × IsIn a xs × (holds a.span page ≡ true)
+covering page [] h = cc
+covering page (x ∷ xs) h = cover_by page x xs _ refl h (covering page xs)
+
+some_painted : (test : ℕ → Bool) (mark : Mark) (marks : List Mark) (page : ℕ) (old : Mark) → slice_get marks page ≡ Some old → (new : Mark) × (slice_get (paint test mark marks) page ≡ Some new)
+some_painted test mark marks page old h = ((if test page then mark else old), slice_get-paint test mark marks page ∙ ap (option_map (λ y. if test page then mark else y)) h)
+
+pub live_in : (xs : List Area) (marks : List Mark) (page : ℕ) (old : Mark) (i : ℕ) (a : Area) → times page (spans_of xs) ≤ 1 → slice_get xs i ≡ Some a → holds a.span page ≡ true → slice_get marks page ≡ Some old
+    → slice_get (mark_live xs marks) page ≡ Some (Live a.serial)
+live_in [] marks page old i a once h e there = cc
+live_in (x ∷ xs) marks page old zero a once h e there =
+    let same : x ≡ a = cc in
+    let t : holds x.span page ≡ true = ap (λ (y : Area). holds y.span page) same ∙ e in
+    let others : covers (spans_of xs) page ≡ false = none_covers page (spans_of xs) (omega (arith, times-cons page x.span (spans_of xs), ap one_if t)) in
+    unmarked_live xs (paint (holds x.span) (Live x.serial) marks) page others ∙ painted (holds x.span) (Live x.serial) old marks page t there ∙ ap (λ (y : Area). Some (Live y.serial)) same
+live_in (x ∷ xs) marks page old (suc i) a once h e there =
+    let new = some_painted (holds x.span) (Live x.serial) marks page old there in
+    live_in xs (paint (holds x.span) (Live x.serial) marks) page new.0 i a (omega (arith, times-cons page x.span (spans_of xs))) h e new.1
+
+sum_first : {X : Type 0} (f : X → ℕ) (x : X) (xs : List X) (b : X) (j : ℕ) → slice_get xs j ≡ Some b → f x + f b ≤ sum_by f (x ∷ xs)
+sum_first f x xs b j h = omega (arith, sum_has f xs b j h, sum_by-cons f x xs)
+
+-- two elements at different places
+pub sum_two : {X : Type 0} (f : X → ℕ) (xs : List X) (i j : ℕ) (a b : X) → slice_get xs i ≡ Some a → slice_get xs j ≡ Some b → i ≢ j → f a + f b ≤ sum_by f xs
+sum_two f [] i j a b h g n = cc
+sum_two f (x ∷ xs) zero zero a b h g n = absurd (n refl)
+sum_two f (x ∷ xs) zero (suc j) a b h g n = let same : x ≡ a = cc in omega (arith, sum_first f x xs b j g, ap f same)
+sum_two f (x ∷ xs) (suc i) zero a b h g n = let same : x ≡ b = cc in omega (arith, sum_first f x xs a i h, ap f same)
+sum_two f (x ∷ xs) (suc i) (suc j) a b h g n = omega (arith, sum_two f xs i j a b h g (λ e. n (ap suc e)), sum_by-cons f x xs)
+
+-- two areas with one page are the same
+pub same_area : (page : ℕ) (areas : List Area) (i j : ℕ) (a b : Area) → times page (spans_of areas) ≤ 1 → slice_get areas i ≡ Some a → slice_get areas j ≡ Some b → holds a.span page ≡ true → holds b.span page ≡ true → i ≡ j
+same_area page areas i j a b once h g e f = elim (same_or i j) [
+  | inl same ↦ same
+  | inr n ↦ absurd (omega (arith, sum_two (λ (a : Area). one_if (holds a.span page)) areas i j a b h g n, times_areas page areas, ap one_if e, ap one_if f))
+]
+
+-- what is in an area that is neither plain nor about to be
+pub record IsInside (m : PlainMap) (page : ℕ) : Type 0 where
+  pub area : Area
+  pub there : IsIn area m.areas
+  pub holds : holds area.span page ≡ true
+  pub inner : IsPlainKind area.kind → ⊥
+
+-- of areas that are unlinked: they have at least these pages, which are unmapped
+pub record IsUnlinked (c : Setup) (m : PlainMap) (starts : List ℕ) (spans : List Span) : Type 0 where
+  pub less : (page : ℕ) → times page spans ≤ times page (spans_of (areas_starting starts m.areas))
+  pub unmapped : OnEach spans (IsUnmapped m)
+
+module _ (c : Setup) (m : PlainMap) (k : ℕ) (fine : IsMapFine m) where
+  -- Held spans become areas.
+
+  module _ (p : Place) (areas : List (Span × AreaKind)) (first : ℕ) (once : (page : ℕ) → own_uses c m p page ≤ 1) (here : held c p ≡ map (λ a. a.0) areas) (none : flushed p ≡ [])
+      (marked : OnEach (held c p) (IsMarked m (Held k)))
+      (news : (i : ℕ) (a : Area) → slice_get (areas_of k first areas) i ≡ Some a → IsPlainKind a.kind → OnEach (mapped_part a.kind a.span ∷ []) (IsMapped m) × OnEach (guard_part a.kind a.span ∷ []) (IsUnmapped m)) where
+    new_times : (page : ℕ) → times page (spans_of (areas_of k first areas)) ≡ times page (held c p)
+    new_times page = ap (times page) (spans_of-areas_of k first areas ∙ sym here)
+
+    new_once : (page : ℕ) → times page (spans_of (areas_of k first areas)) ≤ 1
+    new_once page = let o = once page in omega (arith, new_times page)
+
+    touched_held : (page : ℕ) → covers (map (λ a. a.0) areas) page ≡ true → IsMarked m (Held k) page
+    touched_held page t = marked page (ap (λ spans. covers spans page) here ∙ t)
+
+    settled_live : (page : ℕ) → covers (map (λ a. a.0) areas) page ≡ true → (serial : ℕ) × IsMarked (effect_as c m k (Settle areas first)) (Live serial) page
+    settled_live page t =
+        let at = covering page (areas_of k first areas) (ap (λ spans. covers spans page) (spans_of-areas_of k first areas) ∙ t) in
+        (at.0.serial, live_in (areas_of k first areas) m.marks page (Held k) at.1.place at.0 (new_once page) at.1.at at.2 (touched_held page t))
+
+    old_same : (page : ℕ) (i : ℕ) (a : Area) → slice_get m.areas i ≡ Some a → covers (a.span ∷ []) page ≡ true → (b : Bool) → covers (map (λ a. a.0) areas) page ≡ b → IsSame m (effect_as c m k (Settle areas first)) page
+    old_same page i a h e true t = absurd (let n = covers_times page (map (λ a. a.0) areas) t in let o = once page in let q = area_times page m.areas i a h e in omega (arith, ap (times page) here))
+    old_same page i a h e false t = untouched c m k (Settle areas first) page t
+
+    waits_same : (page : ℕ) → covers m.waiting page ≡ true → (b : Bool) → covers (map (λ a. a.0) areas) page ≡ b → IsSame m (effect_as c m k (Settle areas first)) page
+    waits_same page w true t = absurd (let n = covers_times page (map (λ a. a.0) areas) t in let o = once page in let q = covers_times page m.waiting w in omega (arith, ap (times page) here))
+    waits_same page w false t = untouched c m k (Settle areas first) page t
+
+    area_in : (a : Area) → IsIn a (areas_of k first areas) ⊎ IsIn a m.areas → IsAreaFine (effect_as c m k (Settle areas first)) a
+    area_in a (inl new) = record {
+      marked = λ page e. (let t = sym (covers_one a.span page) ∙ e in
+          let inside : covers (spans_of (areas_of k first areas)) page ≡ true = times_in page (spans_of (areas_of k first areas)) (area_times page (areas_of k first areas) new.place a new.at e) in
+          live_in (areas_of k first areas) m.marks page (Held k) new.place a (new_once page) new.at t (touched_held page (sym (ap (λ spans. covers spans page) (spans_of-areas_of k first areas)) ∙ inside)));
+      mapped = λ plain. (news new.place a new.at plain).0;
+      guard = λ plain. (news new.place a new.at plain).1;
+    }
+    area_in a (inr old) = area_stays m (effect_as c m k (Settle areas first)) a (λ page e. old_same page old.place a old.at e _ refl) (fine.areas old.place a old.at)
+
+    settle_free : (page : ℕ) (b : Bool) → covers (map (λ a. a.0) areas) page ≡ b → as_free (slice_get (effect_as c m k (Settle areas first)).marks page) ≤ as_free (slice_get m.marks page)
+    settle_free page true t = let is = settled_live page t in omega (arith, ap as_free is.1)
+    settle_free page false t = let is = (untouched c m k (Settle areas first) page t).mark in omega (arith, ap as_free is)
+
+    pub settle_moved : (n : Next) → OnNext IsUnbearing n → IsMoved c m k p (Settle areas first) n
+    settle_moved n none_next = record {
+      source = λ page t. (let q = covers_times page (map (λ a. a.0) areas) t in omega (arith, ap (times page) here));
+      uses = λ page. (let z : times page (flushed p) ≡ 0 = ap (times page) none in
+          omega (arith, unbearing_uses c m k fine (effect_as c m k (Settle areas first)) n page none_next, with_times page (areas_of k first areas) m.areas, new_times page, settle_free page _ refl));
+      own = unbearing_own c m k fine (effect_as c m k (Settle areas first)) n none_next;
+      fine = record {
+        areas = λ i a h. area_in a (with_in (areas_of k first areas) m.areas a (record { place = i; at = h }));
+        waits = λ page w. (waits_same page w _ refl).mark ∙ fine.waits page w;
+        long = fine.long;
+        pages = λ page. page_by c m k p (Settle areas first) fine once page _ refl (λ t. let is = settled_live page t in live_fine _ is.0 page is.1);
+      };
+    }
+
+  -- An area is taken out.
+
+  -- the areas that stay don't have its pages
+  pub stays_apart : (q r : Area → Bool) (other : (a : Area) → r a ≡ not (q a)) (page : ℕ) → times page (spans_of m.areas) ≤ 1 → 1 ≤ times page (spans_of (filter q m.areas)) → times page (spans_of (filter r m.areas)) ≡ 0
+  stays_apart q r other page once h = omega (arith, times_both page q r other m.areas)
+
+  module _ (p : Place) (s : Section) (q r : Area → Bool) (other : (a : Area) → r a ≡ not (q a)) (once : (page : ℕ) → own_uses c m p page ≤ 1)
+      (rest : (effect_as c m k s).areas ≡ filter r m.areas) (waiting : (effect_as c m k s).waiting ≡ m.waiting) (long : length (effect_as c m k s).stale ≡ length (effect_as c m k s).frames)
+      (removed : (page : ℕ) → touch c m s page ≡ true → 1 ≤ times page (spans_of (filter q m.areas))) (touched : (page : ℕ) → touch c m s page ≡ true → IsMarked (effect_as c m k s) (Held k) page) where
+    out_same : (page : ℕ) (b : Bool) → touch c m s page ≡ b → 1 ≤ times page (spans_of (filter r m.areas)) + times page m.waiting → IsSame m (effect_as c m k s) page
+    out_same page true t h = absurd (let o = once page in let z = stays_apart q r other page (omega arith) (removed page t) in let a = removed page t in omega (arith, times_both page q r other m.areas))
+    out_same page false t h = untouched c m k s page t
+
+    pub out_fine : IsMapFine (effect_as c m k s)
+    out_fine = record {
+      areas = λ i a h. (let kept = ap (λ l. slice_get l i) (sym rest) ∙ h in let was = (filter_has r m.areas i a kept).there in
+          area_stays m (effect_as c m k s) a (λ page e. out_same page _ refl (let n = area_times page (filter r m.areas) i a kept e in omega arith)) (fine.areas was.place a was.at));
+      waits = λ page w. (let was = ap (λ l. covers l page) (sym waiting) ∙ w in (out_same page _ refl (let n = covers_times page m.waiting was in omega arith)).mark ∙ fine.waits page was);
+      long = long;
+      pages = λ page. page_by c m k p s fine once page _ refl (λ t. held_fine _ k page (touched page t));
+    }
+
+    pub out_source : (page : ℕ) → touch c m s page ≡ true → 1 ≤ times page (spans_of m.areas)
+    out_source page t = let a = removed page t in omega (arith, times_both page q r other m.areas)
+
+    pub out_free : (test : ℕ → Bool) → (effect_as c m k s).marks ≡ paint test (Held k) m.marks → (page : ℕ) → as_free (slice_get (effect_as c m k s).marks page) ≤ as_free (slice_get m.marks page)
+    out_free test e page = let now = ap (λ l. as_free (slice_get l page)) e in omega (arith, painted_free test (Held k) m.marks page refl, zero_or (test page) (as_free (slice_get m.marks page)))
+      where
+        zero_or : (b : Bool) (n : ℕ) → (if b then 0 else n) ≤ n
+        zero_or true n = omega arith
+        zero_or false n = omega arith

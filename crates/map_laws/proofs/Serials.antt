@@ -1,0 +1,408 @@
+-- What a call names as an area that it made is a plain one, as long as it lives.
+use Rattle.std.proofs.Common.{◌≡◌, ℕ, ℤ, zero, suc, ◌+◌, ◌-◌, ◌<◌, ◌≤◌, ◌⊎◌, inl, inr, Bool, true, false, ◌==◌, nat_lt, nat_le, if◌then◌else◌, List, [], ◌∷◌, ◌++◌, length, slice_get, Option, Some, None, refl, ap, sym, ◌∙◌, subst, arith}
+use Rattle.vm_model.specs.declared.areas.Span.{Span}
+use Rattle.vm_model.specs.declared.areas.Area.{Area}
+use Rattle.vm_model.specs.declared.areas.AreaKind.{AreaKind}
+use Rattle.std.proofs.lemmas.Bool.Decides.{nat_tests}
+use Rattle.vm_model.specs.declared.calls.Target.{Target}
+use Rattle.vm_model.specs.declared.calls.Call.{Call}
+use Rattle.vm_model.specs.declared.calls.Call.TheVariants.{Vmalloc, Vfree, MapRam, UnmapRam, UnmapAliases, AllocPercpu, AllocAtomic, FreePercpu, Add, Sum, Balance}
+use Rattle.std.proofs.lemmas.Option.{slice_get_within}
+use Rattle.vm_model.specs.Blocks.{PartAt}
+use Rattle.vm_model.specs.Chunks.{ObjectAt}
+use Rattle.vm_model.specs.Setup.{Setup, cpus}
+use Rattle.vm_model.specs.PlainMap.{PlainMap}
+use Rattle.vm_model.specs.Areas.{named_areas, is_area, areas_of}
+use Rattle.vm_model.specs.Legal.{IsLegalAs}
+use Rattle.vm_model.specs.Events.{Section, Settle, Remove, Unlink}
+use Rattle.vm_model.specs.Effects.{effect_as}
+use Rattle.vm_model.specs.Places.{Place, Made, MadeNothing, MadeArea, MadePart, MadeObject, UnlinkingGroups, Depopulating, TakingToBalance, Summing, Adding, SettlingAtomic, Zeroing, GivingAlloc, Unplacing, SettlingObject, SettlingGroups, TakingAlloc, UnlinkingBlock, UnmappingPart, SettlingPart, AddingBlock, SettlingBlock, PurgeReturning, PurgeWaiting, PurgeUnlinking, PurgeTaking, UnmappingArea, SettlingArea, Dropping, Refusing, Over, Finding, FindingAgain, MappingArea, Removing, Waiting, PurgeFragmenting, PurgeCollecting, PurgeFlushing, PurgeGiving, CuttingPart, MappingPart, BeginningUnmap, Retiring, LookingAtDirty, Choosing, AddingChunk, Populating, ChoosingAtomic, FreeingObject, Sparing, NextFill, Filling, NotingFilled, Aim, ForArea, ForBlock, ForChunk, Then, SearchAgain, ReplyWith, SpareAgain, ask}
+use Rattle.vm_model.specs.Next.{Next, Go, Answer, next, found, without_space, after_remove, go_on, after_fragments, after_collecting, after_flush, after_cut, after_begin, after_place, after_atomic, after_spare, after_page}
+use Rattle.vm_model.specs.Told.{carved, carved_base, had_frames, removed, pages_waiting, spans_taken, blocks_gone, part_told, was_spent, placed, was_live, spare_told, page_told, serial_given}
+use Rattle.vm_model.specs.Calls.{Answered, begin, begin_call, begin_free_area, begin_unmap_ram, begin_free_percpu, begin_add, begin_sum, target_of, made_in, was_freed, answers_in, is_bad_vmalloc_size, is_bad_vmalloc_align, is_bad_map_size, is_bad_object_size, is_bad_object_align}
+use Rattle.vm_model.specs.History.{World, Local, started, moved_to, made_by, opening_world, opening_answers, callers_from, with_callers}
+use Rattle.vm_model.specs.LegalHistory.{Meets}
+use Rattle.map_laws.proofs.Lists.{set_cases, append_cases}
+use Rattle.map_laws.proofs.Chosen.{IsIn, filter_has}
+use Rattle.map_laws.proofs.Fits.{and_both}
+use Rattle.map_laws.proofs.Frames.{IsFramed, not_over, has_call}
+use Rattle.map_laws.proofs.Places.{IsPlainKind, IsProper, AllStand, either_place, answers_call}
+use Rattle.map_laws.proofs.OutMoves.{with_in}
+use Rattle.map_laws.proofs.AreasMade.{areas_after}
+use Rattle.map_laws.proofs.AreaWorlds.{IsLegalStep}
+
+-- the serials of areas that live are given
+pub record AreGiven (m : PlainMap) : Type 0 where
+  pub below : (a : Area) → IsIn a m.areas → a.serial < m.next_area
+
+-- a serial that is given, and is no block's and no chunk's
+pub record IsPlainSerial (m : PlainMap) (serial : ℕ) : Type 0 where
+  pub given : serial < m.next_area
+  pub plain : (a : Area) → IsIn a m.areas → a.serial ≡ serial → IsPlainKind a.kind
+
+abbrev pub IsPlainMade : PlainMap → Made → Type 0
+IsPlainMade m (MadeArea start serial) = IsPlainSerial m serial
+IsPlainMade m _ = Unit {0}
+
+abbrev pub IsPlainPlace : PlainMap → Place → Type 0
+IsPlainPlace m (Removing start serial) = IsPlainSerial m serial
+IsPlainPlace m (GivingAlloc r made) = IsPlainMade m made
+IsPlainPlace m _ = Unit {0}
+
+-- the serials of settled areas
+settled_serial : (k first : ℕ) (areas : List (Span × AreaKind)) (i : ℕ) (a : Area) → slice_get (areas_of k first areas) i ≡ Some a → a.serial ≡ first + i
+settled_serial k first [] i a h = cc
+settled_serial k first (p ∷ areas) zero a h = let is : first ≡ a.serial = cc in let z : first ≡ first + 0 = omega arith in sym is ∙ z
+settled_serial k first (p ∷ areas) (suc i) a h = let z : suc first + i ≡ first + suc i = omega arith in settled_serial k (suc first) areas i a h ∙ z
+
+length-areas_of : (k first : ℕ) (areas : List (Span × AreaKind)) → length (areas_of k first areas) ≡ length areas
+length-areas_of k first [] = refl
+length-areas_of k first (p ∷ areas) = ap suc (length-areas_of k (suc first) areas)
+
+-- an area behind a section was there, or has a serial from the next one on
+pub data IsOldOrNew (m m' : PlainMap) (a : Area) : Type 0 where
+  IsOld : IsIn a m.areas → IsOldOrNew m m' a
+  IsNew : m.next_area ≤ a.serial → a.serial < m'.next_area → IsOldOrNew m m' a
+
+module _ (c : Setup) (m : PlainMap) (k : ℕ) where
+  new_area : (areas : List (Span × AreaKind)) (first : ℕ) (a : Area) → first ≡ m.next_area → IsIn a (areas_of k first areas) ⊎ IsIn a m.areas → IsOldOrNew m (effect_as c m k (Settle areas first)) a
+  new_area areas first a e (inr old) = IsOld old
+  new_area areas first a e (inl new) =
+      let within = slice_get_within (areas_of k first areas) new.place a new.at in
+      let serial = settled_serial k first areas new.place a new.at in
+      IsNew (omega arith) (omega (arith, length-areas_of k first areas))
+
+  pub old_or_new : (s : Section) → IsLegalAs c m k s → (a : Area) → IsIn a (effect_as c m k s).areas → IsOldOrNew m (effect_as c m k s) a
+  old_or_new (Settle areas first) legal a there = new_area areas first a legal.1 (with_in (areas_of k first areas) m.areas a there)
+  old_or_new (Remove start serial area) legal a there = IsOld (areas_after c m k (Remove start serial area) refl a there)
+  old_or_new (Unlink starts) legal a there = IsOld (areas_after c m k (Unlink starts) refl a there)
+  old_or_new _ legal a there = IsOld there
+
+  pub next_grows : (s : Section) → IsLegalAs c m k s → m.next_area ≤ (effect_as c m k s).next_area
+  next_grows (Settle areas first) legal = let e = legal.1 in omega arith
+  next_grows _ legal = omega arith
+
+  serial_by : (s : Section) → IsLegalAs c m k s → AreGiven m → (a : Area) → IsOldOrNew m (effect_as c m k s) a → a.serial < (effect_as c m k s).next_area
+  serial_by s legal is a (IsOld old) = let low = is.below a old in let more = next_grows s legal in omega arith
+  serial_by s legal is a (IsNew low high) = high
+
+  pub given_after : (s : Section) → IsLegalAs c m k s → AreGiven m → AreGiven (effect_as c m k s)
+  given_after s legal is = record { below = λ a there. serial_by s legal is a (old_or_new s legal a there) }
+
+  plain_by : (s : Section) (serial : ℕ) → IsPlainSerial m serial → (a : Area) → a.serial ≡ serial → IsOldOrNew m (effect_as c m k s) a → IsPlainKind a.kind
+  plain_by s serial is a e (IsOld old) = is.plain a old e
+  plain_by s serial is a e (IsNew low high) = absurd (let given = is.given in omega arith)
+
+  pub plain_stays : (s : Section) → IsLegalAs c m k s → (serial : ℕ) → IsPlainSerial m serial → IsPlainSerial (effect_as c m k s) serial
+  plain_stays s legal serial is = record {
+    given = (let given = is.given in let more = next_grows s legal in omega arith);
+    plain = λ a there e. plain_by s serial is a e (old_or_new s legal a there);
+  }
+
+  pub made_stays : (s : Section) → IsLegalAs c m k s → (made : Made) → IsPlainMade m made → IsPlainMade (effect_as c m k s) made
+  made_stays s legal MadeNothing is = tt
+  made_stays s legal (MadeArea start serial) is = plain_stays s legal serial is
+  made_stays s legal (MadePart cpu page serial) is = tt
+  made_stays s legal (MadeObject at serial) is = tt
+
+  pub place_stays : (s : Section) → IsLegalAs c m k s → (p : Place) → IsPlainPlace m p → IsPlainPlace (effect_as c m k s) p
+  place_stays s legal (Removing start serial) is = plain_stays s legal serial is
+  place_stays s legal (GivingAlloc r made) is = made_stays s legal made is
+  place_stays s legal _ is = tt
+
+  -- an area that a caller settles is plain, and has the serial that it is told
+  settled_plain : (place : Span) (kd : AreaKind) (first : ℕ) (a : Area) → IsPlainKind kd → AreGiven m → first ≡ m.next_area → a.serial ≡ first → IsIn a (areas_of k first ((place, kd) ∷ [])) ⊎ IsIn a m.areas → IsPlainKind a.kind
+  settled_plain place kd first a plain is e f (inr old) = absurd (let low = is.below a old in omega arith)
+  settled_plain place kd first a plain is e f (inl new) = by_place new.place new.at
+    where
+      by_place : (i : ℕ) → slice_get (areas_of k first ((place, kd) ∷ [])) i ≡ Some a → IsPlainKind a.kind
+      by_place zero h = let same : kd ≡ a.kind = cc in subst IsPlainKind same plain
+      by_place (suc i) h = cc
+
+  pub settles_plain : (place : Span) (kd : AreaKind) (first : ℕ) (s : Section) → s ≡ Settle ((place, kd) ∷ []) first → IsLegalAs c m k s → IsPlainKind kd → AreGiven m → IsPlainSerial (effect_as c m k s) (serial_given s)
+  settles_plain place kd first s e legal plain is = subst (λ (x : Section). IsPlainSerial (effect_as c m k x) (serial_given x)) (sym e) (record {
+    given = omega arith;
+    plain = λ a there f. settled_plain place kd first a plain is (subst (IsLegalAs c m k) e legal).1 f (with_in (areas_of k first ((place, kd) ∷ [])) m.areas a there);
+  })
+
+-- where a caller goes, with what it made
+abbrev pub IsPlainNext : PlainMap → Next → Type 0
+IsPlainNext m (Go p) = IsPlainPlace m p
+IsPlainNext m (Answer r made) = IsPlainMade m made
+
+either_plain : (m : PlainMap) (b : Bool) (x y : Next) → IsPlainNext m x → IsPlainNext m y → IsPlainNext m (if b then x else y)
+either_plain m true x y p q = p
+either_plain m false x y p q = q
+
+abbrev pub makes_area : Place → Bool
+makes_area (SettlingArea s k) = true
+makes_area (GivingAlloc r made) = true
+makes_area _ = false
+
+module _ (c : Setup) (m : PlainMap) where
+  found_pl : (aim : Aim) (o : Option Span) (base : Option ℕ) (otherwise : Next) → IsPlainNext m otherwise → IsPlainNext m (found aim o base otherwise)
+  found_pl (ForArea k) (Some place) base otherwise h = tt
+  found_pl (ForBlock cpu pages) (Some place) base otherwise h = tt
+  found_pl (ForChunk chunk bytes align) (Some place) base otherwise h = tt
+  found_pl (ForArea k) None (Some base) otherwise h = tt
+  found_pl (ForBlock cpu pages) None (Some base) otherwise h = tt
+  found_pl (ForChunk chunk bytes align) None (Some base) otherwise h = tt
+  found_pl aim None None otherwise h = h
+
+  no_space_pl : (aim : Aim) → IsPlainNext m (without_space aim)
+  no_space_pl (ForArea k) = tt
+  no_space_pl (ForBlock cpu pages) = tt
+  no_space_pl (ForChunk chunk bytes align) = tt
+
+  removed_pl : (o : Option Area) → IsPlainNext m (after_remove o)
+  removed_pl None = tt
+  removed_pl (Some area) = tt
+
+  went_on_pl : (after : Then) → IsPlainNext m (go_on after)
+  went_on_pl (SearchAgain search aim) = tt
+  went_on_pl (ReplyWith reply) = tt
+  went_on_pl SpareAgain = tt
+
+  fragments_pl : (gone : List ℕ) (extra : Option Span) (after : Then) → IsPlainPlace m (after_fragments gone extra after)
+  fragments_pl [] extra after = tt
+  fragments_pl (start ∷ gone) extra after = tt
+
+  collected_pl : (waited : List Span) (o : Option Span) (after : Then) → IsPlainNext m (after_collecting waited o after)
+  collected_pl waited None after = tt
+  collected_pl waited (Some s) after = tt
+
+  flushed_pl : (waited : List Span) (after : Then) → IsPlainNext m (after_flush waited after)
+  flushed_pl [] after = tt
+  flushed_pl (s ∷ waited) after = tt
+
+  cut_pl : (cpu pages : ℕ) (o : Option PartAt) → IsPlainNext m (after_cut c cpu pages o)
+  cut_pl cpu pages None = tt
+  cut_pl cpu pages (Some at) = tt
+
+  begun_pl : (o : Option PartAt) → IsPlainNext m (after_begin o)
+  begun_pl None = tt
+  begun_pl (Some at) = tt
+
+  placed_pl : (bytes align n : ℕ) (o : Option (ObjectAt × List ℕ)) → IsPlainNext m (after_place bytes align n o)
+  placed_pl bytes align n None = tt
+  placed_pl bytes align n (Some p) = tt
+
+  atomic_pl : (o : Option (ObjectAt × List ℕ)) → IsPlainNext m (after_atomic o)
+  atomic_pl None = tt
+  atomic_pl (Some p) = tt
+
+  spared_plain : (o : Option (ℕ × List ℕ)) → IsPlainNext m (after_spare o)
+  spared_plain None = tt
+  spared_plain (Some p) = tt
+
+  page_plain : (filled : ℕ) (o : Option (ℕ × ℕ × ℕ)) → IsPlainNext m (after_page filled o)
+  page_plain filled None = tt
+  page_plain filled (Some p) = tt
+
+  -- no other section leads to an area's serial
+  pub plain_next : (p : Place) (s : Section) → makes_area p ≡ false → IsPlainNext m (next c p s)
+  plain_next (Finding search aim) s h = found_pl aim (carved s) (carved_base s) _ tt
+  plain_next (FindingAgain search aim) s h = found_pl aim (carved s) (carved_base s) _ (no_space_pl aim)
+  plain_next (MappingArea place k) s h = either_plain m (had_frames s) _ _ tt tt
+  plain_next (Removing start serial) s h = removed_pl (removed s)
+  plain_next (Waiting spans after) s h = either_plain m (nat_lt c.lazy (pages_waiting s)) _ _ tt (went_on_pl after)
+  plain_next (PurgeFragmenting cpu gone extra after) s h = either_plain m (nat_lt (suc cpu) (cpus c)) _ _ tt (fragments_pl (gone ++ blocks_gone s) extra after)
+  plain_next (PurgeCollecting extra after) s h = collected_pl (spans_taken s) _ after
+  plain_next (PurgeFlushing hull waited after) s h = flushed_pl waited after
+  plain_next (PurgeGiving after) s h = went_on_pl after
+  plain_next (CuttingPart cpu pages) s h = cut_pl cpu pages (part_told s)
+  plain_next (MappingPart at) s h = either_plain m (had_frames s) _ _ tt tt
+  plain_next (BeginningUnmap cpu page serial) s h = begun_pl (part_told s)
+  plain_next (Retiring at reply) s h = either_plain m (was_spent s) _ _ tt tt
+  plain_next (LookingAtDirty cpu ranges) s h = either_plain m (nat_lt (suc cpu) (cpus c)) _ _ tt tt
+  plain_next (Choosing bytes align) s h = placed_pl bytes align _ (placed s)
+  plain_next (AddingChunk base chunk bytes align) s h = placed_pl bytes align 0 (placed s)
+  plain_next (Populating at missing) s h = either_plain m (had_frames s) _ _ tt tt
+  plain_next (ChoosingAtomic bytes align) s h = atomic_pl (placed s)
+  plain_next (FreeingObject at serial) s h = either_plain m (was_live s) _ _ tt tt
+  plain_next Sparing s h = spared_plain (spare_told s)
+  plain_next (NextFill filled) s h = page_plain filled (page_told s)
+  plain_next (Filling chunk base page filled) s h = either_plain m (had_frames s) _ _ tt tt
+  plain_next (NotingFilled chunk page filled) s h = tt
+  plain_next Over s h = tt
+  plain_next (Refusing reply) s h = tt
+  plain_next (Dropping place) s h = tt
+  plain_next (SettlingArea place own) s h = cc
+  plain_next (UnmappingArea area) s h = tt
+  plain_next (PurgeTaking extra after) s h = tt
+  plain_next (PurgeUnlinking gone extra after) s h = tt
+  plain_next (PurgeWaiting gone extra after) s h = tt
+  plain_next (PurgeReturning waited after) s h = tt
+  plain_next (SettlingBlock place cpu pages) s h = tt
+  plain_next (AddingBlock at) s h = tt
+  plain_next (SettlingPart at) s h = tt
+  plain_next (UnmappingPart at) s h = tt
+  plain_next (UnlinkingBlock start reply) s h = tt
+  plain_next (TakingAlloc bytes align) s h = tt
+  plain_next (SettlingGroups base chunk bytes align) s h = tt
+  plain_next (SettlingObject at) s h = tt
+  plain_next (Unplacing at) s h = tt
+  plain_next (GivingAlloc reply made) s h = cc
+  plain_next (Zeroing at) s h = tt
+  plain_next (SettlingAtomic at) s h = tt
+  plain_next (Adding at serial cpu index amount) s h = tt
+  plain_next (Summing at serial index) s h = tt
+  plain_next TakingToBalance s h = tt
+  plain_next (Depopulating base populated) s h = tt
+  plain_next (UnlinkingGroups base) s h = tt
+
+module _ (c : Setup) (m : PlainMap) (k : ℕ) where
+  next_by : (p : Place) (s : Section) (b : Bool) → makes_area p ≡ b → IsProper c p → AreGiven m → IsPlainPlace m p → Meets c (ask c p) s → IsLegalAs c m k s → IsPlainNext (effect_as c m k s) (next c p s)
+  next_by p s false e proper is plain w legal = plain_next c (effect_as c m k s) p s e
+  next_by (SettlingArea place kd) s true e proper is plain w legal = settles_plain c m k place kd w.0 s w.1 legal proper.0 is
+  next_by (GivingAlloc r made) s true e proper is plain w legal = made_stays c m k s legal made plain
+  next_by _ s true e proper is plain w legal = cc
+
+  pub plain_after : (p : Place) (s : Section) → IsProper c p → AreGiven m → IsPlainPlace m p → Meets c (ask c p) s → IsLegalAs c m k s → IsPlainNext (effect_as c m k s) (next c p s)
+  plain_after p s proper is plain w legal = next_by p s (makes_area p) refl proper is plain w legal
+
+-- of a caller: what its answers made, and those of the opening, and its place
+pub record IsPlainCaller (m : PlainMap) (l : Local) : Type 0 where
+  pub answers : (i : ℕ) (a : Answered) → slice_get l.answers i ≡ Some a → IsPlainMade m a.made
+  pub opening : (i : ℕ) (a : Answered) → slice_get l.opening i ≡ Some a → IsPlainMade m a.made
+  pub place : IsPlainPlace m l.place
+
+pub record IsPlainWorld (w : World) : Type 0 where
+  pub given : AreGiven w.map
+  pub each : (k : ℕ) (l : Local) → slice_get w.locals k ≡ Some l → IsPlainCaller w.map l
+
+-- what a target names
+pick_by : (m : PlainMap) (answers : List Answered) → ((i : ℕ) (a : Answered) → slice_get answers i ≡ Some a → IsPlainMade m a.made) → (i : ℕ) (o : Option Answered) → slice_get answers i ≡ o → IsPlainMade m (made_in o)
+pick_by m answers all i None e = tt
+pick_by m answers all i (Some a) e = all i a e
+
+target_plain : (m : PlainMap) (opening own : List Answered) → ((i : ℕ) (a : Answered) → slice_get opening i ≡ Some a → IsPlainMade m a.made) → ((i : ℕ) (a : Answered) → slice_get own i ≡ Some a → IsPlainMade m a.made)
+    → (t : Target) → IsPlainMade m (target_of opening own t)
+target_plain m opening own p q t = by_side t.opening refl
+  where
+    by_side : (b : Bool) → t.opening ≡ b → IsPlainMade m (target_of opening own t)
+    by_side true e = subst (λ l. IsPlainMade m (made_in (slice_get l (t.call - 1)))) (sym (ap (λ b. if b then opening else own) e)) (pick_by m opening p (t.call - 1) _ refl)
+    by_side false e = subst (λ l. IsPlainMade m (made_in (slice_get l (t.call - 1)))) (sym (ap (λ b. if b then opening else own) e)) (pick_by m own q (t.call - 1) _ refl)
+
+free_plain : (m : PlainMap) (made : Made) → IsPlainMade m made → IsPlainPlace m (begin_free_area made)
+free_plain m MadeNothing is = tt
+free_plain m (MadeArea start serial) is = is
+free_plain m (MadePart cpu page serial) is = tt
+free_plain m (MadeObject at serial) is = tt
+
+unmap_plain : (m : PlainMap) (made : Made) → IsPlainMade m made → IsPlainPlace m (begin_unmap_ram made)
+unmap_plain m MadeNothing is = tt
+unmap_plain m (MadeArea start serial) is = is
+unmap_plain m (MadePart cpu page serial) is = tt
+unmap_plain m (MadeObject at serial) is = tt
+
+object_plain : (m : PlainMap) (made : Made) → IsPlainPlace m (begin_free_percpu made)
+object_plain m MadeNothing = tt
+object_plain m (MadeArea start serial) = tt
+object_plain m (MadePart cpu page serial) = tt
+object_plain m (MadeObject at serial) = tt
+
+add_plain : (m : PlainMap) (freed : Bool) (cpu index : ℕ) (amount : ℤ) (made : Made) → IsPlainPlace m (begin_add freed cpu index amount made)
+add_plain m true cpu index amount (MadeObject at serial) = tt
+add_plain m false cpu index amount (MadeObject at serial) = tt
+add_plain m freed cpu index amount MadeNothing = tt
+add_plain m freed cpu index amount (MadeArea start serial) = tt
+add_plain m freed cpu index amount (MadePart own page serial) = tt
+
+sum_plain : (m : PlainMap) (freed : Bool) (index : ℕ) (made : Made) → IsPlainPlace m (begin_sum freed index made)
+sum_plain m true index (MadeObject at serial) = tt
+sum_plain m false index (MadeObject at serial) = tt
+sum_plain m freed index MadeNothing = tt
+sum_plain m freed index (MadeArea start serial) = tt
+sum_plain m freed index (MadePart own page serial) = tt
+
+module _ (m : PlainMap) (c : Setup) (opening own : List Answered) (p : (i : ℕ) (a : Answered) → slice_get opening i ≡ Some a → IsPlainMade m a.made) (q : (i : ℕ) (a : Answered) → slice_get own i ≡ Some a → IsPlainMade m a.made) where
+  call_plain : (call : Call) → IsPlainPlace m (begin_call c opening own call)
+  call_plain (Vmalloc bytes align) = either_place (IsPlainPlace m) (is_bad_vmalloc_size c bytes) _ _ (λ e. tt) (λ e. either_place (IsPlainPlace m) (is_bad_vmalloc_align align) _ _ (λ f. tt) (λ f. tt))
+  call_plain (Vfree t) = free_plain m (target_of opening own t) (target_plain m opening own p q t)
+  call_plain (MapRam cpu pages) = either_place (IsPlainPlace m) (is_bad_map_size c pages) _ _ (λ e. tt) (λ e. either_place (IsPlainPlace m) (nat_le pages c.part_limit) _ _ (λ f. tt) (λ f. tt))
+  call_plain (UnmapRam t) = unmap_plain m (target_of opening own t) (target_plain m opening own p q t)
+  call_plain UnmapAliases = tt
+  call_plain (AllocPercpu bytes align) = either_place (IsPlainPlace m) (is_bad_object_size bytes) _ _ (λ e. tt) (λ e. either_place (IsPlainPlace m) (is_bad_object_align align) _ _ (λ f. tt) (λ f. tt))
+  call_plain (AllocAtomic bytes align) = either_place (IsPlainPlace m) (is_bad_object_size bytes) _ _ (λ e. tt) (λ e. either_place (IsPlainPlace m) (is_bad_object_align align) _ _ (λ f. tt) (λ f. tt))
+  call_plain (FreePercpu t) = object_plain m (target_of opening own t)
+  call_plain (Add t cpu index amount) = add_plain m (was_freed (answers_in opening own t) t.call) cpu index amount (target_of opening own t)
+  call_plain (Sum t index) = sum_plain m (was_freed (answers_in opening own t) t.call) index (target_of opening own t)
+  call_plain Balance = tt
+
+  begin_plain : (o : Option Call) → IsPlainPlace m (begin c opening own o)
+  begin_plain None = tt
+  begin_plain (Some call) = call_plain call
+
+plain_answers : (m : PlainMap) (answers : List Answered) (a : Answered) → ((i : ℕ) (b : Answered) → slice_get answers i ≡ Some b → IsPlainMade m b.made) → IsPlainMade m a.made
+    → (i : ℕ) (b : Answered) → slice_get (answers ++ a ∷ []) i ≡ Some b → IsPlainMade m b.made
+plain_answers m answers a all is i b h = elim (append_cases answers (a ∷ []) i b h) [ inl e ↦ all i b e | inr e ↦ new_one e.0 e.2 ]
+  where
+    new_one : (j : ℕ) → slice_get (a ∷ []) j ≡ Some b → IsPlainMade m b.made
+    new_one zero e = let same : a ≡ b = cc in subst (λ (x : Answered). IsPlainMade m x.made) same is
+    new_one (suc j) e = cc
+
+moved_plain : (m : PlainMap) (l : Local) (n : Next) → length l.answers < length l.calls → IsPlainCaller m l → IsPlainNext m n → IsPlainCaller m (moved_to l n)
+moved_plain m l (Go p) call is to = record { answers = is.answers; opening = is.opening; place = to }
+moved_plain m l (Answer r made) call is to =
+    let e = answers_call l r made call in
+    let more = plain_answers m l.answers (record { call = e.0; reply = r; made = made; own_event = suc l.events }) is.answers to in
+    subst (IsPlainCaller m) (sym e.2) (record { answers = more; opening = is.opening; place = begin_plain m l.setup l.opening _ is.opening more (slice_get l.calls (suc (length l.answers))) })
+
+caller_stays : (c : Setup) (m : PlainMap) (k : ℕ) (s : Section) → IsLegalAs c m k s → (l : Local) → IsPlainCaller m l → IsPlainCaller (effect_as c m k s) l
+caller_stays c m k s legal l is = record {
+  answers = λ i a h. made_stays c m k s legal a.made (is.answers i a h);
+  opening = λ i a h. made_stays c m k s legal a.made (is.opening i a h);
+  place = place_stays c m k s legal l.place is.place;
+}
+
+pub plain_step : (c : Setup) (w : World) (k : ℕ) (l : Local) (s : Section) → IsFramed c w → AllStand IsProper w → IsPlainWorld w → IsLegalStep w k l s → IsPlainWorld (made_by w l s)
+plain_step c w k l s framed proper is step =
+    let own = framed.own k l step.step.here in
+    let legal : IsLegalAs l.setup w.map l.caller s = subst (λ i. IsLegalAs l.setup w.map i s) (sym own.caller) step.legal in
+    let caller = is.each k l step.step.here in record {
+      given = given_after l.setup w.map l.caller s legal is.given;
+      each = λ j x h. elim (set_cases w.locals l.caller j (moved_to l (next l.setup l.place s)) x h) [
+        | inl e ↦ subst (IsPlainCaller (effect_as l.setup w.map l.caller s)) (sym e.1)
+            (moved_plain (effect_as l.setup w.map l.caller s) l (next l.setup l.place s) (has_call c k l own (not_over l.setup w.map l.place s step.step.gives)) (caller_stays l.setup w.map l.caller s legal l caller)
+            (plain_after l.setup w.map l.caller l.place s (proper.each k l step.step.here) is.given caller.place step.meets legal))
+        | inr e ↦ caller_stays l.setup w.map l.caller s legal x (is.each j x e.1)
+      ];
+    }
+
+pub plain_first : (c : Setup) (opening : List Call) (calls : List (List Call)) → IsPlainWorld (opening_world c opening calls)
+plain_first c opening calls = record { given = record { below = λ a there. (let at = there.at in cc) }; each = first }
+  where
+    first : (k : ℕ) (l : Local) → slice_get (started c [] 0 opening ∷ []) k ≡ Some l → IsPlainCaller (opening_world c opening calls).map l
+    first zero l h = let e : started c [] 0 opening ≡ l = cc in subst (IsPlainCaller (opening_world c opening calls).map) e (record {
+      answers = λ i a f. cc;
+      opening = λ i a f. cc;
+      place = begin_plain (opening_world c opening calls).map c [] [] (λ i a f. cc) (λ i a f. cc) (slice_get opening 0);
+    })
+    first (suc k) l h = cc
+
+opening_plain : (m : PlainMap) (locals : List Local) → ((k : ℕ) (l : Local) → slice_get locals k ≡ Some l → IsPlainCaller m l) → (i : ℕ) (a : Answered) → slice_get (opening_answers locals) i ≡ Some a → IsPlainMade m a.made
+opening_plain m [] all i a h = cc
+opening_plain m (l ∷ locals) all i a h = (all 0 l refl).answers i a h
+
+pub plain_joins : (c : Setup) (calls : List (List Call)) (w : World) → IsPlainWorld w → IsPlainWorld (with_callers c calls w)
+plain_joins c calls w is = record {
+  given = is.given;
+  each = λ k l h. elim (append_cases w.locals (callers_from c (opening_answers w.locals) 1 calls) k l h) [ inl e ↦ is.each k l e | inr e ↦ joined (opening_answers w.locals) (opening_plain w.map w.locals is.each) 1 calls e.0 l e.2 ];
+}
+  where
+    joined : (answers : List Answered) → ((i : ℕ) (a : Answered) → slice_get answers i ≡ Some a → IsPlainMade w.map a.made) → (first : ℕ) (more : List (List Call)) (j : ℕ) (l : Local)
+        → slice_get (callers_from c answers first more) j ≡ Some l → IsPlainCaller w.map l
+    joined answers all first [] j l h = cc
+    joined answers all first (own ∷ more) zero l h = let e : started c answers first own ≡ l = cc in
+        subst (IsPlainCaller w.map) e (record { answers = λ i a f. cc; opening = all; place = begin_plain w.map c answers [] all (λ i a f. cc) (slice_get own 0) })
+    joined answers all first (own ∷ more) (suc j) l h = joined answers all (suc first) more j l h
+
+-- the area that is removed is a plain one
+pub removed_plain : (m : PlainMap) (start serial : ℕ) → IsPlainSerial m serial → (area : Area) → named_areas start serial m.areas ≡ area ∷ [] → IsPlainKind area.kind
+removed_plain m start serial is area e =
+    let kept = filter_has (is_area start serial) m.areas 0 area (ap (λ l. slice_get l 0) e) in
+    is.plain area kept.there (let same : area.serial ≡ serial = same_number area.serial serial (and_both (area.span.start == start) (area.serial == serial) kept.passes).1 in same)
+  where
+    same_number : (a b : ℕ) → (a == b) ≡ true → a ≡ b
+    same_number a b h = grind (arith, nat_tests)

@@ -1,0 +1,190 @@
+-- A vmalloc call makes an area at a multiple of its alignment.
+use Rattle.std.proofs.Common.{◌≡◌, ℕ, zero, suc, ◌%◌, ◌<◌, inl, inr, Bool, true, false, nat_lt, if◌then◌else◌, List, [], ◌∷◌, ◌++◌, length, slice_get, Option, Some, None, refl, ap, sym, ◌∙◌, subst, arith, length-append}
+use Rattle.vm_model.specs.declared.areas.Span.{Span}
+use Rattle.vm_model.specs.declared.areas.AreaKind.{AreaKind}
+use Rattle.vm_model.specs.declared.calls.Call.{Call}
+use Rattle.vm_model.specs.declared.calls.Call.TheVariants.{Vmalloc, Vfree, MapRam, UnmapRam, UnmapAliases, AllocPercpu, AllocAtomic, FreePercpu, Add, Sum, Balance}
+use Rattle.vm_model.specs.Space.{hull, lowest}
+use Rattle.vm_model.specs.Setup.{Setup, cpus}
+use Rattle.vm_model.specs.PlainMap.{PlainMap, taken}
+use Rattle.vm_model.specs.Events.{Section, Search, ForPages, ForGroups}
+use Rattle.vm_model.specs.Told.{carved, carved_base, had_frames, spans_taken, blocks_gone}
+use Rattle.vm_model.specs.Places.{Place, Refusing, Finding, FindingAgain, MappingArea, Dropping, SettlingArea, PurgeTaking, PurgeFragmenting, PurgeUnlinking, PurgeWaiting, PurgeCollecting, PurgeFlushing, PurgeReturning, PurgeGiving, Made, MadeNothing, MadeArea, MadePart, MadeObject, Aim, ForArea, ForBlock, ForChunk, Then, SearchAgain, ReplyWith, SpareAgain, AskSearch, ask}
+use Rattle.vm_model.specs.Next.{Next, Go, Answer, next, found, without_space, go_on, after_fragments, after_collecting, after_flush}
+use Rattle.vm_model.specs.Calls.{Answered, begin, begin_call, align_pages, is_bad_vmalloc_size, is_bad_vmalloc_align}
+use Rattle.vm_model.specs.Given.{given, carving}
+use Rattle.vm_model.specs.History.{World, Local, started, answered, moved_to, opening_world, opening_answers, callers_from}
+use Rattle.vm_model.specs.Laws.{IsMadeAligned}
+use Rattle.map_laws.proofs.Lists.{set_cases, append_cases}
+use Rattle.map_laws.proofs.Fits.{is_zero, lowest_fit}
+use Rattle.map_laws.proofs.Frames.{IsLasting, not_over, has_call}
+use Rattle.map_laws.proofs.Places.{answers_call, either_place}
+
+abbrev pub IsSearchAt : ℕ → Search → Aim → Type 0
+IsSearchAt k (ForPages pages align) (ForArea kd) = align ≡ k
+IsSearchAt k _ _ = ⊥
+
+abbrev pub IsThenAt : ℕ → Then → Type 0
+IsThenAt k (SearchAgain search aim) = IsSearchAt k search aim
+IsThenAt k _ = ⊥
+
+-- the places of a vmalloc call with this alignment in pages
+abbrev pub IsVmallocAt : ℕ → Place → Type 0
+IsVmallocAt k (Refusing r) = Unit {0}
+IsVmallocAt k (Finding search aim) = IsSearchAt k search aim
+IsVmallocAt k (FindingAgain search aim) = IsSearchAt k search aim
+IsVmallocAt k (MappingArea s kd) = s.start % k ≡ 0
+IsVmallocAt k (Dropping s) = Unit {0}
+IsVmallocAt k (SettlingArea s kd) = s.start % k ≡ 0
+IsVmallocAt k (PurgeTaking extra after) = IsThenAt k after
+IsVmallocAt k (PurgeFragmenting cpu gone extra after) = IsThenAt k after
+IsVmallocAt k (PurgeUnlinking gone extra after) = IsThenAt k after
+IsVmallocAt k (PurgeWaiting gone extra after) = IsThenAt k after
+IsVmallocAt k (PurgeCollecting extra after) = IsThenAt k after
+IsVmallocAt k (PurgeFlushing s waited after) = IsThenAt k after
+IsVmallocAt k (PurgeReturning waited after) = IsThenAt k after
+IsVmallocAt k (PurgeGiving after) = IsThenAt k after
+IsVmallocAt k _ = ⊥
+
+-- what it made starts at such a multiple
+abbrev pub IsMadeAt : ℕ → Made → Type 0
+IsMadeAt k (MadeArea start serial) = start % k ≡ 0
+IsMadeAt k _ = Unit {0}
+
+abbrev pub IsNextAt : ℕ → Next → Type 0
+IsNextAt k (Go p) = IsVmallocAt k p
+IsNextAt k (Answer r made) = IsMadeAt k made
+
+either_at : (k : ℕ) (b : Bool) (x y : Next) → IsNextAt k x → IsNextAt k y → IsNextAt k (if b then x else y)
+either_at k true x y p q = p
+either_at k false x y p q = q
+
+module _ (c : Setup) (m : PlainMap) (k : ℕ) where
+  found_at : (pages align : ℕ) (kd : AreaKind) (otherwise : Next) (o : Option ℕ) → lowest (taken m) pages align ≡ o → align ≡ k → IsNextAt k otherwise
+      → IsNextAt k (found (ForArea kd) (carved (carving pages align o)) (carved_base (carving pages align o)) otherwise)
+  found_at pages align kd otherwise None e is q = q
+  found_at pages align kd otherwise (Some start) e is q = ap (λ n. start % n) (sym is) ∙ is_zero (start % align) (lowest_fit (taken m) pages align start e).0
+
+  search_at : (search : Search) (aim : Aim) (otherwise : Next) (s : Section) → IsSearchAt k search aim → IsNextAt k otherwise → given c m (AskSearch search) ≡ Some s → IsNextAt k (found aim (carved s) (carved_base s) otherwise)
+  search_at (ForPages pages align) (ForArea kd) otherwise s is q e =
+      let same : carving pages align (lowest (taken m) pages align) ≡ s = cc in
+      subst (λ (x : Section). IsNextAt k (found (ForArea kd) (carved x) (carved_base x) otherwise)) same (found_at pages align kd otherwise (lowest (taken m) pages align) refl is q)
+  search_at (ForPages pages align) (ForBlock cpu asked) otherwise s is q e = absurd is
+  search_at (ForPages pages align) (ForChunk chunk bytes to) otherwise s is q e = absurd is
+  search_at ForGroups aim otherwise s is q e = absurd is
+
+  no_space_at : (search : Search) (aim : Aim) → IsSearchAt k search aim → IsNextAt k (without_space aim)
+  no_space_at (ForPages pages align) (ForArea kd) is = tt
+  no_space_at (ForPages pages align) (ForBlock cpu asked) is = absurd is
+  no_space_at (ForPages pages align) (ForChunk chunk bytes to) is = absurd is
+  no_space_at ForGroups aim is = absurd is
+
+  fragments_at : (gone : List ℕ) (extra : Option Span) (after : Then) → IsThenAt k after → IsVmallocAt k (after_fragments gone extra after)
+  fragments_at [] extra after is = is
+  fragments_at (start ∷ gone) extra after is = is
+
+  collected_at : (waited : List Span) (o : Option Span) (after : Then) → IsThenAt k after → IsNextAt k (after_collecting waited o after)
+  collected_at waited None after is = is
+  collected_at waited (Some s) after is = is
+
+  flushed_at : (waited : List Span) (after : Then) → IsThenAt k after → IsNextAt k (after_flush waited after)
+  flushed_at [] after is = is
+  flushed_at (s ∷ waited) after is = is
+
+  went_on_at : (after : Then) → IsThenAt k after → IsNextAt k (go_on after)
+  went_on_at (SearchAgain search aim) is = is
+  went_on_at (ReplyWith r) is = absurd is
+  went_on_at SpareAgain is = absurd is
+
+  pub next_at : (p : Place) (s : Section) → IsVmallocAt k p → given c m (ask c p) ≡ Some s → IsNextAt k (next c p s)
+  next_at (Refusing r) s is e = tt
+  next_at (Finding search aim) s is e = search_at search aim _ s is is e
+  next_at (FindingAgain search aim) s is e = search_at search aim _ s is (no_space_at search aim is) e
+  next_at (MappingArea place kd) s is e = either_at k (had_frames s) _ _ is tt
+  next_at (Dropping place) s is e = tt
+  next_at (SettlingArea place kd) s is e = is
+  next_at (PurgeTaking extra after) s is e = is
+  next_at (PurgeFragmenting cpu gone extra after) s is e = either_at k (nat_lt (suc cpu) (cpus c)) _ _ is (fragments_at (gone ++ blocks_gone s) extra after is)
+  next_at (PurgeUnlinking gone extra after) s is e = is
+  next_at (PurgeWaiting gone extra after) s is e = is
+  next_at (PurgeCollecting extra after) s is e = collected_at (spans_taken s) _ after is
+  next_at (PurgeFlushing hull waited after) s is e = flushed_at waited after is
+  next_at (PurgeReturning waited after) s is e = is
+  next_at (PurgeGiving after) s is e = went_on_at after is
+  next_at _ s is e = absurd is
+
+-- of a caller: its answers, and its call at hand
+pub record IsLocalAligned (l : Local) : Type 0 where
+  pub answers : (i : ℕ) (a : Answered) → slice_get l.answers i ≡ Some a → IsMadeAligned a.call a.made
+  pub now : (bytes align : ℕ) → slice_get l.calls (length l.answers) ≡ Some (Vmalloc bytes align) → IsVmallocAt (align_pages align) l.place
+
+pub record AreAligned (w : World) : Type 0 where
+  pub each : (k : ℕ) (l : Local) → slice_get w.locals k ≡ Some l → IsLocalAligned l
+
+begins_at : (c : Setup) (opening own : List Answered) (bytes align : ℕ) → IsVmallocAt (align_pages align) (begin_call c opening own (Vmalloc bytes align))
+begins_at c opening own bytes align = either_place (IsVmallocAt (align_pages align)) (is_bad_vmalloc_size c bytes) _ _ (λ e. tt) (λ e. either_place (IsVmallocAt (align_pages align)) (is_bad_vmalloc_align align) _ _ (λ f. tt) (λ f. refl))
+
+starts_at : (c : Setup) (opening own : List Answered) (o : Option Call) (bytes align : ℕ) → o ≡ Some (Vmalloc bytes align) → IsVmallocAt (align_pages align) (begin c opening own o)
+starts_at c opening own o bytes align e = subst (λ x. IsVmallocAt (align_pages align) (begin c opening own x)) (sym e) (begins_at c opening own bytes align)
+
+made_at : (call : Call) (made : Made) → ((bytes align : ℕ) → call ≡ Vmalloc bytes align → IsMadeAt (align_pages align) made) → IsMadeAligned call made
+made_at (Vmalloc bytes align) MadeNothing h = tt
+made_at (Vmalloc bytes align) (MadeArea start serial) h = h bytes align refl
+made_at (Vmalloc bytes align) (MadePart cpu page serial) h = tt
+made_at (Vmalloc bytes align) (MadeObject at serial) h = tt
+made_at (Vfree t) made h = tt
+made_at (MapRam cpu pages) made h = tt
+made_at (UnmapRam t) made h = tt
+made_at UnmapAliases made h = tt
+made_at (AllocPercpu bytes align) made h = tt
+made_at (AllocAtomic bytes align) made h = tt
+made_at (FreePercpu t) made h = tt
+made_at (Add t cpu index amount) made h = tt
+made_at (Sum t index) made h = tt
+made_at Balance made h = tt
+
+answered_aligned : (l : Local) (a : Answered) → IsLocalAligned l → IsMadeAligned a.call a.made → IsLocalAligned (answered l a)
+answered_aligned l a is made = record {
+  answers = λ i b h. elim (append_cases l.answers (a ∷ []) i b h) [ inl e ↦ is.answers i b e | inr e ↦ new_answer e.0 b e.2 ];
+  now = λ bytes align h. starts_at l.setup l.opening (l.answers ++ a ∷ []) (slice_get l.calls (suc (length l.answers))) bytes align
+      ((let n : suc (length l.answers) ≡ length (l.answers ++ a ∷ []) = omega (arith, length-append l.answers (a ∷ [])) in ap (slice_get l.calls) n) ∙ h);
+}
+  where
+    new_answer : (j : ℕ) (b : Answered) → slice_get (a ∷ []) j ≡ Some b → IsMadeAligned b.call b.made
+    new_answer zero b h = let same : a ≡ b = cc in subst (λ (x : Answered). IsMadeAligned x.call x.made) same made
+    new_answer (suc j) b h = cc
+
+moved_aligned : (l : Local) (m : PlainMap) (s : Section) → length l.answers < length l.calls → given l.setup m (ask l.setup l.place) ≡ Some s → IsLocalAligned l → (n : Next) → next l.setup l.place s ≡ n → IsLocalAligned (moved_to l n)
+moved_aligned l m s call gives is (Go p) e = record { answers = is.answers; now = λ bytes align h. subst (IsNextAt (align_pages align)) e (next_at l.setup m (align_pages align) l.place s (is.now bytes align h) gives) }
+moved_aligned l m s call gives is (Answer r made) e =
+    let at = answers_call l r made call in
+    subst IsLocalAligned (sym at.2) (answered_aligned l (record { call = at.0; reply = r; made = made; own_event = suc l.events }) is
+    (made_at at.0 made (λ bytes align f. subst (IsNextAt (align_pages align)) e (next_at l.setup m (align_pages align) l.place s (is.now bytes align (at.1 ∙ ap (λ x. Some x) f)) gives))))
+
+started_aligned : (c : Setup) (opening : List Answered) (k : ℕ) (own : List Call) → IsLocalAligned (started c opening k own)
+started_aligned c opening k own = record { answers = λ i a h. cc; now = λ bytes align h. starts_at c opening [] (slice_get own 0) bytes align h }
+
+pub aligned_lasts : (c : Setup) (calls : List (List Call)) → IsLasting c calls AreAligned
+aligned_lasts c calls = record {
+  steps = λ w k l s framed all step. record {
+    each = λ j x h. elim (set_cases w.locals l.caller j (moved_to l (next l.setup l.place s)) x h) [
+      | inl e ↦ subst IsLocalAligned (sym e.1) (moved_aligned l w.map s (has_call c k l (framed.own k l step.here) (not_over l.setup w.map l.place s step.gives)) step.gives (all.each k l step.here) (next l.setup l.place s) refl)
+      | inr e ↦ all.each j x e.1
+    ];
+  };
+  joins = λ w framed one all over. record {
+    each = λ k l h. elim (append_cases w.locals (callers_from c (opening_answers w.locals) 1 calls) k l h) [ inl e ↦ all.each k l e | inr e ↦ joined (opening_answers w.locals) 1 calls e.0 l e.2 ];
+  };
+}
+  where
+    joined : (answers : List Answered) (first : ℕ) (more : List (List Call)) (j : ℕ) (l : Local) → slice_get (callers_from c answers first more) j ≡ Some l → IsLocalAligned l
+    joined answers first [] j l h = cc
+    joined answers first (own ∷ more) zero l h = let e : started c answers first own ≡ l = cc in subst IsLocalAligned e (started_aligned c answers first own)
+    joined answers first (own ∷ more) (suc j) l h = joined answers (suc first) more j l h
+
+pub aligned_first : (c : Setup) (opening : List Call) (calls : List (List Call)) → AreAligned (opening_world c opening calls)
+aligned_first c opening calls = record { each = first }
+  where
+    first : (k : ℕ) (l : Local) → slice_get (started c [] 0 opening ∷ []) k ≡ Some l → IsLocalAligned l
+    first zero l h = let e : started c [] 0 opening ≡ l = cc in subst IsLocalAligned e (started_aligned c [] 0 opening)
+    first (suc k) l h = cc
