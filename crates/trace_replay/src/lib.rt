@@ -12,6 +12,8 @@ mod send;
 mod sink;
 mod source;
 mod status;
+#[cfg(test)]
+mod tests;
 
 pub use commands::{Mode, replay, run};
 pub use memory_sink::MemorySink;
