@@ -13,6 +13,8 @@ mod sink;
 mod source;
 mod status;
 mod worked;
+#[cfg(test)]
+mod tests;
 
 pub use commands::{Mode, replay, run};
 pub use memory_sink::MemorySink;

@@ -1,0 +1,250 @@
+//! Traces with the reports that are expected of them, and reads and writes that fail.
+use crate::{
+    Failed, MemorySink, MemorySource, Mode, Sink, Source, Status, StreamSink, StreamSource, replay,
+    run,
+};
+use std::alloc::Global;
+use std::io::{self, ErrorKind, Read, Write};
+use std::test::Fail;
+
+const EMPTY: &str = "vmtrace 1\nspace 16\nend\n";
+
+const EMPTY_REPORT: &str = "vmreport 1
+tally calls 0 ok 0 no-space 0 no-frames 0 no-atomic 0 not-live 0 refused 0
+events 0
+frames 1024 mapped 0 stale 0
+free 0..16
+end
+";
+
+const TWO_AREAS: &str = "vmreport 1
+0.1 0xffffc90000000000 @3
+0.2 0xffffc90000002000 @6
+tally calls 2 ok 2 no-space 0 no-frames 0 no-atomic 0 not-live 0 refused 0
+events 6
+frames 1021 mapped 3 stale 0
+free 5..16
+area 0..2 vmalloc caller 0 serial 1
+area 2..5 vmalloc caller 0 serial 2
+end
+";
+
+const NO_SPACE: &str = "vmreport 1
+0.1 0xffffc90000000000 @3
+0.2 no-space @9
+tally calls 2 ok 1 no-space 1 no-frames 0 no-atomic 0 not-live 0 refused 0
+events 9
+frames 1023 mapped 1 stale 0
+free 2..4
+area 0..2 vmalloc caller 0 serial 1
+end
+";
+
+const ALIGNED: &str = "vmreport 1
+0.1 0xffffc90000000000 @3
+0.2 0xffffc90000004000 @6
+tally calls 2 ok 2 no-space 0 no-frames 0 no-atomic 0 not-live 0 refused 0
+events 6
+frames 1022 mapped 2 stale 0
+free 2..4
+free 6..16
+area 0..2 vmalloc caller 0 serial 1
+area 4..6 vmalloc caller 0 serial 2
+end
+";
+
+const REFUSED: &str = "vmreport 1
+0.1 no-frames @3
+0.2 bad-size @4
+0.3 bad-align @5
+tally calls 3 ok 0 no-space 0 no-frames 1 no-atomic 0 not-live 0 refused 2
+events 5
+frames 1024 mapped 0 stale 0
+free 0..2000
+end
+";
+
+/// A reader or a writer that moves at most 10 bytes a call, and fails once.
+#[derive(Drop)]
+struct Faulty<T> {
+    inner: T,
+    calls: u32,
+    failing: u32,
+    kind: ErrorKind,
+}
+
+impl<T> Faulty<T> {
+    fn new(inner: T, failing: u32, kind: ErrorKind) -> Faulty<T> {
+        Faulty {
+            inner,
+            calls: 0,
+            failing,
+            kind,
+        }
+    }
+
+    fn count(&mut self) -> io::Result<()> {
+        self.calls = self.calls.saturating_add(1);
+        if self.calls == self.failing {
+            return Err(io::Error::new(self.kind, "as told"));
+        }
+        Ok(())
+    }
+}
+
+impl<R: Read> Read for Faulty<R> {
+    fn read(&mut self, buf: &mut [u8]) -> io::Result<usize> {
+        self.count()?;
+        let most = buf.len().min(10);
+        self.inner.read(&mut buf[..most])
+    }
+}
+
+impl<W: Write> Write for Faulty<W> {
+    fn write(&mut self, buf: &[u8]) -> io::Result<usize> {
+        self.count()?;
+        let most = buf.len().min(10);
+        self.inner.write(&buf[..most])
+    }
+
+    fn flush(&mut self) -> io::Result<()> {
+        self.inner.flush()
+    }
+}
+
+/// The status of a replay, and what it writes.
+fn replayed<S: Source>(alloc: Global, source: &mut S) -> (Status, Vec<u8>) {
+    let mut sink = StreamSink::new(Vec::new(alloc));
+    let status = replay(alloc, Mode::Replay, source, &mut sink);
+    (status, sink.into_writer())
+}
+
+/// The status of a command over an empty space, and what it writes.
+fn ran(alloc: Global, words: &[String]) -> (Status, Vec<u8>) {
+    let mut source = StreamSource::new(EMPTY.as_bytes());
+    let mut sink = StreamSink::new(Vec::new(alloc));
+    let status = run(alloc, words, &mut source, &mut sink);
+    (status, sink.into_writer())
+}
+
+#[test]
+fn reports(rt: HostRuntime) {
+    let bad = |line: u32| Status::BadTrace { line };
+    for (trace, status, text) in [
+        (EMPTY, Status::Done, EMPTY_REPORT),
+        (
+            "vmtrace 1\nspace 16\nvmalloc a 1 1\nvmalloc b 4097 1\nend\n",
+            Status::Done,
+            TWO_AREAS,
+        ),
+        (
+            "vmtrace 1\nspace 4\nvmalloc a 4096 1\nvmalloc b 8192 1\nend\n",
+            Status::Done,
+            NO_SPACE,
+        ),
+        (
+            "vmtrace 1\nspace 16\nvmalloc a 1 1\nvmalloc b 1 16384\nend\n",
+            Status::Done,
+            ALIGNED,
+        ),
+        (
+            "vmtrace 1\nspace 2000\nvmalloc a 4198400 1\nvmalloc b 0 1\nvmalloc c 1 3\nend\n",
+            Status::Done,
+            REFUSED,
+        ),
+        (
+            "vmtrace 1\nspace 16\nframes 3\nend\n",
+            Status::Unbuilt { line: 3 },
+            "fault unbuilt 3\n",
+        ),
+        ("vmtrace 1\nspace 16\nen", bad(3), "fault line 3\n"),
+        ("vmtrace 1\nspace 16\n", bad(3), "fault line 3\n"),
+        ("", bad(1), "fault line 1\n"),
+    ] {
+        let (ended, written) = replayed(rt.alloc(), &mut StreamSource::new(trace.as_bytes()));
+        assert_eq!(rt; ended, status, "at {trace}");
+        assert_eq!(rt; written.as_slice(), text.as_bytes(), "at {trace}");
+    }
+    let (ended, written) = replayed(rt.alloc(), &mut StreamSource::new(io::repeat(b'a')));
+    assert_eq!(rt; ended, Status::TooLong);
+    assert_eq!(rt; written.as_slice(), b"fault length\n".as_slice());
+}
+
+#[test]
+fn failing_reads(rt: HostRuntime) -> Result<(), Fail> {
+    for (failing, status, text) in [(3, Status::ReadFault, ""), (9, Status::Done, EMPTY_REPORT)] {
+        let mut source = MemorySource::new(rt.alloc(), EMPTY.as_bytes(), 4, &[failing])?;
+        let (ended, written) = replayed(rt.alloc(), &mut source);
+        assert_eq!(rt; ended, status, "at {failing}");
+        assert_eq!(rt; written.as_slice(), text.as_bytes(), "at {failing}");
+    }
+    for (kind, status, text) in [
+        (ErrorKind::Other, Status::ReadFault, ""),
+        (ErrorKind::Interrupted, Status::Done, EMPTY_REPORT),
+    ] {
+        let mut source = StreamSource::new(Faulty::new(EMPTY.as_bytes(), 2, kind));
+        let (ended, written) = replayed(rt.alloc(), &mut source);
+        assert_eq!(rt; ended, status);
+        assert_eq!(rt; written.as_slice(), text.as_bytes());
+    }
+    Ok(())
+}
+
+#[test]
+fn failing_writes(rt: HostRuntime) -> Result<(), Fail> {
+    for (kind, status, text) in [
+        (ErrorKind::Other, Status::WriteFault, "vmreport 1"),
+        (ErrorKind::Interrupted, Status::Done, EMPTY_REPORT),
+    ] {
+        let mut source = StreamSource::new(EMPTY.as_bytes());
+        let mut sink = StreamSink::new(Faulty::new(Vec::new(rt.alloc()), 2, kind));
+        let ended = replay(rt.alloc(), Mode::Replay, &mut source, &mut sink);
+        assert_eq!(rt; ended, status);
+        assert_eq!(rt; sink.into_writer().inner.as_slice(), text.as_bytes());
+    }
+    let mut sink = MemorySink::new(rt.alloc(), 3, &[2])?;
+    sink.reserve(5)?;
+    for (piece, taken) in [
+        ("abcd", Ok(3)),
+        ("defg", Err(Failed)),
+        ("defg", Ok(2)),
+        ("fg", Ok(0)),
+    ] {
+        assert_eq!(rt; sink.write(piece.as_bytes()), taken, "at {piece}");
+    }
+    assert_eq!(rt; sink.as_slice(), b"abcde".as_slice());
+    Ok(())
+}
+
+#[test]
+fn words(rt: HostRuntime) -> Result<(), Fail> {
+    let replay = String::from_str(rt.alloc(), "replay")?;
+    let other = String::from_str(rt.alloc(), "x")?;
+    let both = vec![in rt.alloc(); replay, other]?;
+    for (count, status, text) in [
+        (0, Status::Usage, "fault usage\n"),
+        (1, Status::Done, EMPTY_REPORT),
+        (2, Status::Usage, "fault usage\n"),
+    ] {
+        let (ended, written) = ran(rt.alloc(), &both.as_slice()[..count]);
+        assert_eq!(rt; ended, status, "at {count}");
+        assert_eq!(rt; written.as_slice(), text.as_bytes(), "at {count}");
+    }
+    Ok(())
+}
+
+#[test]
+fn exit_statuses(rt: HostRuntime) {
+    for (status, code) in [
+        (Status::Done, 0),
+        (Status::BadTrace { line: 1 }, 1),
+        (Status::Usage, 2),
+        (Status::OutOfMemory, 3),
+        (Status::ReadFault, 4),
+        (Status::WriteFault, 5),
+        (Status::TooLong, 6),
+        (Status::Unbuilt { line: 1 }, 7),
+    ] {
+        assert_eq!(rt; status.code(), code);
+    }
+}
