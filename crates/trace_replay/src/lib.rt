@@ -2,6 +2,8 @@
 #![tactic(auto)]
 
 mod answer;
+#[cfg(test)]
+mod bad_texts;
 mod commands;
 mod failing_calls;
 mod gather;
@@ -12,9 +14,9 @@ mod send;
 mod sink;
 mod source;
 mod status;
-mod worked;
 #[cfg(test)]
 mod tests;
+mod worked;
 
 pub use commands::{Mode, replay, run};
 pub use memory_sink::MemorySink;
