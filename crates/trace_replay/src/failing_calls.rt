@@ -1,7 +1,6 @@
 //! Calls that are counted, and of which those with a listed number fail.
-ghost use Rattle.std.specs.Prelude.{◌≡◌, ◌≤◌, ◌↔◌, ℕ, IfOk, IsErr, IsTrue};
-ghost use Rattle.trace_replay.specs.Streams.{Rose, last_count};
-ghost use Rattle.trace_replay.specs.FailingCalls.{Calls, counted, next_fails};
+ghost use Rattle.std.specs.Prelude.{◌≡◌, ◌≤◌, ◌↔◌, IfOk, IsErr, IsTrue};
+ghost use Rattle.trace_replay.specs.FailingCalls.{counted, next_fails};
 
 use crate::source::Failed;
 use std::alloc::{AllocError, Global};

@@ -1,8 +1,8 @@
 //! A sink over memory whose writes are short and may fail.
-ghost use Rattle.std.specs.Prelude.{◌≡◌, ◌≤◌, ◌<◌, ◌↔◌, ℕ, List, [], Some, IfOk, OnOk, OnErr, IsErr, IsTrue, length};
+ghost use Rattle.std.specs.Prelude.{◌≡◌, ◌≤◌, ◌<◌, ◌↔◌, [], Some, IfOk, OnOk, OnErr, IsErr, IsTrue, length};
 ghost use Rattle.trace_replay.specs.Streams.{Rose, Takes, Fills};
-ghost use Rattle.trace_replay.specs.FailingCalls.{Calls, counted, next_fails};
-ghost use Rattle.trace_replay.specs.MemoryStreams.{Intake, next_taken};
+ghost use Rattle.trace_replay.specs.FailingCalls.{counted, next_fails};
+ghost use Rattle.trace_replay.specs.MemoryStreams.{next_taken};
 
 use crate::failing_calls::FailingCalls;
 use crate::sink::{Sink, SteadySink};

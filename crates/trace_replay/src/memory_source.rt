@@ -1,8 +1,8 @@
 //! A source over memory whose reads are short and may fail.
-ghost use Rattle.std.specs.Prelude.{◌≡◌, ◌≤◌, ◌↔◌, ℕ, List, Some, IfOk, OnErr, IsErr, IsTrue, length};
+ghost use Rattle.std.specs.Prelude.{◌≡◌, ◌≤◌, ◌↔◌, Some, IfOk, OnErr, IsErr, IsTrue, length};
 ghost use Rattle.trace_replay.specs.Streams.{Rose, Gives, IsEndAt};
-ghost use Rattle.trace_replay.specs.FailingCalls.{Calls, counted, next_fails};
-ghost use Rattle.trace_replay.specs.MemoryStreams.{Supply, next_given};
+ghost use Rattle.trace_replay.specs.FailingCalls.{counted, next_fails};
+ghost use Rattle.trace_replay.specs.MemoryStreams.{next_given};
 
 use crate::failing_calls::FailingCalls;
 use crate::source::{Failed, Source, SteadySource};

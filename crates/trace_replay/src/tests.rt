@@ -172,7 +172,11 @@ fn reports(rt: HostRuntime) {
 
 #[test]
 fn failing_reads(rt: HostRuntime) -> Result<(), Fail> {
-    for (failing, status, text) in [(3, Status::ReadFault, ""), (9, Status::Done, EMPTY_REPORT)] {
+    for (failing, status, text) in [
+        (3, Status::ReadFault, ""),
+        (7, Status::ReadFault, ""),
+        (8, Status::Done, EMPTY_REPORT),
+    ] {
         let mut source = MemorySource::new(rt.alloc(), EMPTY.as_bytes(), 4, &[failing])?;
         let (ended, written) = replayed(rt.alloc(), &mut source);
         assert_eq!(rt; ended, status, "at {failing}");
