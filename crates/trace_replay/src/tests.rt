@@ -17,6 +17,8 @@ free 0..16
 end
 ";
 
+const TWO_AREAS_TRACE: &str = "vmtrace 1\nspace 16\nvmalloc a 1 1\nvmalloc b 4097 1\nend\n";
+
 const TWO_AREAS: &str = "vmreport 1
 0.1 0xffffc90000000000 @3
 0.2 0xffffc90000002000 @6
@@ -64,19 +66,21 @@ free 0..2000
 end
 ";
 
-/// A reader or a writer that moves at most 10 bytes a call, and fails once.
+/// A reader or a writer that moves at most a piece a call, and fails once.
 #[derive(Drop)]
 struct Faulty<T> {
     inner: T,
+    piece: usize,
     calls: u32,
     failing: u32,
     kind: ErrorKind,
 }
 
 impl<T> Faulty<T> {
-    fn new(inner: T, failing: u32, kind: ErrorKind) -> Faulty<T> {
+    fn new(inner: T, piece: usize, failing: u32, kind: ErrorKind) -> Faulty<T> {
         Faulty {
             inner,
+            piece,
             calls: 0,
             failing,
             kind,
@@ -95,7 +99,7 @@ impl<T> Faulty<T> {
 impl<R: Read> Read for Faulty<R> {
     fn read(&mut self, buf: &mut [u8]) -> io::Result<usize> {
         self.count()?;
-        let most = buf.len().min(10);
+        let most = buf.len().min(self.piece);
         self.inner.read(&mut buf[..most])
     }
 }
@@ -103,7 +107,7 @@ impl<R: Read> Read for Faulty<R> {
 impl<W: Write> Write for Faulty<W> {
     fn write(&mut self, buf: &[u8]) -> io::Result<usize> {
         self.count()?;
-        let most = buf.len().min(10);
+        let most = buf.len().min(self.piece);
         self.inner.write(&buf[..most])
     }
 
@@ -132,11 +136,7 @@ fn reports(rt: HostRuntime) {
     let bad = |line: u32| Status::BadTrace { line };
     for (trace, status, text) in [
         (EMPTY, Status::Done, EMPTY_REPORT),
-        (
-            "vmtrace 1\nspace 16\nvmalloc a 1 1\nvmalloc b 4097 1\nend\n",
-            Status::Done,
-            TWO_AREAS,
-        ),
+        (TWO_AREAS_TRACE, Status::Done, TWO_AREAS),
         (
             "vmtrace 1\nspace 4\nvmalloc a 4096 1\nvmalloc b 8192 1\nend\n",
             Status::Done,
@@ -186,7 +186,7 @@ fn failing_reads(rt: HostRuntime) -> Result<(), Fail> {
         (ErrorKind::Other, Status::ReadFault, ""),
         (ErrorKind::Interrupted, Status::Done, EMPTY_REPORT),
     ] {
-        let mut source = StreamSource::new(Faulty::new(EMPTY.as_bytes(), 2, kind));
+        let mut source = StreamSource::new(Faulty::new(EMPTY.as_bytes(), 10, 2, kind));
         let (ended, written) = replayed(rt.alloc(), &mut source);
         assert_eq!(rt; ended, status);
         assert_eq!(rt; written.as_slice(), text.as_bytes());
@@ -201,7 +201,7 @@ fn failing_writes(rt: HostRuntime) -> Result<(), Fail> {
         (ErrorKind::Interrupted, Status::Done, EMPTY_REPORT),
     ] {
         let mut source = StreamSource::new(EMPTY.as_bytes());
-        let mut sink = StreamSink::new(Faulty::new(Vec::new(rt.alloc()), 2, kind));
+        let mut sink = StreamSink::new(Faulty::new(Vec::new(rt.alloc()), 10, 2, kind));
         let ended = replay(rt.alloc(), Mode::Replay, &mut source, &mut sink);
         assert_eq!(rt; ended, status);
         assert_eq!(rt; sink.into_writer().inner.as_slice(), text.as_bytes());
@@ -250,5 +250,51 @@ fn exit_statuses(rt: HostRuntime) {
         (Status::Unbuilt { line: 1 }, 7),
     ] {
         assert_eq!(rt; status.code(), code);
+    }
+}
+
+/// The pieces, with the reads of `TWO_AREAS_TRACE` and the writes of its report that they take.
+const PIECES: [(usize, u32, u32); 3] = [(1, 55, 263), (7, 9, 38), (4096, 2, 1)];
+
+#[test]
+fn each_read_fails_in_turn(rt: HostRuntime) {
+    for (piece, reads, _) in PIECES {
+        for failing in 1..reads + 2 {
+            let reader = Faulty::new(TWO_AREAS_TRACE.as_bytes(), piece, failing, ErrorKind::Other);
+            let (ended, written) = replayed(rt.alloc(), &mut StreamSource::new(reader));
+            if failing <= reads {
+                assert_eq!(rt; ended, Status::ReadFault, "at {piece}, {failing}");
+                assert_eq!(rt; written.len(), 0, "at {piece}, {failing}");
+            } else {
+                assert_eq!(rt; ended, Status::Done, "at {piece}, {failing}");
+                assert_eq!(rt; written.as_slice(), TWO_AREAS.as_bytes());
+            }
+        }
+    }
+}
+
+#[test]
+fn each_write_fails_in_turn(rt: HostRuntime) {
+    for (piece, _, writes) in PIECES {
+        for failing in 1..writes + 2 {
+            let mut source = StreamSource::new(TWO_AREAS_TRACE.as_bytes());
+            let writer = Faulty::new(Vec::new(rt.alloc()), piece, failing, ErrorKind::Other);
+            let mut sink = StreamSink::new(writer);
+            let ended = replay(rt.alloc(), Mode::Replay, &mut source, &mut sink);
+            let whole = failing > writes;
+            let status = if whole {
+                Status::Done
+            } else {
+                Status::WriteFault
+            };
+            assert_eq!(rt; ended, status, "at {piece}, {failing}");
+            let taken = sink.into_writer().inner;
+            assert_eq!(rt;
+                whole,
+                taken.len() == TWO_AREAS.len(),
+                "at {piece}, {failing}"
+            );
+            assert!(rt; TWO_AREAS.as_bytes().starts_with(taken.as_slice()));
+        }
     }
 }
