@@ -114,7 +114,7 @@ pub fn run<S: Source, K: Sink>(
     sink: &mut K,
 ) -> Status
     requires room { ReplayWords (map string_bytes words.now) → HasRoomFor (S.left source.old) (K.room sink.old) }
-    requires usage_room { HasRoomForUsage (K.room sink.old) }
+    requires usage_room { ¬ ReplayWords (map string_bytes words.now) → HasRoomForUsage (K.room sink.old) }
 
     // The words are those of `replay`: as there.
     ensures written { ReplayWords (map string_bytes words.now) → (bytes before : List ℕ) → S.left source.old ≡ Some bytes → K.taken sink.old ≡ Some before → IsWritten bytes result before (K.taken sink.new) }
