@@ -8,13 +8,13 @@ use Rattle.trace_replay.specs.Streams.{Takes, Fills}
 pub record HasGathered (first left : Option (List ℕ)) (before now : ℕ) (bytes : List ℕ) : Type 0 where
   pub split : (told : List ℕ) → first ≡ Some told → (rest : List ℕ) × (left ≡ Some rest) × (told ≡ bytes ++ rest)
   pub short : length bytes ≤ 16777216
-  pub counted : before ≤ now
+  pub counted : now ≡ before
 
 -- what was taken is what was taken at first, and then the text up to the rest
 pub record HasSent (first taken : Option (List ℕ)) (room : Option ℕ) (before now : ℕ) (text rest : List ℕ) : Type 0 where
   pub sent : (told : List ℕ) → first ≡ Some told → (front : List ℕ) × (taken ≡ Some (told ++ front)) × (text ≡ front ++ rest)
   pub fits : (left : ℕ) → room ≡ Some left → length rest ≤ left
-  pub counted : before ≤ now
+  pub counted : now ≡ before
 
 -- a failed write leaves a prefix of the text
 pub prefix_sent : (E : Type 0) (e : E) (first taken after : Option (List ℕ)) (room : Option ℕ) (before now : ℕ) (text rest : List ℕ) → HasSent first taken room before now text rest
@@ -36,7 +36,7 @@ fits_still E (Some room) left n rest fits fills untold some is =
 
 -- a write sends more of it
 pub sends_more : (E : Type 0) (first taken after : Option (List ℕ)) (room left : Option ℕ) (before now later n : ℕ) (text rest : List ℕ) → HasSent first taken room before now text rest
-    → ((bytes : List ℕ) → taken ≡ Some bytes → Takes {E = E} bytes after rest (Ok n)) → ((some : ℕ) → room ≡ Some some → Fills {E = E} some left (Ok n)) → (room ≡ None → left ≡ None) → now ≤ later
+    → ((bytes : List ℕ) → taken ≡ Some bytes → Takes {E = E} bytes after rest (Ok n)) → ((some : ℕ) → room ≡ Some some → Fills {E = E} some left (Ok n)) → (room ≡ None → left ≡ None) → later ≡ now
     → HasSent first after left before later text (drop n rest)
 sends_more E first taken after room left before now later n text rest held takes fills untold rises = record {
   sent = λ told is.
@@ -46,7 +46,7 @@ sends_more E first taken after room left before now later n text rest held takes
         whole ∙ ap (λ r. front ++ r) (sym (take-append-drop n rest)) ∙ sym (append_assoc front (take n rest) (drop n rest)),
       );
   fits = fits_still E room left n rest held.fits fills untold;
-  counted = omega arith;
+  counted = rises ∙ held.counted;
 }
 
 pub on_err : (A E : Type 0) (P : Type 0) (r : Result A E) → P → OnErr r P

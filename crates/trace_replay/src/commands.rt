@@ -29,6 +29,7 @@ fn outcome_of<S: Source>(alloc: Global, source: &mut S) -> Result<Outcome, Cut>
     ensures says { IfOk result (λ outcome. (outcome.status ≢ Status.ReadFault) × (outcome.status ≢ Status.WriteFault) × (outcome.status ≢ Status.OutOfMemory) × (outcome.status ≢ Status.Usage)) }
     ensures failed { result ≡ Err Cut.Failed → Rose (S.faults source.old) (S.faults source.new) }
     ensures not_cut { result ≢ Err Cut.TooLong }
+    ensures no_fault { result ≢ Err Cut.Failed → S.faults source.new ≡ S.faults source.old }
 {
     match gather(alloc, source) {
         Ok(bytes) => Ok(answer(alloc, bytes.as_slice())?),
@@ -41,7 +42,8 @@ fn outcome_of<S: Source>(alloc: Global, source: &mut S) -> Result<Outcome, Cut>
 /// Writes an outcome's text.
 fn tell<K: Sink>(sink: &mut K, outcome: Outcome) -> Status
     requires { ForSome (K.room sink.old) (λ room. length outcome.text ≤ room) }
-    ensures { IsTold outcome.status outcome.text result (K.taken sink.old) (K.taken sink.new) (K.faults sink.old) (K.faults sink.new) }
+    ensures told { IsTold outcome.status outcome.text result (K.taken sink.old) (K.taken sink.new) (K.faults sink.old) (K.faults sink.new) }
+    ensures no_fault { result ≢ Status.WriteFault → K.faults sink.new ≡ K.faults sink.old }
 {
     match send(sink, outcome.text.as_slice()) {
         Ok(()) => outcome.status,
@@ -58,6 +60,10 @@ pub fn replay<S: Source, K: Sink>(alloc: Global, mode: Mode, source: &mut S, sin
     ensures read { (bytes : List ℕ) → S.left source.old ≡ Some bytes → IsRead result (S.left source.new) }
     ensures read_fault { result ≡ Status.ReadFault → Rose (S.faults source.old) (S.faults source.new) }
     ensures write_fault { result ≡ Status.WriteFault → Rose (K.faults sink.old) (K.faults sink.new) }
+
+    // A read or a write that fails ends the command.
+    ensures failed_read { result ≢ Status.ReadFault → S.faults source.new ≡ S.faults source.old }
+    ensures failed_write { result ≢ Status.WriteFault → K.faults sink.new ≡ K.faults sink.old }
     ensures silent { IsSilent result → K.taken sink.new ≡ K.taken sink.old }
     ensures usage { result ≢ Status.Usage }
 
@@ -91,6 +97,7 @@ fn refuse<K: Sink>(alloc: Global, sink: &mut K) -> Status
     ensures refusal { (result ≡ Status.Usage) ⊎ ((result ≡ Status.OutOfMemory) ⊎ (result ≡ Status.WriteFault)) }
     ensures silent { IsSilent result → K.taken sink.new ≡ K.taken sink.old }
     ensures write_fault { result ≡ Status.WriteFault → Rose (K.faults sink.old) (K.faults sink.new) }
+    ensures failed_write { result ≢ Status.WriteFault → K.faults sink.new ≡ K.faults sink.old }
 {
     match usage(alloc) {
         Ok(outcome) => tell(sink, outcome),
@@ -132,6 +139,8 @@ pub fn run<S: Source, K: Sink>(
         → ¬ Rose (S.faults source.old) (S.faults source.new) → ¬ Rose (K.faults sink.old) (K.faults sink.new) → (result ≡ Status.Done) ⊎ (result ≡ Status.OutOfMemory) }
     ensures read_fault { result ≡ Status.ReadFault → Rose (S.faults source.old) (S.faults source.new) }
     ensures write_fault { result ≡ Status.WriteFault → Rose (K.faults sink.old) (K.faults sink.new) }
+    ensures failed_read { result ≢ Status.ReadFault → S.faults source.new ≡ S.faults source.old }
+    ensures failed_write { result ≢ Status.WriteFault → K.faults sink.new ≡ K.faults sink.old }
 {
     if is_replay(words) {
         return replay(alloc, Mode::Replay, source, sink);

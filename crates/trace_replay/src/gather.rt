@@ -1,5 +1,5 @@
 //! Reading all that a source has.
-ghost use Rattle.std.specs.Prelude.{◌≡◌, ◌≤◌, ◌<◌, ℕ, List, [], Some, Err, IfOk, OnErr, length, vec_len};
+ghost use Rattle.std.specs.Prelude.{◌≡◌, ◌≢◌, ◌≤◌, ◌<◌, ℕ, List, [], Some, Err, IfOk, OnErr, length, vec_len};
 ghost use Rattle.trace_replay.specs.Streams.{Rose};
 
 use crate::source::{Failed, Source};
@@ -57,7 +57,7 @@ fn gather_by<S: Source>(alloc: Global, source: &mut S, piece: &mut [u8]) -> Resu
     ensures short { IfOk result (λ bytes. length bytes.items ≤ MOST_BYTES) }
     ensures too_long { result ≡ Err Cut.TooLong → (told : List ℕ) → S.left source.old ≡ Some told → MOST_BYTES < length told }
     ensures failed { result ≡ Err Cut.Failed → Rose (S.faults source.old) (S.faults source.new) }
-    ensures never_falls { S.faults source.old ≤ S.faults source.new }
+    ensures no_fault { result ≢ Err Cut.Failed → S.faults source.new ≡ S.faults source.old }
 {
     let mut bytes = Vec::new(alloc);
     loop {
@@ -79,7 +79,7 @@ pub fn gather<S: Source>(alloc: Global, source: &mut S) -> Result<Vec<u8>, Cut>
     ensures short { IfOk result (λ bytes. length bytes.items ≤ MOST_BYTES) }
     ensures too_long { result ≡ Err Cut.TooLong → (told : List ℕ) → S.left source.old ≡ Some told → MOST_BYTES < length told }
     ensures failed { result ≡ Err Cut.Failed → Rose (S.faults source.old) (S.faults source.new) }
-    ensures never_falls { S.faults source.old ≤ S.faults source.new }
+    ensures no_fault { result ≢ Err Cut.Failed → S.faults source.new ≡ S.faults source.old }
 {
     let mut piece = buffer(alloc)?;
     gather_by(alloc, source, piece.as_mut_slice())

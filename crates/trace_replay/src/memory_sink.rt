@@ -76,6 +76,7 @@ impl Sink for MemorySink {
         ensures fills { Fills self.old.room (Some self.new.room) result }
         ensures never_falls { self.old.calls.faults ≤ self.new.calls.faults }
         ensures failed { OnErr result (Rose self.old.calls.faults self.new.calls.faults) }
+        ensures no_fault { OnOk result (self.new.calls.faults ≡ self.old.calls.faults) }
         ensures fails { IsErr result ↔ IsTrue (next_fails self.old.calls) }
         ensures calls { self.new.calls ≡ counted self.old.calls }
         ensures count { IfOk result (λ n. n ≡ next_taken self.old (length piece.now)) }

@@ -1,5 +1,5 @@
 //! A source over memory whose reads are short and may fail.
-ghost use Rattle.std.specs.Prelude.{◌≡◌, ◌≤◌, ◌↔◌, Some, IfOk, OnErr, IsErr, IsTrue, length};
+ghost use Rattle.std.specs.Prelude.{◌≡◌, ◌≤◌, ◌↔◌, Some, IfOk, OnOk, OnErr, IsErr, IsTrue, length};
 ghost use Rattle.trace_replay.specs.Streams.{Rose, Gives, IsEndAt};
 ghost use Rattle.trace_replay.specs.FailingCalls.{counted, next_fails};
 ghost use Rattle.trace_replay.specs.MemoryStreams.{next_given};
@@ -61,6 +61,7 @@ impl Source for MemorySource {
         ensures end { IsEndAt self.old.left into.new result }
         ensures never_falls { self.old.calls.faults ≤ self.new.calls.faults }
         ensures failed { OnErr result (Rose self.old.calls.faults self.new.calls.faults) }
+        ensures no_fault { OnOk result (self.new.calls.faults ≡ self.old.calls.faults) }
         ensures fails { IsErr result ↔ IsTrue (next_fails self.old.calls) }
         ensures calls { self.new.calls ≡ counted self.old.calls }
         ensures count { IfOk result (λ n. n ≡ next_given self.old (length into.old)) }

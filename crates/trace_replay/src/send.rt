@@ -12,7 +12,7 @@ pub fn send<K: Sink>(sink: &mut K, text: &[u8]) -> Result<(), Failed>
     ensures taken { OnOk result ((before : List ℕ) → K.taken sink.old ≡ Some before → K.taken sink.new ≡ Some (before ++ text.now)) }
     ensures prefix { OnErr result ((before : List ℕ) → K.taken sink.old ≡ Some before → (n : ℕ) × (K.taken sink.new ≡ Some (before ++ take n text.now))) }
     ensures failed { OnErr result (Rose (K.faults sink.old) (K.faults sink.new)) }
-    ensures never_falls { K.faults sink.old ≤ K.faults sink.new }
+    ensures no_fault { OnOk result (K.faults sink.new ≡ K.faults sink.old) }
 {
     let mut rest = text;
     while !rest.is_empty() {

@@ -29,7 +29,8 @@ pub trait Sink {
         ensures fills { (left : ℕ) → room self.old ≡ Some left → Fills left (room self.new) result }
         ensures no_room { room self.old ≡ None → room self.new ≡ None }
         ensures never_falls { faults self.old ≤ faults self.new }
-        ensures failed { OnErr result (Rose (faults self.old) (faults self.new)) };
+        ensures failed { OnErr result (Rose (faults self.old) (faults self.new)) }
+        ensures no_fault { OnOk result (faults self.new ≡ faults self.old) };
 }
 
 /// A sink over memory, none of whose writes fails. It takes what fits in the room that `reserve` made.

@@ -1,5 +1,5 @@
 //! Where the bytes of a trace come from.
-ghost use Rattle.std.specs.Prelude.{◌≡◌, ◌<◌, ◌≤◌, ℕ, List, Option, Some, None, length, min, take, drop, IfOk, OnErr, IfSome};
+ghost use Rattle.std.specs.Prelude.{◌≡◌, ◌<◌, ◌≤◌, ℕ, List, Option, Some, None, length, min, take, drop, IfOk, OnOk, OnErr, IfSome};
 ghost use Rattle.trace_replay.specs.Streams.{Rose, Gives, IsEndAt};
 
 use std::alloc::{AllocError, Global};
@@ -24,7 +24,8 @@ pub trait Source {
         ensures gives { (bytes : List ℕ) → left self.old ≡ Some bytes → Gives bytes (left self.new) into.new result }
         ensures end { (bytes : List ℕ) → left self.old ≡ Some bytes → IsEndAt bytes into.new result }
         ensures never_falls { faults self.old ≤ faults self.new }
-        ensures failed { OnErr result (Rose (faults self.old) (faults self.new)) };
+        ensures failed { OnErr result (Rose (faults self.old) (faults self.new)) }
+        ensures no_fault { OnOk result (faults self.new ≡ faults self.old) };
 }
 
 /// A source over memory, none of whose reads fails. Clauses see it as the bytes that are left.

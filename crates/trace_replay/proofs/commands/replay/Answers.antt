@@ -12,15 +12,17 @@ returns-in-Ok g c =
     let now = g.K.Sink.faults c.tell.new.sink in
     let says = c.in-Ok.ensures.says in
     record {
-      written = λ bytes taken told is. written bytes taken c.in-Ok.outcome.status c.in-Ok.outcome.text c.tell.result first after before now (c.in-Ok.ensures.writes bytes told) c.tell.ensures is;
-      answers = λ bytes told. answers bytes c.in-Ok.outcome.status c.in-Ok.outcome.text c.tell.result first after before now (c.in-Ok.ensures.writes bytes told) c.tell.ensures;
-      read = λ bytes told. reads (g.S.Source.left c.outcome_of.new.source) c.in-Ok.outcome.status c.in-Ok.outcome.text c.tell.result first after before now (c.in-Ok.ensures.read bytes told) c.tell.ensures;
-      read_fault = λ e. absurd (no_read_fault c.in-Ok.outcome.status c.in-Ok.outcome.text c.tell.result first after before now says.0 c.tell.ensures e);
-      write_fault = write_fault c.in-Ok.outcome.status c.in-Ok.outcome.text c.tell.result first after before now says.1 c.tell.ensures;
-      silent = λ silent. absurd (not_silent c.in-Ok.outcome.status c.in-Ok.outcome.text c.tell.result first after before now says.0 says.2 c.tell.ensures silent);
+      written = λ bytes taken told is. written bytes taken c.in-Ok.outcome.status c.in-Ok.outcome.text c.tell.result first after before now (c.in-Ok.ensures.writes bytes told) c.tell.ensures.told is;
+      answers = λ bytes told. answers bytes c.in-Ok.outcome.status c.in-Ok.outcome.text c.tell.result first after before now (c.in-Ok.ensures.writes bytes told) c.tell.ensures.told;
+      read = λ bytes told. reads (g.S.Source.left c.outcome_of.new.source) c.in-Ok.outcome.status c.in-Ok.outcome.text c.tell.result first after before now (c.in-Ok.ensures.read bytes told) c.tell.ensures.told;
+      read_fault = λ e. absurd (no_read_fault c.in-Ok.outcome.status c.in-Ok.outcome.text c.tell.result first after before now says.0 c.tell.ensures.told e);
+      write_fault = write_fault c.in-Ok.outcome.status c.in-Ok.outcome.text c.tell.result first after before now says.1 c.tell.ensures.told;
+      silent = λ silent. absurd (not_silent c.in-Ok.outcome.status c.in-Ok.outcome.text c.tell.result first after before now says.0 says.2 c.tell.ensures.told silent);
       complete = λ bytes reading told short trace unread unwritten.
-          complete bytes reading c.tell.result (answers bytes c.in-Ok.outcome.status c.in-Ok.outcome.text c.tell.result first after before now (c.in-Ok.ensures.writes bytes told) c.tell.ensures) short trace
-          (no_read_fault c.in-Ok.outcome.status c.in-Ok.outcome.text c.tell.result first after before now says.0 c.tell.ensures)
-          (λ e. unwritten (write_fault c.in-Ok.outcome.status c.in-Ok.outcome.text c.tell.result first after before now says.1 c.tell.ensures e));
-      usage = no_usage c.in-Ok.outcome.status c.in-Ok.outcome.text c.tell.result first after before now says.3 c.tell.ensures;
+          complete bytes reading c.tell.result (answers bytes c.in-Ok.outcome.status c.in-Ok.outcome.text c.tell.result first after before now (c.in-Ok.ensures.writes bytes told) c.tell.ensures.told) short trace
+          (no_read_fault c.in-Ok.outcome.status c.in-Ok.outcome.text c.tell.result first after before now says.0 c.tell.ensures.told)
+          (λ e. unwritten (write_fault c.in-Ok.outcome.status c.in-Ok.outcome.text c.tell.result first after before now says.1 c.tell.ensures.told e));
+      failed_read = λ _. c.outcome_of.ensures.no_fault (λ e. cc);
+      failed_write = c.tell.ensures.no_fault;
+      usage = no_usage c.in-Ok.outcome.status c.in-Ok.outcome.text c.tell.result first after before now says.3 c.tell.ensures.told;
     }

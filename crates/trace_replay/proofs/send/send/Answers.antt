@@ -10,4 +10,4 @@ returns-in_err-count-clause-prefix g c =
 pub loop-rest-preserved : goal.loop-rest-preserved
 loop-rest-preserved g c =
     subst (HasSent (g.K.Sink.taken c.args.sink.now) (g.K.Sink.taken c.write.new.self) (g.K.Sink.room c.write.new.self) (g.K.Sink.faults c.args.sink.now) (g.K.Sink.faults c.write.new.self) c.args.text.now) (sym c.split_at.ensures.back)
-    (sends_more Failed (g.K.Sink.taken c.args.sink.now) (g.K.Sink.taken c.loop-rest.sink) (g.K.Sink.taken c.write.new.self) (g.K.Sink.room c.loop-rest.sink) (g.K.Sink.room c.write.new.self) (g.K.Sink.faults c.args.sink.now) (g.K.Sink.faults c.loop-rest.sink) (g.K.Sink.faults c.write.new.self) c.in_ok-count.count c.args.text.now c.loop-rest.rest.now c.loop-rest.invariant c.in_ok-count.ensures.takes c.in_ok-count.ensures.fills c.write.ensures.no_room c.write.ensures.never_falls)
+    (sends_more Failed (g.K.Sink.taken c.args.sink.now) (g.K.Sink.taken c.loop-rest.sink) (g.K.Sink.taken c.write.new.self) (g.K.Sink.room c.loop-rest.sink) (g.K.Sink.room c.write.new.self) (g.K.Sink.faults c.args.sink.now) (g.K.Sink.faults c.loop-rest.sink) (g.K.Sink.faults c.write.new.self) c.in_ok-count.count c.args.text.now c.loop-rest.rest.now c.loop-rest.invariant c.in_ok-count.ensures.takes c.in_ok-count.ensures.fills c.write.ensures.no_room c.in_ok-count.ensures.no_fault)
