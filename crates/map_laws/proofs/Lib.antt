@@ -48,3 +48,4 @@ pub mod MapLegal
 pub mod CarriedKept
 pub mod EveryTraceProofs
 pub mod GroupsFree
+pub mod ChunkFacts
