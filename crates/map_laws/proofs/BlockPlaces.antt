@@ -132,7 +132,7 @@ put_keeps : (key : Area → ℕ) (x : Area) (ys : List Area) (a : Area) → IsIn
 put_keeps key x [] a h = (let no = h.at in cc)
 put_keeps key x (y ∷ ys) a h = put_keeps_by key x y ys _ a h (put_keeps key x ys a)
 
-with_keeps : (xs areas : List Area) (a : Area) → IsIn a areas → IsIn a (with_areas xs areas)
+pub with_keeps : (xs areas : List Area) (a : Area) → IsIn a areas → IsIn a (with_areas xs areas)
 with_keeps [] areas a h = h
 with_keeps (x ∷ xs) areas a h = with_keeps xs (put_by (λ (b : Area). b.span.start) x areas) a (put_keeps (λ (b : Area). b.span.start) x areas a h)
 

@@ -49,3 +49,6 @@ pub mod CarriedKept
 pub mod EveryTraceProofs
 pub mod GroupsFree
 pub mod ChunkFacts
+pub mod Changed
+pub mod ChunkRows
+pub mod ChunkPlaced
