@@ -52,3 +52,4 @@ pub mod ChunkFacts
 pub mod Changed
 pub mod ChunkRows
 pub mod ChunkPlaced
+pub mod ChunkMoves

@@ -73,7 +73,7 @@ free_there (Some Waits) h = absurd (omega arith)
 free_there (Some (Flushing k)) h = absurd (omega arith)
 
 -- frames that pages get
-given_still : (pages free : List ℕ) (frames : List (Option ℕ)) (page f : ℕ) → slice_get frames page ≡ Some (Some f) → (g : ℕ) × (slice_get (give_frames pages free frames) page ≡ Some (Some g))
+pub given_still : (pages free : List ℕ) (frames : List (Option ℕ)) (page f : ℕ) → slice_get frames page ≡ Some (Some f) → (g : ℕ) × (slice_get (give_frames pages free frames) page ≡ Some (Some g))
 given_still [] free frames page f h = (f, h)
 given_still (p ∷ pages) [] frames page f h = (f, h)
 given_still (p ∷ pages) (frame ∷ free) frames page f h = elim (same_or page p) [
