@@ -3,7 +3,7 @@ use Rattle.std.proofs.Common.{◌≡◌, ◌≢◌, ℕ, zero, suc, ◌+◌, ◌
 use Rattle.std.proofs.lemmas.Option.{slice_get_within, slice_get-map}
 use Rattle.vm_model.specs.declared.areas.AreaKind.TheVariants as kind
 use Rattle.map_laws.proofs.Chosen.{IsIn}
-use Rattle.vm_model.specs.Places.{AddingChunk, Depopulating, Filling, NotingFilled, Populating, SettlingAtomic, SettlingObject, UnlinkingGroups, Zeroing, Place}
+use Rattle.vm_model.specs.Places.{AddingChunk, Depopulating, Filling, NotingFilled, Populating, SettlingAtomic, SettlingObject, UnlinkingGroups, Zeroing, Place, group_starts}
 use Rattle.vm_model.specs.PlainMap.{Chunk, PlainMap}
 use Rattle.vm_model.specs.Setup.{Setup, pages_in_units, groups_at}
 use Rattle.vm_model.specs.Space.{is_among, covers, count_from, holds, span}
@@ -158,6 +158,18 @@ group_covers base page group g [] e h = cc
 group_covers base page zero g (x ∷ groups) e h = let same : x ≡ g = cc in ap (λ (y : Span). holds (span (base + y.start) y.pages) page || covers (map (λ (g : Span). span (base + g.start) g.pages) groups) page) same
     ∙ ap (λ b. b || covers (map (λ (g : Span). span (base + g.start) g.pages) groups) page) h
 group_covers base page (suc group) g (x ∷ groups) e h = or_right (holds (span (base + x.start) x.pages) page) _ (group_covers base page group g groups e h)
+
+-- the group whose span starts there
+starts_in : (base start : ℕ) (groups : List Span) → is_among (map (λ (s : Span). s.start) (map (λ (g : Span). span (base + g.start) g.pages) groups)) start ≡ true
+    → (group : ℕ) × (g : Span) × (slice_get groups group ≡ Some g) × (base + g.start ≡ start)
+starts_in base start [] h = cc
+starts_in base start (g ∷ groups) h = elim (or_either (base + g.start == start) _ h) [
+  | inl e ↦ (0, g, refl, to_same (base + g.start) start e)
+  | inr e ↦ let is = starts_in base start groups e in (suc is.0, is.1, is.2, is.3)
+]
+
+pub start_of : (c : Setup) (base start : ℕ) → is_among (group_starts c base) start ≡ true → (group : ℕ) × (g : Span) × (slice_get c.groups group ≡ Some g) × (base + g.start ≡ start)
+start_of c base start h = starts_in base start c.groups h
 
 -- a page of a live group
 pub group_page : (c : Setup) (m : PlainMap) (chunk base page : ℕ) → AreGroupsLive c m chunk base → covers (groups_at c base) page ≡ true

@@ -53,3 +53,6 @@ pub mod Changed
 pub mod ChunkRows
 pub mod ChunkPlaced
 pub mod ChunkMoves
+pub mod ChunkOut
+pub mod ChunkNoted
+pub mod ChunkLeft
