@@ -145,7 +145,7 @@ pub page_in_units : (c : Setup) (base page cpu unit : ℕ) (pages : List ℕ) �
 page_in_units c base page cpu unit pages e h = in_units base page cpu unit pages c.units e h
 
 -- the group of a page of the groups at a base
-group_in : (base page : ℕ) (groups : List Span) → covers (map (λ (g : Span). span (base + g.start) g.pages) groups) page ≡ true
+pub group_in : (base page : ℕ) (groups : List Span) → covers (map (λ (g : Span). span (base + g.start) g.pages) groups) page ≡ true
     → (group : ℕ) × (g : Span) × (slice_get groups group ≡ Some g) × (holds (span (base + g.start) g.pages) page ≡ true)
 group_in base page [] h = cc
 group_in base page (g ∷ groups) h = elim (or_either (holds (span (base + g.start) g.pages) page) _ h) [
@@ -170,6 +170,13 @@ starts_in base start (g ∷ groups) h = elim (or_either (base + g.start == start
 
 pub start_of : (c : Setup) (base start : ℕ) → is_among (group_starts c base) start ≡ true → (group : ℕ) × (g : Span) × (slice_get c.groups group ≡ Some g) × (base + g.start ≡ start)
 start_of c base start h = starts_in base start c.groups h
+
+pub starts_at : (base group : ℕ) (g : Span) (groups : List Span) → slice_get groups group ≡ Some g → is_among (map (λ (s : Span). s.start) (map (λ (g : Span). span (base + g.start) g.pages) groups)) (base + g.start) ≡ true
+starts_at base group g [] e = cc
+starts_at base zero g (x ∷ groups) e = let same : x ≡ g = cc in
+    ap (λ (y : Span). (base + y.start == base + g.start) || is_among (map (λ (s : Span). s.start) (map (λ (g : Span). span (base + g.start) g.pages) groups)) (base + g.start)) same
+    ∙ ap (λ b. b || is_among (map (λ (s : Span). s.start) (map (λ (g : Span). span (base + g.start) g.pages) groups)) (base + g.start)) (same_test (base + g.start))
+starts_at base (suc group) g (x ∷ groups) e = or_right (base + x.start == base + g.start) _ (starts_at base group g groups e)
 
 -- a page of a live group
 pub group_page : (c : Setup) (m : PlainMap) (chunk base page : ℕ) → AreGroupsLive c m chunk base → covers (groups_at c base) page ≡ true

@@ -56,3 +56,4 @@ pub mod ChunkMoves
 pub mod ChunkOut
 pub mod ChunkNoted
 pub mod ChunkLeft
+pub mod ChunkUnlinked
