@@ -1,10 +1,9 @@
 -- Chunks that a balance gives up: taken out of the map, depopulated, and their areas unlinked.
-use Rattle.std.proofs.Common.{◌≡◌, ◌≢◌, ℕ, ◌+◌, ◌<◌, ◌≤◌, ◌⊎◌, inl, inr, Bool, true, false, not, ◌==◌, List, slice_get, Option, Some, None, refl, ap, sym, ◌∙◌, subst, arith}
+use Rattle.std.proofs.Common.{◌≡◌, ◌≢◌, ℕ, ◌+◌, ◌<◌, ◌≤◌, ◌⊎◌, inl, inr, Bool, true, false, not, ◌==◌, List, slice_get, Some, None, refl, ap, sym, ◌∙◌, subst, arith}
 use Rattle.std.proofs.lemmas.Bool.Decides.{nat_tests}
 use Rattle.map_laws.proofs.Chosen.{IsIn, filter_has, among_in, count_from-below, filter_in, count_at, in_among}
 use Rattle.map_laws.proofs.Lists.{there as there_at}
-use Rattle.std.proofs.lemmas.Option.{unwrap_or-slice_get, get_or_from_slice_get}
-use Rattle.std.proofs.Common.{unwrap_or}
+use Rattle.std.proofs.lemmas.Option.{get_or_from_slice_get}
 use Rattle.map_laws.proofs.ChunkFacts.{IsChunkFine, IsChunkAt, NumberStays, chunk_stays, live_stays, unit_page, group_page, page_in_units, unit_covered}
 use Rattle.map_laws.proofs.ChunkMoves.{IsChunkMoved, later_places, number_once}
 use Rattle.vm_model.specs.Events.{Depopulate, Spare}
@@ -23,6 +22,7 @@ use Rattle.map_laws.proofs.BlockPlaces.{IsInChunk}
 use Rattle.map_laws.proofs.BlockFacts.{IsStill}
 use Rattle.vm_model.specs.Legal.{IsUnmapped}
 use Rattle.map_laws.proofs.Touched.{unpainted, in_row, painted}
+use Rattle.map_laws.proofs.ChunkPlaced.{populated_at}
 
 module _ (c : Setup) (units : AreUnits c) (m : PlainMap) (k : ℕ) (numbered : AreNumbered m) (once : (page : ℕ) → times page (spans_of m.areas) ≤ 1) (busy : ℕ → ℕ → Type 0) (none : (number page : ℕ) → busy number page → ⊥) where
   -- the chunk is no longer in the map
@@ -43,12 +43,7 @@ module _ (c : Setup) (units : AreUnits c) (m : PlainMap) (k : ℕ) (numbered : A
         let was = filter_has (is_populated spare) (count_from c.unit_pages 0) at.place page at.at in
         let low = count_from-below c.unit_pages 0 was.there.place page was.there.at in
         let l : page < c.unit_pages = omega arith in
-        (l, by_value page (slice_get spare.populated page) refl was.passes)
-      where
-        by_value : (page : ℕ) (o : Option Bool) → slice_get spare.populated page ≡ o → is_populated spare page ≡ true → slice_get spare.populated page ≡ Some true
-        by_value page None e h = let f : is_populated spare page ≡ false = sym (unwrap_or-slice_get spare.populated page false) ∙ ap (λ o. unwrap_or o false) e in cc
-        by_value page (Some true) e h = e
-        by_value page (Some false) e h = let f : is_populated spare page ≡ false = get_or_from_slice_get spare.populated page false false e in cc
+        (l, populated_at spare page was.passes)
 
     unpopulated : (page cpu unit : ℕ) → slice_get c.units cpu ≡ Some unit → page < c.unit_pages → is_among (pages_in_units c spare.base (populated_pages c spare)) (spare.base + unit + page) ≡ false → IsUnmapped m (spare.base + unit + page)
     unpopulated page cpu unit at low out = let fine = all spare there in let is = there_at spare.populated page (omega (arith, fine.long)) in by_value is.0 is.1

@@ -1,16 +1,17 @@
 -- Where an object is placed: its chunk, its pages, and those of them that lack frames.
-use Rattle.std.proofs.Common.{◌≡◌, ℕ, zero, suc, ◌+◌, ◌-◌, ◌*◌, ◌/◌, ◌<◌, ◌≤◌, Bool, true, false, List, length, drop, filter, slice_get, Option, Some, None, is_some, option_map, refl, ap, sym, ◌∙◌, subst, arith, option_and_then}
-use Rattle.map_laws.proofs.Chosen.{IsIn, least_in, filter_has}
+use Rattle.std.proofs.Common.{◌≡◌, ℕ, zero, suc, ◌+◌, ◌-◌, ◌*◌, ◌/◌, ◌<◌, ◌≤◌, Bool, true, false, List, length, drop, filter, slice_get, Option, Some, None, is_some, option_map, refl, ap, sym, ◌∙◌, subst, arith, option_and_then, unwrap_or, not, ◌⊎◌, inr, inl}
+use Rattle.map_laws.proofs.Chosen.{IsIn, least_in, filter_has, among_in, filter_in, in_among}
 use Rattle.map_laws.proofs.Places.{IsObjectSize}
 use Rattle.vm_model.proofs.Elements.{slice_get-drop}
-use Rattle.vm_model.specs.Chunks.{offset_fit, ObjectAt, missing_pages, placed_in, placement, chosen, placed_at, pages_of_object, slot}
+use Rattle.vm_model.specs.Chunks.{offset_fit, ObjectAt, missing_pages, placed_in, placement, chosen, placed_at, pages_of_object, slot, is_populated}
 use Rattle.vm_model.specs.Setup.{Setup, unit_bits}
 use Rattle.vm_model.specs.Space.{begins_free, count_from, lowest, is_among}
 use Rattle.map_laws.proofs.Fits.{lowest_fit}
 use Rattle.map_laws.proofs.PlaceMoves.{begins_free-at}
-use Rattle.vm_model.specs.PlainMap.{Chunk}
+use Rattle.vm_model.specs.PlainMap.{Chunk, PlainMap}
 use Rattle.map_laws.proofs.Touched.{in_row}
-use Rattle.std.proofs.lemmas.Option.{slice_get_within}
+use Rattle.std.proofs.lemmas.Option.{slice_get_within, get_or_from_slice_get, unwrap_or-slice_get}
+use Rattle.map_laws.proofs.ChunkFacts.{IsChunkOf, IsLacking, IsSameRow}
 
 -- an object as a choice of a chunk places it
 pub record IsPlacement (c : Setup) (fit : Chunk → Option ℕ) (bytes : ℕ) (chunks : List Chunk) (at : ObjectAt) (missing : List ℕ) : Type 0 where
@@ -79,3 +80,33 @@ object_low c bits at bytes long size same is page h =
     let last = slice_get_within bits (is.bit + size.1) false (fitting_bit bits bytes at.off size.1 is (omega arith)) in
     let e = is.at in
     ((omega arith), row.0, (omega arith))
+
+-- Which pages of an object lack frames.
+
+pub populated_at : (h : Chunk) (page : ℕ) → is_populated h page ≡ true → slice_get h.populated page ≡ Some true
+populated_at h page e = by_value (slice_get h.populated page) refl
+  where
+    by_value : (o : Option Bool) → slice_get h.populated page ≡ o → slice_get h.populated page ≡ Some true
+    by_value None f = let g : is_populated h page ≡ false = sym (unwrap_or-slice_get h.populated page false) ∙ ap (λ o. unwrap_or o false) f in cc
+    by_value (Some true) f = f
+    by_value (Some false) f = let g : is_populated h page ≡ false = get_or_from_slice_get h.populated page false false f in cc
+
+module _ (c : Setup) (fit : Chunk → Option ℕ) (bytes : ℕ) (chunks : List Chunk) (m : PlainMap) (at : ObjectAt) (missing : List ℕ) (is : IsPlacement c fit bytes chunks at missing) where
+  missing_within : (page : ℕ) → is_among missing page ≡ true → is_among (pages_of_object at) page ≡ true
+  missing_within page h =
+      let place = among_in page (missing_pages at is.chunk) (ap (λ l. is_among l page) (sym is.lacks) ∙ h) in
+      in_among page (pages_of_object at) (filter_has (λ page. not (is_populated is.chunk page)) (pages_of_object at) place.place page place.at).there
+
+  either_by : (page : ℕ) → is_among (pages_of_object at) page ≡ true → (t : Bool) → is_populated is.chunk page ≡ t → (is_among missing page ≡ true) ⊎ (slice_get is.chunk.populated page ≡ Some true)
+  either_by page h true e = inr (populated_at is.chunk page e)
+  either_by page h false e = let place = among_in page (pages_of_object at) h in
+      inl (ap (λ l. is_among l page) is.lacks ∙ in_among page (missing_pages at is.chunk) (filter_in (λ page. not (is_populated is.chunk page)) (pages_of_object at) page place.place place.at (ap not e)))
+
+  -- the placed object in a map that has its chunk
+  pub placed_lacking : (of : IsChunkOf m at.chunk at.base) → IsSameRow is.chunk of.chunk → ((page : ℕ) → is_among (pages_of_object at) page ≡ true → page < c.unit_pages) → IsLacking c m at missing
+  placed_lacking of row low = record {
+    here = of;
+    low = low;
+    either = λ page h. elim (either_by page h _ refl) [ inl lacks ↦ inl lacks | inr has ↦ inr (row.populated page ∙ has) ];
+    within = missing_within;
+  }
