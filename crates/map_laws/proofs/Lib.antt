@@ -57,3 +57,4 @@ pub mod ChunkOut
 pub mod ChunkNoted
 pub mod ChunkLeft
 pub mod ChunkUnlinked
+pub mod ChunkPlaces

@@ -1,0 +1,36 @@
+-- An object is placed in a chunk that has room.
+use Rattle.std.proofs.Common.{◌≡◌, ℕ, zero, suc, ◌≤◌, ◌⊎◌, Bool, List, length, map, refl, ap, sym}
+use Rattle.map_laws.proofs.Chosen.{IsIn}
+use Rattle.map_laws.proofs.ChunkFacts.{IsChunkFine, IsChunkOf, of_stays}
+use Rattle.map_laws.proofs.ChunkMoves.{IsChunkMoved, quiet_chunks}
+use Rattle.vm_model.specs.Places.{Choosing, Populating}
+use Rattle.vm_model.specs.Next.{Go}
+use Rattle.vm_model.specs.Events.{PlaceObject}
+use Rattle.map_laws.proofs.ChunkRows.{AreNumbered, plain_rows, plain_stays}
+use Rattle.vm_model.specs.Rules.{AreUnits}
+use Rattle.vm_model.specs.PlainMap.{Chunk, PlainMap}
+use Rattle.vm_model.specs.Carried.{IsBeingPopulated}
+use Rattle.vm_model.specs.Legal.{IsLegalAs}
+use Rattle.map_laws.proofs.Places.{IsObjectSize}
+use Rattle.vm_model.specs.Chunks.{ObjectAt, bit_list, plain_fit}
+use Rattle.vm_model.specs.Setup.{Setup, unit_bits}
+use Rattle.vm_model.specs.Space.{count_from, times}
+use Rattle.vm_model.specs.Effects.{effect_as}
+use Rattle.map_laws.proofs.ChunkPlaced.{object_low, placed_lacking, placement_is, fitting}
+use Rattle.vm_model.specs.Areas.{spans_of}
+
+bits_long : (test : ℕ → Bool) (n first : ℕ) → length (map test (count_from n first)) ≡ n
+bits_long test zero first = refl
+bits_long test (suc n) first = ap suc (bits_long test n (suc first))
+
+module _ (c : Setup) (units : AreUnits c) (m : PlainMap) (k : ℕ) (numbered : AreNumbered m) (once : (page : ℕ) → times page (spans_of m.areas) ≤ 1) (busy : ℕ → ℕ → Type 0) (bytes align : ℕ)
+    (all : (h : Chunk) → IsIn h m.chunks → IsChunkFine c m (λ number page. busy number page ⊎ IsBeingPopulated number page (Choosing bytes align)) h) where
+  pub place_moved : (at : ObjectAt) (missing : List ℕ) → IsObjectSize at.bytes → IsLegalAs c m k (PlaceObject at align missing) → IsChunkMoved c m k busy (Choosing bytes align) (PlaceObject at align missing) (Go (Populating at missing))
+  place_moved at missing size legal =
+      let is = placement_is c (plain_fit c at.bytes align) at.bytes m.chunks at missing legal in
+      let rows = plain_rows c m k (PlaceObject at align missing) refl in
+      let of : IsChunkOf m at.chunk at.base = record { chunk = is.chunk; there = is.there; numbered = sym is.numbered; based = sym is.based } in
+      let after = of_stays m (effect_as c m k (PlaceObject at align missing)) at.chunk at.base rows of in
+      quiet_chunks c units m k numbered once busy (Choosing bytes align) all (PlaceObject at align missing) (Go (Populating at missing)) rows (λ number. plain_stays c m k (PlaceObject at align missing) number refl) (λ number page mine. absurd mine)
+      (placed_lacking c (plain_fit c at.bytes align) at.bytes m.chunks (effect_as c m k (PlaceObject at align missing)) at missing is after.0 after.1
+      (λ page h. (object_low c (bit_list c is.chunk) at at.bytes (bits_long _ (unit_bits c) 0) size refl (fitting at.bytes align at.off (bit_list c is.chunk) is.fits) page h).0))
