@@ -1,20 +1,20 @@
--- An object is placed in a chunk that has room.
-use Rattle.std.proofs.Common.{◌≡◌, ℕ, zero, suc, ◌≤◌, ◌⊎◌, Bool, List, length, map, refl, ap, sym}
+-- An object is placed in a chunk that has room, and its missing pages get frames.
+use Rattle.std.proofs.Common.{◌≡◌, inl, inr, true, Some, subst, ℕ, zero, suc, ◌≤◌, ◌⊎◌, Bool, List, length, map, refl, ap, sym, slice_get, ◌+◌, ◌<◌}
 use Rattle.map_laws.proofs.Chosen.{IsIn}
-use Rattle.map_laws.proofs.ChunkFacts.{IsChunkFine, IsChunkOf, of_stays}
-use Rattle.map_laws.proofs.ChunkMoves.{IsChunkMoved, quiet_chunks}
-use Rattle.vm_model.specs.Places.{Choosing, Populating}
+use Rattle.map_laws.proofs.ChunkFacts.{IsChunkFine, IsChunkOf, of_stays, IsLacking, page_in_units}
+use Rattle.map_laws.proofs.ChunkMoves.{IsChunkMoved, quiet_chunks, given_chunks, given_mapped, mapped_still}
+use Rattle.vm_model.specs.Places.{Choosing, Populating, SettlingObject}
 use Rattle.vm_model.specs.Next.{Go}
-use Rattle.vm_model.specs.Events.{PlaceObject}
-use Rattle.map_laws.proofs.ChunkRows.{AreNumbered, plain_rows, plain_stays}
+use Rattle.vm_model.specs.Events.{PlaceObject, Populate}
+use Rattle.map_laws.proofs.ChunkRows.{AreNumbered, plain_rows, plain_stays, rows_kept}
 use Rattle.vm_model.specs.Rules.{AreUnits}
 use Rattle.vm_model.specs.PlainMap.{Chunk, PlainMap}
 use Rattle.vm_model.specs.Carried.{IsBeingPopulated}
-use Rattle.vm_model.specs.Legal.{IsLegalAs}
+use Rattle.vm_model.specs.Legal.{IsLegalAs, IsMapped}
 use Rattle.map_laws.proofs.Places.{IsObjectSize}
 use Rattle.vm_model.specs.Chunks.{ObjectAt, bit_list, plain_fit}
 use Rattle.vm_model.specs.Setup.{Setup, unit_bits}
-use Rattle.vm_model.specs.Space.{count_from, times}
+use Rattle.vm_model.specs.Space.{count_from, times, is_among}
 use Rattle.vm_model.specs.Effects.{effect_as}
 use Rattle.map_laws.proofs.ChunkPlaced.{object_low, placed_lacking, placement_is, fitting}
 use Rattle.vm_model.specs.Areas.{spans_of}
@@ -34,3 +34,21 @@ module _ (c : Setup) (units : AreUnits c) (m : PlainMap) (k : ℕ) (numbered : A
       quiet_chunks c units m k numbered once busy (Choosing bytes align) all (PlaceObject at align missing) (Go (Populating at missing)) rows (λ number. plain_stays c m k (PlaceObject at align missing) number refl) (λ number page mine. absurd mine)
       (placed_lacking c (plain_fit c at.bytes align) at.bytes m.chunks (effect_as c m k (PlaceObject at align missing)) at missing is after.0 after.1
       (λ page h. (object_low c (bit_list c is.chunk) at at.bytes (bits_long _ (unit_bits c) 0) size refl (fitting at.bytes align at.off (bit_list c is.chunk) is.fits) page h).0))
+
+-- Its missing pages get frames.
+module _ (c : Setup) (units : AreUnits c) (m : PlainMap) (k : ℕ) (numbered : AreNumbered m) (once : (page : ℕ) → times page (spans_of m.areas) ≤ 1) (busy : ℕ → ℕ → Type 0) (none : (number page : ℕ) → busy number page → ⊥)
+    (at : ObjectAt) (missing : List ℕ) (all : (h : Chunk) → IsIn h m.chunks → IsChunkFine c m (λ number page. busy number page ⊎ IsBeingPopulated number page (Populating at missing)) h) (lack : IsLacking c m at missing)
+    (legal : IsLegalAs c m k (Populate at missing)) where
+  low_missing : (page : ℕ) → is_among missing page ≡ true → page < c.unit_pages
+  low_missing page h = lack.low page (lack.within page h)
+
+  now_mapped : (page cpu unit : ℕ) → slice_get c.units cpu ≡ Some unit → (is_among missing page ≡ true) ⊎ (slice_get lack.here.chunk.populated page ≡ Some true) → IsMapped (effect_as c m k (Populate at missing)) (at.base + unit + page)
+  now_mapped page cpu unit e (inl lacks) = given_mapped c units m k numbered once busy (Populating at missing) all none (λ number page mine. absurd mine) refl at.chunk at.base missing lack.here low_missing legal (Populate at missing) refl refl refl refl refl
+      (at.base + unit + page) (page_in_units c at.base page cpu unit missing e lacks)
+  now_mapped page cpu unit e (inr has) = mapped_still c units m k numbered once busy (Populating at missing) all none (λ number page mine. absurd mine) refl at.chunk at.base missing lack.here low_missing legal (Populate at missing) refl refl refl refl refl
+      (at.base + unit + page) (subst (λ b. IsMapped m (b + unit + page)) lack.here.based ((all lack.here.chunk lack.here.there).populated page has cpu unit e))
+
+  pub populate_moved : IsChunkMoved c m k busy (Populating at missing) (Populate at missing) (Go (SettlingObject at))
+  populate_moved = given_chunks c units m k numbered once busy (Populating at missing) all none (λ number page mine. absurd mine) refl at.chunk at.base missing lack.here low_missing legal (Populate at missing) refl refl refl refl refl (Go (SettlingObject at))
+      (λ page h. (refl, lack.within page h))
+      ((of_stays m (effect_as c m k (Populate at missing)) at.chunk at.base (rows_kept m (effect_as c m k (Populate at missing)) refl refl) lack.here).0, (λ page h. (lack.low page h, (λ cpu unit e. now_mapped page cpu unit e (lack.either page h)))))
