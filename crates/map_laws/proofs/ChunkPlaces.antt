@@ -1,11 +1,11 @@
 -- An object is placed in a chunk that has room, and its missing pages get frames.
-use Rattle.std.proofs.Common.{◌≡◌, inl, inr, true, Some, subst, ℕ, zero, suc, ◌≤◌, ◌⊎◌, Bool, List, length, map, refl, ap, sym, slice_get, ◌+◌, ◌<◌}
-use Rattle.map_laws.proofs.Chosen.{IsIn}
-use Rattle.map_laws.proofs.ChunkFacts.{IsChunkFine, IsChunkOf, of_stays, IsLacking, page_in_units}
+use Rattle.std.proofs.Common.{◌≡◌, inl, inr, true, Some, subst, ℕ, zero, suc, ◌≤◌, ◌⊎◌, Bool, List, length, map, refl, ap, sym, slice_get, ◌+◌, ◌<◌, ◌∷◌, []}
+use Rattle.map_laws.proofs.Chosen.{IsIn, in_among}
+use Rattle.map_laws.proofs.ChunkFacts.{IsChunkFine, IsChunkOf, of_stays, IsLacking, page_in_units, IsChunkAt}
 use Rattle.map_laws.proofs.ChunkMoves.{IsChunkMoved, quiet_chunks, given_chunks, given_mapped, mapped_still}
-use Rattle.vm_model.specs.Places.{Choosing, Populating, SettlingObject}
+use Rattle.vm_model.specs.Places.{Choosing, Populating, SettlingObject, Filling, NotingFilled}
 use Rattle.vm_model.specs.Next.{Go}
-use Rattle.vm_model.specs.Events.{PlaceObject, Populate}
+use Rattle.vm_model.specs.Events.{PlaceObject, Populate, Fill}
 use Rattle.map_laws.proofs.ChunkRows.{AreNumbered, plain_rows, plain_stays, rows_kept}
 use Rattle.vm_model.specs.Rules.{AreUnits}
 use Rattle.vm_model.specs.PlainMap.{Chunk, PlainMap}
@@ -18,6 +18,7 @@ use Rattle.vm_model.specs.Space.{count_from, times, is_among}
 use Rattle.vm_model.specs.Effects.{effect_as}
 use Rattle.map_laws.proofs.ChunkPlaced.{object_low, placed_lacking, placement_is, fitting}
 use Rattle.vm_model.specs.Areas.{spans_of}
+use Rattle.map_laws.proofs.BlockWorlds.{only_one}
 
 bits_long : (test : ℕ → Bool) (n first : ℕ) → length (map test (count_from n first)) ≡ n
 bits_long test zero first = refl
@@ -52,3 +53,20 @@ module _ (c : Setup) (units : AreUnits c) (m : PlainMap) (k : ℕ) (numbered : A
   populate_moved = given_chunks c units m k numbered once busy (Populating at missing) all none (λ number page mine. absurd mine) refl at.chunk at.base missing lack.here low_missing legal (Populate at missing) refl refl refl refl refl (Go (SettlingObject at))
       (λ page h. (refl, lack.within page h))
       ((of_stays m (effect_as c m k (Populate at missing)) at.chunk at.base (rows_kept m (effect_as c m k (Populate at missing)) refl refl) lack.here).0, (λ page h. (lack.low page h, (λ cpu unit e. now_mapped page cpu unit e (lack.either page h)))))
+
+-- A page that a balance fills gets frames.
+module _ (c : Setup) (units : AreUnits c) (m : PlainMap) (k : ℕ) (numbered : AreNumbered m) (once : (page : ℕ) → times page (spans_of m.areas) ≤ 1) (busy : ℕ → ℕ → Type 0) (none : (number page : ℕ) → busy number page → ⊥)
+    (chunk base page filled : ℕ) (all : (h : Chunk) → IsIn h m.chunks → IsChunkFine c m (λ number own. busy number own ⊎ IsBeingPopulated number own (Filling chunk base page filled)) h) (at : IsChunkAt c m (Filling chunk base page filled))
+    (legal : IsLegalAs c m k (Fill base page)) where
+  low_page : (own : ℕ) → is_among (page ∷ []) own ≡ true → own < c.unit_pages
+  low_page own h = subst (λ i. i < c.unit_pages) (only_one page own h) at.1
+
+  pub fill_moved : IsChunkMoved c m k busy (Filling chunk base page filled) (Fill base page) (Go (NotingFilled chunk page filled))
+  fill_moved = given_chunks c units m k numbered once busy (Filling chunk base page filled) all none (λ number own mine. absurd mine) refl chunk base (page ∷ []) at.0 low_page legal (Fill base page) refl refl refl refl refl (Go (NotingFilled chunk page filled))
+      (λ own h. (refl, only_one page own h)) (
+        base,
+        (of_stays m (effect_as c m k (Fill base page)) chunk base (rows_kept m (effect_as c m k (Fill base page)) refl refl) at.0).0,
+        at.1,
+        (λ cpu unit e. given_mapped c units m k numbered once busy (Filling chunk base page filled) all none (λ number own mine. absurd mine) refl chunk base (page ∷ []) at.0 low_page legal (Fill base page) refl refl refl refl refl
+            (base + unit + page) (page_in_units c base page cpu unit (page ∷ []) e (in_among page (page ∷ []) (record { place = 0; at = refl })))),
+      )
