@@ -11,49 +11,24 @@ use Rattle.map_laws.proofs.Chosen.{IsIn, sum_without}
 use Rattle.map_laws.proofs.Sizes.{mapped_at}
 use Rattle.map_laws.proofs.Powers.{rounded_some}
 use Rattle.map_laws.proofs.BlockFacts.{OnRow, AreStacked, IsPartFine, IsBlockFine, IsPartIn, block_starts, to_same, stacked_covers, size_cons, Stays}
+use Rattle.map_laws.proofs.Changed.{keyed_in, keyed_is, unkeyed_in}
 
 -- Changes of one block.
 
 pub in_of : {X : Type 0} (xs : List X) (i : ℕ) (x : X) → slice_get xs i ≡ Some x → IsIn x xs
 in_of xs i x h = record { place = i; at = h }
 
-if_true : (b : Block) (x y : Block) (t : Bool) → t ≡ true → (if t then x else y) ≡ x
-if_true b x y true e = refl
-if_true b x y false e = cc
-
-if_false : (b : Block) (x y : Block) (t : Bool) → t ≡ false → (if t then x else y) ≡ y
-if_false b x y true e = cc
-if_false b x y false e = refl
-
 -- a block of the changed list is the changed one, or another one as it was
 pub changed_is : (start : ℕ) (change : Block → Block) (blocks : List Block) (b : Block) → IsIn b (change_block start change blocks)
     → (was : Block) × IsIn was blocks × (((was.start ≡ start) × (b ≡ change was)) ⊎ ((was.start ≢ start) × (b ≡ was)))
-changed_is start change blocks b there =
-    let was = mapped_at (λ (x : Block). if x.start == start then change x else x) blocks there.place b there.at in
-    (was.0, in_of blocks there.place was.0 was.1, by_test was.0 (was.0.start == start) refl was.2)
-  where
-    by_test : (x : Block) (t : Bool) → (x.start == start) ≡ t → (if t then change x else x) ≡ b → ((x.start ≡ start) × (b ≡ change x)) ⊎ ((x.start ≢ start) × (b ≡ x))
-    by_test x true e h = inl (to_same x.start start e, sym h)
-    by_test x false e h = inr ((λ f. (let t : (x.start == start) ≡ true = grind (arith, nat_tests) in cc)), sym h)
+changed_is start change blocks b there = keyed_is (λ (x : Block). x.start) start change blocks b there
 
 -- and each block of the list is there, changed or not
 pub changed_in : (start : ℕ) (change : Block → Block) (blocks : List Block) (b : Block) → IsIn b blocks → b.start ≡ start → IsIn (change b) (change_block start change blocks)
-changed_in start change blocks b there e = record {
-  place = there.place;
-  at = slice_get-map (λ (x : Block). if x.start == start then change x else x) blocks there.place ∙ ap (option_map (λ (x : Block). if x.start == start then change x else x)) there.at
-      ∙ ap (λ x. Some x) (if_true b (change b) b (b.start == start) (let t : (b.start == start) ≡ true = grind (arith, nat_tests) in t));
-}
+changed_in start change blocks b there e = keyed_in (λ (x : Block). x.start) start change blocks b there e
 
 pub unchanged_in : (start : ℕ) (change : Block → Block) (blocks : List Block) (b : Block) → IsIn b blocks → b.start ≢ start → IsIn b (change_block start change blocks)
-unchanged_in start change blocks b there n = record {
-  place = there.place;
-  at = slice_get-map (λ (x : Block). if x.start == start then change x else x) blocks there.place ∙ ap (option_map (λ (x : Block). if x.start == start then change x else x)) there.at
-      ∙ ap (λ x. Some x) (if_false b (change b) b (b.start == start) (by_test (b.start == start) refl));
-}
-  where
-    by_test : (t : Bool) → (b.start == start) ≡ t → t ≡ false
-    by_test true e = absurd (n (to_same b.start start e))
-    by_test false e = refl
+unchanged_in start change blocks b there n = unkeyed_in (λ (x : Block). x.start) start change blocks b there n
 
 start_if : (change : Block → Block) → ((b : Block) → (change b).start ≡ b.start) → (b : Block) (t : Bool) → (if t then change b else b).start ≡ b.start
 start_if change keeps b true = keeps b

@@ -6,17 +6,17 @@ use Rattle.vm_model.specs.declared.areas.AreaKind.{AreaKind}
 use Rattle.vm_model.specs.declared.areas.AreaKind.TheVariants as kind
 use Rattle.vm_model.specs.declared.calls.Reply.{Reply}
 use Rattle.vm_model.specs.Space.{count_from, span, holds, is_among, times, pages_of}
-use Rattle.vm_model.specs.Setup.{Setup, cpus}
+use Rattle.vm_model.specs.Setup.{Setup, cpus, pages_in_units, groups_at}
 use Rattle.vm_model.specs.PlainMap.{PlainMap, Block}
-use Rattle.vm_model.specs.Areas.{spans_of, named_areas, mapped_part}
+use Rattle.vm_model.specs.Areas.{spans_of, named_areas, mapped_part, group_areas}
 use Rattle.vm_model.specs.Frames.{free_frames}
 use Rattle.vm_model.specs.Blocks.{PartAt, first_page, mapped_pages, rounded}
-use Rattle.vm_model.specs.Legal.{IsMapped, IsBare, IsLegalAs}
-use Rattle.vm_model.specs.Events.{Section, ForPages, Refuse, TakePurge, GivePurge, Carve, NoHole, Drop, Return, Settle, Remove, AreaNotLive, Unlink, Wait, TakeWaiting, MapPages, NoFrames, Unmap, Flush, CutPart, NoPart, AddBlock, SettlePart, BeginUnmap, PartNotLive, Retire, Fragment, Dirty}
+use Rattle.vm_model.specs.Legal.{IsMapped, IsBare, IsLegalAs, OnPages}
+use Rattle.vm_model.specs.Events.{Section, ForPages, Refuse, TakePurge, GivePurge, Carve, NoHole, Drop, Return, Settle, Remove, AreaNotLive, Unlink, Wait, TakeWaiting, MapPages, NoFrames, Unmap, Flush, CutPart, NoPart, AddBlock, SettlePart, BeginUnmap, PartNotLive, Retire, Fragment, Dirty, CarveGroups, AddChunk, AddWord, Depopulate, Enough, Fill, Filled, ForGroups, FreeObject, GiveAlloc, NextPage, NoAtomic, NoPlace, NoSpare, ObjectNotLive, PlaceAtomic, PlaceObject, Populate, SettleObject, Spare, SumWords, TakeAlloc, Unplace, Zero}
 use Rattle.vm_model.specs.Effects.{effect_as}
-use Rattle.vm_model.specs.Places.{Place, Over, Refusing, Finding, FindingAgain, MappingArea, Dropping, SettlingArea, Removing, UnmappingArea, Waiting, PurgeTaking, PurgeFragmenting, PurgeUnlinking, PurgeWaiting, PurgeCollecting, PurgeFlushing, PurgeReturning, PurgeGiving, CuttingPart, SettlingBlock, AddingBlock, MappingPart, SettlingPart, BeginningUnmap, UnmappingPart, Retiring, UnlinkingBlock, block_spans, LookingAtDirty, ForArea, ForBlock, Then, ask}
-use Rattle.vm_model.specs.Next.{Go, next, after_fragments}
-use Rattle.vm_model.specs.Carried.{count_of, starts_out}
+use Rattle.vm_model.specs.Places.{Place, Over, Refusing, Finding, FindingAgain, MappingArea, Dropping, SettlingArea, Removing, UnmappingArea, Waiting, PurgeTaking, PurgeFragmenting, PurgeUnlinking, PurgeWaiting, PurgeCollecting, PurgeFlushing, PurgeReturning, PurgeGiving, CuttingPart, SettlingBlock, AddingBlock, MappingPart, SettlingPart, BeginningUnmap, UnmappingPart, Retiring, UnlinkingBlock, block_spans, LookingAtDirty, Then, ask, Adding, AddingChunk, Choosing, ChoosingAtomic, Depopulating, Filling, FreeingObject, GivingAlloc, NextFill, NotingFilled, Populating, SettlingAtomic, SettlingGroups, SettlingObject, Sparing, Summing, TakingAlloc, TakingToBalance, UnlinkingGroups, Unplacing, Zeroing, group_starts, SearchAgain}
+use Rattle.vm_model.specs.Next.{Go, next, after_fragments, without_space}
+use Rattle.vm_model.specs.Carried.{count_of}
 use Rattle.vm_model.specs.LegalHistory.{Meets}
 use Rattle.map_laws.proofs.Chosen.{IsIn}
 use Rattle.map_laws.proofs.Places.{IsPlainKind, IsProper, either_next}
@@ -25,17 +25,30 @@ use Rattle.map_laws.proofs.Spans.{covers_one, holds_from}
 use Rattle.map_laws.proofs.Touched.{painted, unpainted, painted_still, ungiven, outside_row}
 use Rattle.map_laws.proofs.AreaFacts.{IsHolding, IsMapFine, own_uses, mapped_within}
 use Rattle.map_laws.proofs.PlaceMoves.{given_all, held_in_row}
-use Rattle.map_laws.proofs.MapPlaces.{IsMapPlace}
-use Rattle.map_laws.proofs.BlockFacts.{OnRow, IsBlockFine, IsPartIn, IsOut, IsBlockAt, block_starts}
+use Rattle.map_laws.proofs.BlockFacts.{OnRow, IsBlockFine, IsPartIn, IsOut, IsBlockAt, block_starts, block_out}
 use Rattle.map_laws.proofs.BlockMoves.{part_within, row_of, IsBlockMoved, outer_moved, inner_moved}
 use Rattle.map_laws.proofs.PartMoves.{cut_moved, add_moved, settle_part_moved, retire_moved}
 use Rattle.map_laws.proofs.FragmentMoves.{begin_moved, fragment_moved, to_next, to_unlink}
-use Rattle.map_laws.proofs.BlockPlaces.{HasParts, IsUnblocky, no_space_un, went_on_un, collected_un, flushed_un, hand_same, not_held, quiet_b, settle_b, held_b, remove_b, unlink_b, as_b, block_settled}
+use Rattle.map_laws.proofs.BlockPlaces.{HasParts, IsUnblocky, no_space_un, went_on_un, collected_un, flushed_un, hand_same, not_held, quiet_b, settle_b, held_b, remove_b, unlink_b, as_b, block_settled, found_un, framed_b, IsInChunk, groups_b}
+use Rattle.map_laws.proofs.AreaMoves.{AreGroupsFree}
+use Rattle.map_laws.proofs.OutMoves.{IsUnlinked}
+use Rattle.vm_model.specs.Told.{carved, carved_base}
 
 -- of the area that is removed at a place
 abbrev pub IsRemovedPlain : PlainMap → Place → Type 0
 IsRemovedPlain m (Removing start serial) = (area : Area) → named_areas start serial m.areas ≡ area ∷ [] → IsPlainKind area.kind
 IsRemovedPlain m _ = Unit {0}
+
+-- what a place promises of chunks
+abbrev pub IsChunkSided : Setup → PlainMap → Place → Type 0
+IsChunkSided c m (Finding search aim) = AreGroupsFree c m search
+IsChunkSided c m (FindingAgain search aim) = AreGroupsFree c m search
+IsChunkSided c m (Populating at missing) = OnPages (pages_in_units c at.base missing) (IsInChunk m)
+IsChunkSided c m (Filling chunk base page filled) = OnPages (pages_in_units c base (page ∷ [])) (IsInChunk m)
+IsChunkSided c m (Depopulating base populated) = OnPages (pages_in_units c base populated) (IsInChunk m)
+IsChunkSided c m (UnlinkingGroups base) =
+    ((a : Area) (cpu : ℕ) → IsIn a m.areas → a.kind ≡ kind.Block cpu → is_among (group_starts c base) a.span.start ≡ false) × IsUnlinked c m (group_starts c base) (groups_at c base)
+IsChunkSided c m _ = Unit {0}
 
 module _ (c : Setup) (m : PlainMap) (k : ℕ) (fine : IsMapFine m) (has : HasParts c) (all : (b : Block) → IsIn b m.blocks → IsBlockFine c m b) where
   module _ (at : PartAt) (hand : IsPartIn m k at) (areas_once : (page : ℕ) → times page (spans_of m.areas) ≤ 1)
@@ -69,6 +82,13 @@ module _ (c : Setup) (m : PlainMap) (k : ℕ) (fine : IsMapFine m) (has : HasPar
         (λ page start area a b. record { frame = refl; clean = λ h. h }) (λ start. omega arith)
         (hand_same m (effect_as c m k (NoFrames asked)) k at refl hand, (λ page low high. (bare page low (omega arith)).unmapped))
 
+  not_among_pages : (pages : List ℕ) (page : ℕ) → (is_among pages page ≡ true → ⊥) → is_among pages page ≡ false
+  not_among_pages pages page never = by_test (is_among pages page) refl
+    where
+      by_test : (t : Bool) → is_among pages page ≡ t → is_among pages page ≡ false
+      by_test true e = absurd (never e)
+      by_test false e = e
+
   not_mapped : (kd : AreaKind) (place : Span) (page : ℕ) → (holds place page ≡ true → ⊥) → holds (mapped_part kd place) page ≡ false
   not_mapped kd place page never = by_test (holds (mapped_part kd place) page) refl
     where
@@ -89,24 +109,24 @@ module _ (c : Setup) (m : PlainMap) (k : ℕ) (fine : IsMapFine m) (has : HasPar
     less_one : (once : (page : ℕ) → own_uses c m p page ≤ 1) (page : ℕ) → times page (spans_of m.areas) ≤ 1
     less_one once page = let o = once page in omega arith
 
-    starts_one : ((start : ℕ) → count_of start (block_starts m.blocks) + count_of start (starts_out c p) ≤ 1) → (start : ℕ) → count_of start (block_starts m.blocks) ≤ 1
+    starts_one : ((start : ℕ) → count_of start (block_starts m.blocks) + count_of start (block_out p) ≤ 1) → (start : ℕ) → count_of start (block_starts m.blocks) ≤ 1
     starts_one named start = let n = named start in omega arith
 
   size_low : (at : PartAt) → IsPartIn m k at → at.pages ≤ rounded at.pages
   size_low at hand = let w = (part_within c m hand.block hand.part (all hand.block hand.there) hand.part_there).1 in let r = row_of m k at hand in omega (arith, r.1, r.2)
 
-  pub block_by : (p : Place) (s : Section) → IsMapPlace p → IsProper c p → IsHolding c m k p → IsRemovedPlain m p → (once : (page : ℕ) → own_uses c m p page ≤ 1)
-      → (named : (start : ℕ) → count_of start (block_starts m.blocks) + count_of start (starts_out c p) ≤ 1) → IsBlockAt c m k p → Meets c (ask c p) s → IsLegalAs c m k s → IsBlockMoved c m k p s (next c p s)
+  pub block_by : (p : Place) (s : Section) → IsChunkSided c m p → IsProper c p → IsHolding c m k p → IsRemovedPlain m p → (once : (page : ℕ) → own_uses c m p page ≤ 1)
+      → (named : (start : ℕ) → count_of start (block_starts m.blocks) + count_of start (block_out p) ≤ 1) → IsBlockAt c m k p → Meets c (ask c p) s → IsLegalAs c m k s → IsBlockMoved c m k p s (next c p s)
   block_by Over s is proper own plain once named at w legal = absurd w
   block_by (Refusing r) s is proper own plain once named at w legal = as_b c m k fine has all (Refusing r) once named s (Refuse) w legal (λ l. quiet_b c m k fine has all (Refusing r) once named (Refuse) _ tt refl refl refl (λ page h. h))
-  block_by (Finding (ForPages pages align) (ForArea kd)) s is proper own plain once named at (inl w) legal = as_b c m k fine has all (Finding (ForPages pages align) (ForArea kd)) once named s (Carve (span w.0 pages) align) w.1 legal (λ l. quiet_b c m k fine has all (Finding (ForPages pages align) (ForArea kd)) once named (Carve (span w.0 pages) align) _ refl refl refl refl (λ page h. h))
-  block_by (Finding (ForPages pages align) (ForArea kd)) s is proper own plain once named at (inr w) legal = as_b c m k fine has all (Finding (ForPages pages align) (ForArea kd)) once named s (NoHole (ForPages pages align)) w legal (λ l. quiet_b c m k fine has all (Finding (ForPages pages align) (ForArea kd)) once named (NoHole (ForPages pages align)) _ refl refl refl refl (λ page h. h))
-  block_by (Finding (ForPages pages align) (ForBlock cpu asked)) s is proper own plain once named at (inl w) legal = as_b c m k fine has all (Finding (ForPages pages align) (ForBlock cpu asked)) once named s (Carve (span w.0 pages) align) w.1 legal (λ l. quiet_b c m k fine has all (Finding (ForPages pages align) (ForBlock cpu asked)) once named (Carve (span w.0 pages) align) _ refl refl refl refl (λ page h. h))
-  block_by (Finding (ForPages pages align) (ForBlock cpu asked)) s is proper own plain once named at (inr w) legal = as_b c m k fine has all (Finding (ForPages pages align) (ForBlock cpu asked)) once named s (NoHole (ForPages pages align)) w legal (λ l. quiet_b c m k fine has all (Finding (ForPages pages align) (ForBlock cpu asked)) once named (NoHole (ForPages pages align)) _ refl refl refl refl (λ page h. h))
-  block_by (FindingAgain (ForPages pages align) (ForArea kd)) s is proper own plain once named at (inl w) legal = as_b c m k fine has all (FindingAgain (ForPages pages align) (ForArea kd)) once named s (Carve (span w.0 pages) align) w.1 legal (λ l. quiet_b c m k fine has all (FindingAgain (ForPages pages align) (ForArea kd)) once named (Carve (span w.0 pages) align) _ refl refl refl refl (λ page h. h))
-  block_by (FindingAgain (ForPages pages align) (ForArea kd)) s is proper own plain once named at (inr w) legal = as_b c m k fine has all (FindingAgain (ForPages pages align) (ForArea kd)) once named s (NoHole (ForPages pages align)) w legal (λ l. quiet_b c m k fine has all (FindingAgain (ForPages pages align) (ForArea kd)) once named (NoHole (ForPages pages align)) _ (no_space_un (ForArea kd)) refl refl refl (λ page h. h))
-  block_by (FindingAgain (ForPages pages align) (ForBlock cpu asked)) s is proper own plain once named at (inl w) legal = as_b c m k fine has all (FindingAgain (ForPages pages align) (ForBlock cpu asked)) once named s (Carve (span w.0 pages) align) w.1 legal (λ l. quiet_b c m k fine has all (FindingAgain (ForPages pages align) (ForBlock cpu asked)) once named (Carve (span w.0 pages) align) _ refl refl refl refl (λ page h. h))
-  block_by (FindingAgain (ForPages pages align) (ForBlock cpu asked)) s is proper own plain once named at (inr w) legal = as_b c m k fine has all (FindingAgain (ForPages pages align) (ForBlock cpu asked)) once named s (NoHole (ForPages pages align)) w legal (λ l. quiet_b c m k fine has all (FindingAgain (ForPages pages align) (ForBlock cpu asked)) once named (NoHole (ForPages pages align)) _ (no_space_un (ForBlock cpu asked)) refl refl refl (λ page h. h))
+  block_by (Finding (ForPages pages align) aim) s is proper own plain once named at (inl w) legal = as_b c m k fine has all (Finding (ForPages pages align) aim) once named s (Carve (span w.0 pages) align) w.1 legal (λ l. quiet_b c m k fine has all (Finding (ForPages pages align) aim) once named (Carve (span w.0 pages) align) _ (found_un aim (carved (Carve (span w.0 pages) align)) (carved_base (Carve (span w.0 pages) align)) (Go (PurgeTaking None (SearchAgain (ForPages pages align) aim))) refl) refl refl refl (λ page h. h))
+  block_by (Finding (ForPages pages align) aim) s is proper own plain once named at (inr w) legal = as_b c m k fine has all (Finding (ForPages pages align) aim) once named s (NoHole (ForPages pages align)) w legal (λ l. quiet_b c m k fine has all (Finding (ForPages pages align) aim) once named (NoHole (ForPages pages align)) _ (found_un aim (carved (NoHole (ForPages pages align))) (carved_base (NoHole (ForPages pages align))) (Go (PurgeTaking None (SearchAgain (ForPages pages align) aim))) refl) refl refl refl (λ page h. h))
+  block_by (Finding ForGroups aim) s is proper own plain once named at (inl w) legal = as_b c m k fine has all (Finding ForGroups aim) once named s (CarveGroups w.0) w.1 legal (λ l. quiet_b c m k fine has all (Finding ForGroups aim) once named (CarveGroups w.0) _ (found_un aim (carved (CarveGroups w.0)) (carved_base (CarveGroups w.0)) (Go (PurgeTaking None (SearchAgain ForGroups aim))) refl) refl refl refl (λ page h. h))
+  block_by (Finding ForGroups aim) s is proper own plain once named at (inr w) legal = as_b c m k fine has all (Finding ForGroups aim) once named s (NoHole ForGroups) w legal (λ l. quiet_b c m k fine has all (Finding ForGroups aim) once named (NoHole ForGroups) _ (found_un aim (carved (NoHole ForGroups)) (carved_base (NoHole ForGroups)) (Go (PurgeTaking None (SearchAgain ForGroups aim))) refl) refl refl refl (λ page h. h))
+  block_by (FindingAgain (ForPages pages align) aim) s is proper own plain once named at (inl w) legal = as_b c m k fine has all (FindingAgain (ForPages pages align) aim) once named s (Carve (span w.0 pages) align) w.1 legal (λ l. quiet_b c m k fine has all (FindingAgain (ForPages pages align) aim) once named (Carve (span w.0 pages) align) _ (found_un aim (carved (Carve (span w.0 pages) align)) (carved_base (Carve (span w.0 pages) align)) (without_space aim) (no_space_un aim)) refl refl refl (λ page h. h))
+  block_by (FindingAgain (ForPages pages align) aim) s is proper own plain once named at (inr w) legal = as_b c m k fine has all (FindingAgain (ForPages pages align) aim) once named s (NoHole (ForPages pages align)) w legal (λ l. quiet_b c m k fine has all (FindingAgain (ForPages pages align) aim) once named (NoHole (ForPages pages align)) _ (found_un aim (carved (NoHole (ForPages pages align))) (carved_base (NoHole (ForPages pages align))) (without_space aim) (no_space_un aim)) refl refl refl (λ page h. h))
+  block_by (FindingAgain ForGroups aim) s is proper own plain once named at (inl w) legal = as_b c m k fine has all (FindingAgain ForGroups aim) once named s (CarveGroups w.0) w.1 legal (λ l. quiet_b c m k fine has all (FindingAgain ForGroups aim) once named (CarveGroups w.0) _ (found_un aim (carved (CarveGroups w.0)) (carved_base (CarveGroups w.0)) (without_space aim) (no_space_un aim)) refl refl refl (λ page h. h))
+  block_by (FindingAgain ForGroups aim) s is proper own plain once named at (inr w) legal = as_b c m k fine has all (FindingAgain ForGroups aim) once named s (NoHole ForGroups) w legal (λ l. quiet_b c m k fine has all (FindingAgain ForGroups aim) once named (NoHole ForGroups) _ (found_un aim (carved (NoHole ForGroups)) (carved_base (NoHole ForGroups)) (without_space aim) (no_space_un aim)) refl refl refl (λ page h. h))
   block_by (MappingArea place kd) s is proper own plain once named at (inl w) legal = as_b c m k fine has all (MappingArea place kd) once named s (MapPages (mapped_part kd place)) w legal (λ l. held_b c m k fine has all (MappingArea place kd) once named (MapPages (mapped_part kd place)) _ refl refl refl
       (λ page free. record { frame = ungiven (pages_of (mapped_part kd place)) (free_frames c m.frames) m.frames page (outside_row (mapped_part kd place) page (not_mapped kd place page (λ t. free (own.held page (covers_one place page ∙ t))))); clean = λ h. h }))
   block_by (MappingArea place kd) s is proper own plain once named at (inr w) legal = as_b c m k fine has all (MappingArea place kd) once named s (NoFrames (mapped_part kd place).pages) w legal (λ l. quiet_b c m k fine has all (MappingArea place kd) once named (NoFrames (mapped_part kd place).pages) _ refl refl refl refl (λ page h. h))
@@ -152,4 +172,31 @@ module _ (c : Setup) (m : PlainMap) (k : ℕ) (fine : IsMapFine m) (has : HasPar
       (λ l. retire_moved c m k all part at.0 (starts_one (Retiring part r) named) at.1 r w.0 l.1)
   block_by (UnlinkingBlock start r) s is proper own plain once named at w legal = as_b c m k fine has all (UnlinkingBlock start r) once named s (Unlink (start ∷ [])) w legal (λ l. unlink_b c m k fine has all (UnlinkingBlock start r) once named (start ∷ []) _ refl refl)
   block_by (LookingAtDirty cpu ranges) s is proper own plain once named at w legal = as_b c m k fine has all (LookingAtDirty cpu ranges) once named s (Dirty cpu w.0) w.1 legal (λ l. quiet_b c m k fine has all (LookingAtDirty cpu ranges) once named (Dirty cpu w.0) _ (either_next IsUnblocky (nat_lt (suc cpu) (cpus c)) _ _ refl refl) refl refl refl (λ page h. h))
-  block_by _ s is proper own plain once named at w legal = absurd is
+  block_by (SettlingGroups base chunk bytes align) s is proper own plain once named at w legal = as_b c m k fine has all (SettlingGroups base chunk bytes align) once named s (Settle (group_areas c chunk base) w.0) w.1 legal (λ l. settle_b c m k fine has all (SettlingGroups base chunk bytes align) once named (group_areas c chunk base) w.0 _ (λ start. omega arith) tt)
+  block_by (TakingAlloc bytes align) s is proper own plain once named at w legal = as_b c m k fine has all (TakingAlloc bytes align) once named s TakeAlloc w legal (λ l. quiet_b c m k fine has all (TakingAlloc bytes align) once named TakeAlloc _ refl refl refl refl (λ page h. h))
+  block_by (Choosing bytes align) s is proper own plain once named at (inl w) legal = as_b c m k fine has all (Choosing bytes align) once named s (PlaceObject w.0 align w.1) w.3 legal (λ l. quiet_b c m k fine has all (Choosing bytes align) once named (PlaceObject w.0 align w.1) _ refl refl refl refl (λ page h. h))
+  block_by (Choosing bytes align) s is proper own plain once named at (inr w) legal = as_b c m k fine has all (Choosing bytes align) once named s (NoPlace bytes align w.0) w.1 legal (λ l. quiet_b c m k fine has all (Choosing bytes align) once named (NoPlace bytes align w.0) _ refl refl refl refl (λ page h. h))
+  block_by (AddingChunk base chunk bytes align) s is proper own plain once named at w legal = as_b c m k fine has all (AddingChunk base chunk bytes align) once named s (AddChunk chunk base w.0 align w.1) w.3 legal (λ l. quiet_b c m k fine has all (AddingChunk base chunk bytes align) once named (AddChunk chunk base w.0 align w.1) _ refl refl refl refl (λ page h. h))
+  block_by (Populating object missing) s is proper own plain once named at (inl w) legal = as_b c m k fine has all (Populating object missing) once named s (Populate object missing) w legal (λ l. framed_b c m k fine has all (Populating object missing) once named (Populate object missing) _ refl refl refl (λ page out. record { frame = ungiven (pages_in_units c object.base missing) (free_frames c m.frames) m.frames page (not_among_pages (pages_in_units c object.base missing) page (λ h. out (is page h))); clean = λ h. h }))
+  block_by (Populating object missing) s is proper own plain once named at (inr w) legal = as_b c m k fine has all (Populating object missing) once named s (NoFrames (length (pages_in_units c object.base missing))) w legal (λ l. quiet_b c m k fine has all (Populating object missing) once named (NoFrames (length (pages_in_units c object.base missing))) _ refl refl refl refl (λ page h. h))
+  block_by (Filling chunk base own_page filled) s is proper own plain once named at (inl w) legal = as_b c m k fine has all (Filling chunk base own_page filled) once named s (Fill base own_page) w legal (λ l. framed_b c m k fine has all (Filling chunk base own_page filled) once named (Fill base own_page) _ refl refl refl (λ page out. record { frame = ungiven (pages_in_units c base (own_page ∷ [])) (free_frames c m.frames) m.frames page (not_among_pages (pages_in_units c base (own_page ∷ [])) page (λ h. out (is page h))); clean = λ h. h }))
+  block_by (Filling chunk base own_page filled) s is proper own plain once named at (inr w) legal = as_b c m k fine has all (Filling chunk base own_page filled) once named s (NoFrames (length (pages_in_units c base (own_page ∷ [])))) w legal (λ l. quiet_b c m k fine has all (Filling chunk base own_page filled) once named (NoFrames (length (pages_in_units c base (own_page ∷ [])))) _ refl refl refl refl (λ page h. h))
+  block_by (Depopulating base populated) s is proper own plain once named at w legal = as_b c m k fine has all (Depopulating base populated) once named s (Depopulate base populated) w legal (λ l. framed_b c m k fine has all (Depopulating base populated) once named (Depopulate base populated) _ refl refl refl (λ page out. (let off = not_among_pages (pages_in_units c base populated) page (λ h. out (is page h)) in record { frame = unpainted (is_among (pages_in_units c base populated)) None m.frames page off; clean = λ h. unpainted (is_among (pages_in_units c base populated)) true m.stale page off ∙ h })))
+  block_by (UnlinkingGroups base) s is proper own plain once named at w legal = as_b c m k fine has all (UnlinkingGroups base) once named s (Unlink (group_starts c base)) w legal (λ l. groups_b c m k fine has all (UnlinkingGroups base) once named (group_starts c base) _ refl is.0)
+  block_by (SettlingObject object) s is proper own plain once named at w legal = as_b c m k fine has all (SettlingObject object) once named s (SettleObject object w.0) w.1 legal (λ l. quiet_b c m k fine has all (SettlingObject object) once named (SettleObject object w.0) _ refl refl refl refl (λ page h. h))
+  block_by (Unplacing object) s is proper own plain once named at w legal = as_b c m k fine has all (Unplacing object) once named s (Unplace object) w legal (λ l. quiet_b c m k fine has all (Unplacing object) once named (Unplace object) _ refl refl refl refl (λ page h. h))
+  block_by (GivingAlloc reply made) s is proper own plain once named at w legal = as_b c m k fine has all (GivingAlloc reply made) once named s GiveAlloc w legal (λ l. quiet_b c m k fine has all (GivingAlloc reply made) once named GiveAlloc _ tt refl refl refl (λ page h. h))
+  block_by (ChoosingAtomic bytes align) s is proper own plain once named at (inl w) legal = as_b c m k fine has all (ChoosingAtomic bytes align) once named s (PlaceAtomic w.0 align) w.2 legal (λ l. quiet_b c m k fine has all (ChoosingAtomic bytes align) once named (PlaceAtomic w.0 align) _ refl refl refl refl (λ page h. h))
+  block_by (ChoosingAtomic bytes align) s is proper own plain once named at (inr w) legal = as_b c m k fine has all (ChoosingAtomic bytes align) once named s (NoAtomic bytes align) w legal (λ l. quiet_b c m k fine has all (ChoosingAtomic bytes align) once named (NoAtomic bytes align) _ tt refl refl refl (λ page h. h))
+  block_by (Zeroing object) s is proper own plain once named at w legal = as_b c m k fine has all (Zeroing object) once named s (Zero object) w legal (λ l. quiet_b c m k fine has all (Zeroing object) once named (Zero object) _ refl refl refl refl (λ page h. h))
+  block_by (SettlingAtomic object) s is proper own plain once named at w legal = as_b c m k fine has all (SettlingAtomic object) once named s (SettleObject object w.0) w.1 legal (λ l. quiet_b c m k fine has all (SettlingAtomic object) once named (SettleObject object w.0) _ tt refl refl refl (λ page h. h))
+  block_by (FreeingObject object serial) s is proper own plain once named at (inl w) legal = as_b c m k fine has all (FreeingObject object serial) once named s (FreeObject object serial) w legal (λ l. quiet_b c m k fine has all (FreeingObject object serial) once named (FreeObject object serial) _ tt refl refl refl (λ page h. h))
+  block_by (FreeingObject object serial) s is proper own plain once named at (inr w) legal = as_b c m k fine has all (FreeingObject object serial) once named s (ObjectNotLive object serial) w legal (λ l. quiet_b c m k fine has all (FreeingObject object serial) once named (ObjectNotLive object serial) _ tt refl refl refl (λ page h. h))
+  block_by (Adding object serial cpu index amount) s is proper own plain once named at w legal = as_b c m k fine has all (Adding object serial cpu index amount) once named s (AddWord object serial cpu index amount) w legal (λ l. quiet_b c m k fine has all (Adding object serial cpu index amount) once named (AddWord object serial cpu index amount) _ tt refl refl refl (λ page h. h))
+  block_by (Summing object serial index) s is proper own plain once named at w legal = as_b c m k fine has all (Summing object serial index) once named s (SumWords object serial index w.0) w.1 legal (λ l. quiet_b c m k fine has all (Summing object serial index) once named (SumWords object serial index w.0) _ tt refl refl refl (λ page h. h))
+  block_by TakingToBalance s is proper own plain once named at w legal = as_b c m k fine has all TakingToBalance once named s TakeAlloc w legal (λ l. quiet_b c m k fine has all TakingToBalance once named TakeAlloc _ refl refl refl refl (λ page h. h))
+  block_by Sparing s is proper own plain once named at (inl w) legal = as_b c m k fine has all Sparing once named s (Spare w.0 w.1 w.2) w.3 legal (λ l. quiet_b c m k fine has all Sparing once named (Spare w.0 w.1 w.2) _ refl refl refl refl (λ page h. h))
+  block_by Sparing s is proper own plain once named at (inr w) legal = as_b c m k fine has all Sparing once named s NoSpare w legal (λ l. quiet_b c m k fine has all Sparing once named NoSpare _ refl refl refl refl (λ page h. h))
+  block_by (NextFill filled) s is proper own plain once named at (inl w) legal = as_b c m k fine has all (NextFill filled) once named s (NextPage w.0 w.1 w.2) w.3 legal (λ l. quiet_b c m k fine has all (NextFill filled) once named (NextPage w.0 w.1 w.2) _ refl refl refl refl (λ page h. h))
+  block_by (NextFill filled) s is proper own plain once named at (inr w) legal = as_b c m k fine has all (NextFill filled) once named s Enough w legal (λ l. quiet_b c m k fine has all (NextFill filled) once named Enough _ refl refl refl refl (λ page h. h))
+  block_by (NotingFilled chunk own_page filled) s is proper own plain once named at w legal = as_b c m k fine has all (NotingFilled chunk own_page filled) once named s (Filled chunk own_page) w legal (λ l. quiet_b c m k fine has all (NotingFilled chunk own_page filled) once named (Filled chunk own_page) _ refl refl refl refl (λ page h. h))

@@ -64,6 +64,14 @@ pub record IsOut (c : Setup) (m : PlainMap) (start : ℕ) : Type 0 where
   pub area : IsBlockArea c m start
   pub unmapped : OnRow start c.block_pages (IsUnmapped m)
 
+-- the starts of blocks that a caller took out, or hasn't added yet
+abbrev pub block_out : Place → List ℕ
+block_out (PurgeFragmenting cpu gone extra after) = gone
+block_out (PurgeUnlinking gone extra after) = gone
+block_out (AddingBlock at) = at.block ∷ []
+block_out (UnlinkingBlock start reply) = start ∷ []
+block_out _ = []
+
 -- of the blocks and parts of a caller's place
 abbrev pub IsBlockAt : Setup → PlainMap → ℕ → Place → Type 0
 IsBlockAt c m k (PurgeFragmenting cpu gone extra after) = (start : ℕ) → is_among gone start ≡ true → IsOut c m start

@@ -13,27 +13,27 @@ use Rattle.vm_model.specs.Events.{Section}
 use Rattle.vm_model.specs.Effects.{effect_as}
 use Rattle.vm_model.specs.Places.{Place}
 use Rattle.vm_model.specs.Next.{Next, Go, Answer}
-use Rattle.vm_model.specs.Carried.{count_of, starts_out}
+use Rattle.vm_model.specs.Carried.{count_of}
 use Rattle.map_laws.proofs.Lists.{same_or}
 use Rattle.map_laws.proofs.Chosen.{IsIn}
 use Rattle.map_laws.proofs.Places.{OnNext}
 use Rattle.map_laws.proofs.Spans.{holds_from}
 use Rattle.map_laws.proofs.OutMoves.{same_area}
 use Rattle.map_laws.proofs.Powers.{rounded_some}
-use Rattle.map_laws.proofs.BlockFacts.{OnRow, IsStill, IsBlockArea, IsPartFine, IsBlockFine, IsPartIn, IsBlockAt, block_starts, block_count, same_block, stacked_at, stacked_apart, same_part, still_bare, part_stays, Stays, block_stays}
+use Rattle.map_laws.proofs.BlockFacts.{OnRow, IsStill, IsBlockArea, IsPartFine, IsBlockFine, IsPartIn, block_out, IsBlockAt, block_starts, block_count, same_block, stacked_at, stacked_apart, same_part, still_bare, part_stays, Stays, block_stays}
 
 -- how often the place behind a section has a block's start out
-abbrev pub next_out : Setup → Next → ℕ → ℕ
-next_out c (Go p) start = count_of start (starts_out c p)
-next_out c (Answer reply made) start = 0
+abbrev pub next_out : Next → ℕ → ℕ
+next_out (Go p) start = count_of start (block_out p)
+next_out (Answer reply made) start = 0
 
 -- what a section does to blocks and parts, where its caller goes on to the given next
 pub record IsBlockMoved (c : Setup) (m : PlainMap) (k : ℕ) (p : Place) (s : Section) (n : Next) : Type 0 where
-  pub names : (start others : ℕ) → count_of start (block_starts m.blocks) + others + count_of start (starts_out c p) ≤ 1 → (1 ≤ others → IsBlockArea c m start)
-      → count_of start (block_starts (effect_as c m k s).blocks) + others + next_out c n start ≤ 1
+  pub names : (start others : ℕ) → count_of start (block_starts m.blocks) + others + count_of start (block_out p) ≤ 1 → (1 ≤ others → IsBlockArea c m start)
+      → count_of start (block_starts (effect_as c m k s).blocks) + others + next_out n start ≤ 1
   pub blocks : (b : Block) → IsIn b (effect_as c m k s).blocks → IsBlockFine c (effect_as c m k s) b
   pub own : OnNext (IsBlockAt c (effect_as c m k s) k) n
-  pub stays : (start : ℕ) → count_of start (starts_out c p) ≡ 0 → count_of start (block_starts m.blocks) ≡ 0 → IsBlockArea c m start → Stays c m (effect_as c m k s) start
+  pub stays : (start : ℕ) → count_of start (block_out p) ≡ 0 → count_of start (block_starts m.blocks) ≡ 0 → IsBlockArea c m start → Stays c m (effect_as c m k s) start
   pub hands : (j : ℕ) (at : PartAt) → j ≢ k → IsPartIn m j at → IsPartIn (effect_as c m k s) j at × OnRow (first_page at) (rounded at.pages) (IsStill m (effect_as c m k s))
 
 -- the rows of parts lie in their block
@@ -58,16 +58,16 @@ same_start c m page start other once a b low high low' high' =
     sym (area_start c m start a) ∙ ap (λ (x : Area). x.span.start) one ∙ area_start c m other b
 
 module _ (c : Setup) (m : PlainMap) (k : ℕ) (p : Place) (s : Section) (n : Next) (all : (b : Block) → IsIn b m.blocks → IsBlockFine c m b)
-    (named : (start : ℕ) → count_of start (block_starts m.blocks) + count_of start (starts_out c p) ≤ 1) where
+    (named : (start : ℕ) → count_of start (block_starts m.blocks) + count_of start (block_out p) ≤ 1) where
   -- a block that stands is not out
-  not_out : (b : Block) → IsIn b m.blocks → count_of b.start (starts_out c p) ≡ 0
+  not_out : (b : Block) → IsIn b m.blocks → count_of b.start (block_out p) ≡ 0
   not_out b there = let n = block_count b m.blocks there in let o = named b.start in omega arith
 
-  module _ (same : (effect_as c m k s).blocks ≡ m.blocks) (keep : (a : Area) (cpu : ℕ) → IsIn a m.areas → a.kind ≡ kind.Block cpu → count_of a.span.start (starts_out c p) ≡ 0 → IsIn a (effect_as c m k s).areas)
+  module _ (same : (effect_as c m k s).blocks ≡ m.blocks) (keep : (a : Area) (cpu : ℕ) → IsIn a m.areas → a.kind ≡ kind.Block cpu → count_of a.span.start (block_out p) ≡ 0 → IsIn a (effect_as c m k s).areas)
       (still : (page : ℕ) (start : ℕ) → IsBlockArea c m start → start ≤ page → page < start + c.block_pages → IsStill m (effect_as c m k s) page) where
-    outer_stays : (start : ℕ) → count_of start (starts_out c p) ≡ 0 → IsBlockArea c m start → Stays c m (effect_as c m k s) start
+    outer_stays : (start : ℕ) → count_of start (block_out p) ≡ 0 → IsBlockArea c m start → Stays c m (effect_as c m k s) start
     outer_stays start none area = record {
-      area = λ is. record { area = is.area; cpu = is.cpu; there = keep is.area is.cpu is.there is.kind (ap (λ i. count_of i (starts_out c p)) (area_start c m start is) ∙ none); span = is.span; kind = is.kind };
+      area = λ is. record { area = is.area; cpu = is.cpu; there = keep is.area is.cpu is.there is.kind (ap (λ i. count_of i (block_out p)) (area_start c m start is) ∙ none); span = is.span; kind = is.kind };
       cpu = λ is. refl;
       pages = λ page a b. still page start area a b;
     }
@@ -79,7 +79,7 @@ module _ (c : Setup) (m : PlainMap) (k : ℕ) (p : Place) (s : Section) (n : Nex
           (λ page a b. still page is.block.start fine.area (let e = r.0 in omega arith) (let e = r.0 in let f = r.1 in let g = w.0 in omega arith)),
         )
 
-    pub outer_moved : ((start : ℕ) → next_out c n start ≤ count_of start (starts_out c p)) → OnNext (IsBlockAt c (effect_as c m k s) k) n → IsBlockMoved c m k p s n
+    pub outer_moved : ((start : ℕ) → next_out n start ≤ count_of start (block_out p)) → OnNext (IsBlockAt c (effect_as c m k s) k) n → IsBlockMoved c m k p s n
     outer_moved outs own = record {
       names = λ start others once area. (let less = outs start in omega (arith, ap (λ l. count_of start (block_starts l)) same));
       blocks = λ b there. (let was = subst (IsIn b) same there in block_stays c m (effect_as c m k s) b (outer_stays b.start (not_out b was) (all b was).area) (all b was));
@@ -175,7 +175,7 @@ module _ (c : Setup) (m : PlainMap) (k : ℕ) (p : Place) (s : Section) (n : Nex
             part_still is.part there (λ f. apart (let two : is.part ≡ hand.part = same_part hand.block.parts 0 there.place hand.part_there.place is.part hand.part own_fine.stacked there.at hand.part_there.at f in
             let lives : InHand j ≡ InHand k = sym is.life ∙ ap (λ (x : Part). x.life) two ∙ hand.life in cc)) page (let g = r.0 in omega arith) (let g = r.0 in let h = r.1 in omega arith)
 
-    pub inner_moved : ((start : ℕ) → next_out c n start ≤ count_of start (starts_out c p)) → OnNext (IsBlockAt c (effect_as c m k s) k) n → IsBlockMoved c m k p s n
+    pub inner_moved : ((start : ℕ) → next_out n start ≤ count_of start (block_out p)) → OnNext (IsBlockAt c (effect_as c m k s) k) n → IsBlockMoved c m k p s n
     inner_moved outs own = record {
       names = λ start others once area. (let less = outs start in omega (arith, ap (λ l. count_of start (block_starts l)) same));
       blocks = λ b there. inner_block b (subst (IsIn b) same there);

@@ -5,27 +5,28 @@ use Rattle.vm_model.specs.declared.areas.Area.{Area}
 use Rattle.vm_model.specs.declared.areas.AreaKind.{AreaKind}
 use Rattle.vm_model.specs.declared.areas.AreaKind.TheVariants as kind
 use Rattle.vm_model.specs.declared.calls.Reply.TheVariants as reply
-use Rattle.vm_model.specs.Space.{span, holds, is_among, one_if, put_by}
+use Rattle.vm_model.specs.Space.{span, holds, is_among, one_if, put_by, times}
 use Rattle.vm_model.specs.Setup.{Setup}
 use Rattle.vm_model.specs.PlainMap.{PlainMap, Block, Held}
-use Rattle.vm_model.specs.Areas.{is_area, named_areas, areas_of, with_areas}
+use Rattle.vm_model.specs.Areas.{is_area, named_areas, areas_of, with_areas, spans_of}
 use Rattle.vm_model.specs.Blocks.{PartAt}
 use Rattle.vm_model.specs.Legal.{IsLegalAs, IsMarked}
-use Rattle.vm_model.specs.Events.{Section, Search, ForPages, ForGroups, Settle, Remove, Unlink}
+use Rattle.vm_model.specs.Events.{Section, Settle, Remove, Unlink}
 use Rattle.vm_model.specs.Effects.{effect_as}
-use Rattle.vm_model.specs.Places.{Place, PurgeFragmenting, PurgeUnlinking, SettlingBlock, AddingBlock, MappingPart, SettlingPart, UnmappingPart, Retiring, UnlinkingBlock, AddingChunk, Depopulating, UnlinkingGroups, MadeNothing, Aim, ForArea, ForBlock, ForChunk, Then, SearchAgain, ReplyWith, SpareAgain}
-use Rattle.vm_model.specs.Next.{Next, Go, Answer, next, found, without_space, after_remove, go_on, after_collecting, after_flush}
-use Rattle.vm_model.specs.Carried.{count_of, starts_out}
+use Rattle.vm_model.specs.Places.{Place, PurgeFragmenting, PurgeUnlinking, SettlingBlock, AddingBlock, MappingPart, SettlingPart, UnmappingPart, Retiring, UnlinkingBlock, MadeNothing, Aim, ForArea, ForBlock, ForChunk, Then, SearchAgain, ReplyWith, SpareAgain}
+use Rattle.vm_model.specs.Next.{Next, Go, Answer, next, found, without_space, after_remove, go_on, after_collecting, after_flush, after_page, after_spare, after_atomic, after_place}
+use Rattle.vm_model.specs.Carried.{count_of}
 use Rattle.vm_model.specs.Rules.{IsPower}
 use Rattle.map_laws.proofs.Chosen.{IsIn, in_more, filter_in}
 use Rattle.map_laws.proofs.Places.{OnNext, IsPlainKind}
 use Rattle.map_laws.proofs.Spans.{times-one, covers_one, holds_to, holds_from}
 use Rattle.map_laws.proofs.AreaFacts.{IsHolding, IsMapFine, own_uses}
 use Rattle.map_laws.proofs.MapMoves.{area_times}
-use Rattle.map_laws.proofs.MapPlaces.{IsMapSearch}
-use Rattle.map_laws.proofs.BlockFacts.{IsStill, IsBlockArea, IsBlockFine, IsPartIn, IsBlockAt, block_starts, count_cons, not_among, counted_block, to_same}
+use Rattle.map_laws.proofs.BlockFacts.{IsStill, IsBlockArea, IsBlockFine, IsPartIn, block_out, IsBlockAt, block_starts, count_cons, not_among, counted_block, to_same}
 use Rattle.map_laws.proofs.BlockMoves.{next_out, IsBlockMoved, outer_moved, area_holds}
 use Rattle.map_laws.proofs.BlockChanges.{in_of}
+use Rattle.vm_model.specs.Chunks.{ObjectAt}
+use Rattle.map_laws.proofs.OutMoves.{same_area}
 
 -- places of which nothing is said as to blocks
 abbrev pub is_blocky : Place → Bool
@@ -37,23 +38,17 @@ is_blocky (MappingPart at) = true
 is_blocky (SettlingPart at) = true
 is_blocky (UnmappingPart at) = true
 is_blocky (Retiring at reply) = true
-is_blocky (AddingChunk base chunk bytes align) = true
-is_blocky (Depopulating base populated) = true
-is_blocky (UnlinkingGroups base) = true
 is_blocky _ = false
 
 abbrev pub IsUnblocky : Place → Type 0
 IsUnblocky p = is_blocky p ≡ false
 
-pub unblocky_out : (c : Setup) (p : Place) (start : ℕ) → IsUnblocky p → count_of start (starts_out c p) ≡ 0
-unblocky_out c (PurgeFragmenting cpu gone extra after) start h = cc
-unblocky_out c (PurgeUnlinking gone extra after) start h = cc
-unblocky_out c (UnlinkingBlock s reply) start h = cc
-unblocky_out c (AddingBlock at) start h = cc
-unblocky_out c (AddingChunk base chunk bytes align) start h = cc
-unblocky_out c (Depopulating base populated) start h = cc
-unblocky_out c (UnlinkingGroups base) start h = cc
-unblocky_out c _ start h = refl
+pub unblocky_out : (p : Place) (start : ℕ) → IsUnblocky p → count_of start (block_out p) ≡ 0
+unblocky_out (PurgeFragmenting cpu gone extra after) start h = cc
+unblocky_out (PurgeUnlinking gone extra after) start h = cc
+unblocky_out (UnlinkingBlock s reply) start h = cc
+unblocky_out (AddingBlock at) start h = cc
+unblocky_out _ start h = refl
 
 pub unblocky_at : (c : Setup) (m : PlainMap) (k : ℕ) (p : Place) → IsUnblocky p → IsBlockAt c m k p
 unblocky_at c m k (PurgeFragmenting cpu gone extra after) h = cc
@@ -66,23 +61,24 @@ unblocky_at c m k (UnmappingPart at) h = cc
 unblocky_at c m k (Retiring at reply) h = cc
 unblocky_at c m k _ h = tt
 
-no_next_out : (c : Setup) (n : Next) (start : ℕ) → OnNext IsUnblocky n → next_out c n start ≡ 0
-no_next_out c (Go p) start h = unblocky_out c p start h
-no_next_out c (Answer r made) start h = refl
+no_next_out : (n : Next) (start : ℕ) → OnNext IsUnblocky n → next_out n start ≡ 0
+no_next_out (Go p) start h = unblocky_out p start h
+no_next_out (Answer r made) start h = refl
 
 no_next_at : (c : Setup) (m : PlainMap) (k : ℕ) (n : Next) → OnNext IsUnblocky n → OnNext (IsBlockAt c m k) n
 no_next_at c m k (Go p) h = unblocky_at c m k p h
 no_next_at c m k (Answer r made) h = tt
 
-pub found_un : (search : Search) (aim : Aim) (o : Option Span) (base : Option ℕ) (otherwise : Next) → IsMapSearch search aim → OnNext IsUnblocky otherwise → OnNext IsUnblocky (found aim o base otherwise)
-found_un search (ForArea k) (Some place) base otherwise is h = refl
-found_un search (ForArea k) None (Some base) otherwise is h = tt
-found_un search (ForArea k) None None otherwise is h = h
-found_un search (ForBlock cpu pages) (Some place) base otherwise is h = refl
-found_un search (ForBlock cpu pages) None (Some base) otherwise is h = tt
-found_un search (ForBlock cpu pages) None None otherwise is h = h
-found_un (ForPages pages align) (ForChunk chunk bytes to) o base otherwise is h = absurd is
-found_un ForGroups (ForChunk chunk bytes to) o base otherwise is h = absurd is
+pub found_un : (aim : Aim) (o : Option Span) (base : Option ℕ) (otherwise : Next) → OnNext IsUnblocky otherwise → OnNext IsUnblocky (found aim o base otherwise)
+found_un (ForArea k) (Some place) base otherwise h = refl
+found_un (ForArea k) None (Some base) otherwise h = tt
+found_un (ForArea k) None None otherwise h = h
+found_un (ForBlock cpu pages) (Some place) base otherwise h = refl
+found_un (ForBlock cpu pages) None (Some base) otherwise h = tt
+found_un (ForBlock cpu pages) None None otherwise h = h
+found_un (ForChunk chunk bytes align) (Some place) base otherwise h = tt
+found_un (ForChunk chunk bytes align) None (Some base) otherwise h = refl
+found_un (ForChunk chunk bytes align) None None otherwise h = h
 
 pub no_space_un : (aim : Aim) → OnNext IsUnblocky (without_space aim)
 no_space_un (ForArea k) = tt
@@ -106,6 +102,22 @@ pub flushed_un : (waited : List Span) (after : Then) → OnNext IsUnblocky (afte
 flushed_un [] after = refl
 flushed_un (s ∷ waited) after = refl
 
+pub placed_un : (bytes align n : ℕ) (o : Option (ObjectAt × List ℕ)) → OnNext IsUnblocky (after_place bytes align n o)
+placed_un bytes align n None = refl
+placed_un bytes align n (Some p) = refl
+
+pub atomic_un : (o : Option (ObjectAt × List ℕ)) → OnNext IsUnblocky (after_atomic o)
+atomic_un None = tt
+atomic_un (Some p) = refl
+
+pub spared_un : (o : Option (ℕ × List ℕ)) → OnNext IsUnblocky (after_spare o)
+spared_un None = refl
+spared_un (Some p) = refl
+
+pub page_un : (filled : ℕ) (o : Option (ℕ × ℕ × ℕ)) → OnNext IsUnblocky (after_page filled o)
+page_un filled None = refl
+page_un filled (Some p) = refl
+
 -- Areas that stay among others.
 
 put_keeps_by : (key : Area → ℕ) (x y : Area) (ys : List Area) (t : Bool) (a : Area) → IsIn a (y ∷ ys) → (IsIn a ys → IsIn a (put_by key x ys)) → IsIn a (if t then x ∷ y ∷ ys else y ∷ put_by key x ys)
@@ -120,7 +132,7 @@ put_keeps : (key : Area → ℕ) (x : Area) (ys : List Area) (a : Area) → IsIn
 put_keeps key x [] a h = (let no = h.at in cc)
 put_keeps key x (y ∷ ys) a h = put_keeps_by key x y ys _ a h (put_keeps key x ys a)
 
-with_keeps : (xs areas : List Area) (a : Area) → IsIn a areas → IsIn a (with_areas xs areas)
+pub with_keeps : (xs areas : List Area) (a : Area) → IsIn a areas → IsIn a (with_areas xs areas)
 with_keeps [] areas a h = h
 with_keeps (x ∷ xs) areas a h = with_keeps xs (put_by (λ (b : Area). b.span.start) x areas) a (put_keeps (λ (b : Area). b.span.start) x areas a h)
 
@@ -143,6 +155,22 @@ not_held s page out = by_test (holds s page) refl
     by_test true e = absurd (let r = holds_to s page e in elim out [ inl low ↦ omega arith | inr high ↦ omega arith ])
     by_test false e = e
 
+-- a page of a live area of a chunk
+pub record IsInChunk (m : PlainMap) (page : ℕ) : Type 0 where
+  pub area : Area
+  pub there : IsIn area m.areas
+  pub holds : holds area.span page ≡ true
+  pub chunk : ℕ
+  pub group : ℕ
+  pub kind : area.kind ≡ kind.Chunk chunk group
+
+-- it is in no block's area
+pub in_one_kind : (m : PlainMap) (page : ℕ) → ((page : ℕ) → times page (spans_of m.areas) ≤ 1) → IsInChunk m page → (a : Area) → IsIn a m.areas → holds a.span page ≡ true → (cpu : ℕ) → a.kind ≡ kind.Block cpu → ⊥
+in_one_kind m page once is a there h cpu block =
+    let i = same_area page m.areas is.there.place there.place is.area a (once page) is.there.at there.at is.holds h in
+    let one : is.area ≡ a = (let g = there.at in let f : slice_get m.areas there.place ≡ Some is.area = ap (slice_get m.areas) (sym i) ∙ is.there.at in cc) in
+    let clash : kind.Block cpu ≡ kind.Chunk is.chunk is.group = sym block ∙ sym (ap (λ (x : Area). x.kind) one) ∙ is.kind in cc
+
 -- what the numbers of a header say of parts
 pub record HasParts (c : Setup) : Type 0 where
   pub power : IsPower c.part_limit
@@ -151,14 +179,14 @@ pub record HasParts (c : Setup) : Type 0 where
   pub some : 1 ≤ c.block_pages
 
 module _ (c : Setup) (m : PlainMap) (k : ℕ) (fine : IsMapFine m) (has : HasParts c) (all : (b : Block) → IsIn b m.blocks → IsBlockFine c m b) where
-  module _ (p : Place) (once : (page : ℕ) → own_uses c m p page ≤ 1) (named : (start : ℕ) → count_of start (block_starts m.blocks) + count_of start (starts_out c p) ≤ 1) where
+  module _ (p : Place) (once : (page : ℕ) → own_uses c m p page ≤ 1) (named : (start : ℕ) → count_of start (block_starts m.blocks) + count_of start (block_out p) ≤ 1) where
     -- a section that leaves blocks, block areas and frames
     pub quiet_b : (s : Section) (n : Next) → OnNext IsUnblocky n → (effect_as c m k s).blocks ≡ m.blocks → (effect_as c m k s).areas ≡ m.areas → (effect_as c m k s).frames ≡ m.frames
         → ((page : ℕ) → slice_get m.stale page ≡ Some false → slice_get (effect_as c m k s).stale page ≡ Some false) → IsBlockMoved c m k p s n
     quiet_b s n un blocks areas frames clean = outer_moved c m k p s n all named blocks (λ a cpu there kd z. subst (IsIn a) (sym areas) there)
-        (λ page start area a b. record { frame = ap (λ l. slice_get l page) frames; clean = clean page }) (λ start. omega (arith, no_next_out c n start un)) (no_next_at c (effect_as c m k s) k n un)
+        (λ page start area a b. record { frame = ap (λ l. slice_get l page) frames; clean = clean page }) (λ start. omega (arith, no_next_out n start un)) (no_next_at c (effect_as c m k s) k n un)
 
-    pub settle_b : (areas : List (Span × AreaKind)) (first : ℕ) (n : Next) → ((start : ℕ) → next_out c n start ≤ count_of start (starts_out c p)) → OnNext (IsBlockAt c (effect_as c m k (Settle areas first)) k) n → IsBlockMoved c m k p (Settle areas first) n
+    pub settle_b : (areas : List (Span × AreaKind)) (first : ℕ) (n : Next) → ((start : ℕ) → next_out n start ≤ count_of start (block_out p)) → OnNext (IsBlockAt c (effect_as c m k (Settle areas first)) k) n → IsBlockMoved c m k p (Settle areas first) n
     settle_b areas first n outs own = outer_moved c m k p (Settle areas first) n all named refl (λ a cpu there kd z. with_keeps (areas_of k first areas) m.areas a there)
         (λ page start area a b. record { frame = refl; clean = λ h. h }) outs own
 
@@ -167,12 +195,31 @@ module _ (c : Setup) (m : PlainMap) (k : ℕ) (fine : IsMapFine m) (has : HasPar
         → ((page : ℕ) → (IsMarked m (Held k) page → ⊥) → IsStill m (effect_as c m k s) page) → IsBlockMoved c m k p s n
     held_b s n un blocks areas still = outer_moved c m k p s n all named blocks (λ a cpu there kd z. subst (IsIn a) (sym areas) there)
         (λ page start area a b. still page (λ h. (let live = (fine.areas area.there.place area.area area.there.at).marked page (covers_one area.area.span page ∙ area_holds c m start area page a b) in cc)))
-        (λ start. omega (arith, no_next_out c n start un)) (no_next_at c (effect_as c m k s) k n un)
+        (λ start. omega (arith, no_next_out n start un)) (no_next_at c (effect_as c m k s) k n un)
+
+    -- frames of pages of areas of chunks
+    pub framed_b : (s : Section) (n : Next) → OnNext IsUnblocky n → (effect_as c m k s).blocks ≡ m.blocks → (effect_as c m k s).areas ≡ m.areas
+        → ((page : ℕ) → (IsInChunk m page → ⊥) → IsStill m (effect_as c m k s) page) → IsBlockMoved c m k p s n
+    framed_b s n un blocks areas still = outer_moved c m k p s n all named blocks (λ a cpu there kd z. subst (IsIn a) (sym areas) there)
+        (λ page start area a b. still page (λ is. (let here = in_block start area page a b in in_one_kind m page (λ q. less_areas q) is area.area area.there here area.cpu area.kind)))
+        (λ start. omega (arith, no_next_out n start un)) (no_next_at c (effect_as c m k s) k n un)
+      where
+        less_areas : (page : ℕ) → times page (spans_of m.areas) ≤ 1
+        less_areas page = let o = once page in omega arith
+
+        in_block : (start : ℕ) (area : IsBlockArea c m start) (page : ℕ) → start ≤ page → page < start + c.block_pages → holds area.area.span page ≡ true
+        in_block start area page a b = area_holds c m start area page a b
+
+    -- areas are unlinked that are no block's
+    pub groups_b : (starts : List ℕ) (n : Next) → OnNext IsUnblocky n → ((a : Area) (cpu : ℕ) → IsIn a m.areas → a.kind ≡ kind.Block cpu → is_among starts a.span.start ≡ false) → IsBlockMoved c m k p (Unlink starts) n
+    groups_b starts n un apart = outer_moved c m k p (Unlink starts) n all named refl
+        (λ a cpu there kd z. filter_in (λ (x : Area). not (is_among starts x.span.start)) m.areas a there.place there.at (ap not (apart a cpu there kd)))
+        (λ page start area a b. record { frame = refl; clean = λ h. h }) (λ start. omega (arith, no_next_out n start un)) (no_next_at c (effect_as c m k (Unlink starts)) k n un)
 
     pub remove_b : (start serial : ℕ) (area : Area) (n : Next) → OnNext IsUnblocky n → named_areas start serial m.areas ≡ area ∷ [] → IsPlainKind area.kind → IsBlockMoved c m k p (Remove start serial area) n
     remove_b start serial area n un legal plain = outer_moved c m k p (Remove start serial area) n all named refl
         (λ a cpu there kd z. filter_in (λ x. not (is_area start serial x)) m.areas a there.place there.at (unnamed a cpu there kd (is_area start serial a) refl))
-        (λ page start area a b. record { frame = refl; clean = λ h. h }) (λ start. omega (arith, no_next_out c n start un)) (no_next_at c (effect_as c m k (Remove start serial area)) k n un)
+        (λ page start area a b. record { frame = refl; clean = λ h. h }) (λ start. omega (arith, no_next_out n start un)) (no_next_at c (effect_as c m k (Remove start serial area)) k n un)
       where
         only : (a : Area) → IsIn a (area ∷ []) → a ≡ area
         only a there = by_place there.place there.at
@@ -187,10 +234,10 @@ module _ (c : Setup) (m : PlainMap) (k : ℕ) (fine : IsMapFine m) (has : HasPar
             let block : IsPlainKind (kind.Block cpu) = subst IsPlainKind kd (subst (λ (x : Area). IsPlainKind x.kind) (sym same) plain) in absurd block
         unnamed a cpu there kd false e = ap not e
 
-    pub unlink_b : (starts : List ℕ) (n : Next) → starts_out c p ≡ starts → OnNext IsUnblocky n → IsBlockMoved c m k p (Unlink starts) n
+    pub unlink_b : (starts : List ℕ) (n : Next) → block_out p ≡ starts → OnNext IsUnblocky n → IsBlockMoved c m k p (Unlink starts) n
     unlink_b starts n e un = outer_moved c m k p (Unlink starts) n all named refl
         (λ a cpu there kd z. filter_in (λ (x : Area). not (is_among starts x.span.start)) m.areas a there.place there.at (ap not (not_among a.span.start starts (sym (ap (count_of a.span.start) e) ∙ z))))
-        (λ page start area a b. record { frame = refl; clean = λ h. h }) (λ start. omega (arith, no_next_out c n start un)) (no_next_at c (effect_as c m k (Unlink starts)) k n un)
+        (λ page start area a b. record { frame = refl; clean = λ h. h }) (λ start. omega (arith, no_next_out n start un)) (no_next_at c (effect_as c m k (Unlink starts)) k n un)
 
     pub as_b : (s t : Section) → s ≡ t → IsLegalAs c m k s → (IsLegalAs c m k t → IsBlockMoved c m k p t (next c p t)) → IsBlockMoved c m k p s (next c p s)
     as_b s t e legal f = subst (λ (x : Section). IsBlockMoved c m k p x (next c p x)) (sym e) (f (subst (IsLegalAs c m k) e legal))
@@ -198,7 +245,7 @@ module _ (c : Setup) (m : PlainMap) (k : ℕ) (fine : IsMapFine m) (has : HasPar
   -- A block that is settled.
 
   module _ (place : Span) (cpu pages first : ℕ) (once : (page : ℕ) → own_uses c m (SettlingBlock place cpu pages) page ≤ 1)
-      (named : (start : ℕ) → count_of start (block_starts m.blocks) + count_of start (starts_out c (SettlingBlock place cpu pages)) ≤ 1)
+      (named : (start : ℕ) → count_of start (block_starts m.blocks) + count_of start (block_out (SettlingBlock place cpu pages)) ≤ 1)
       (own : IsHolding c m k (SettlingBlock place cpu pages)) (size : place.pages ≡ c.block_pages) where
     -- no other block area has its start
     never : IsBlockArea c m place.start → ⊥

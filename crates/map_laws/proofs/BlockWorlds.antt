@@ -10,12 +10,12 @@ use Rattle.vm_model.specs.Setup.{Setup}
 use Rattle.vm_model.specs.PlainMap.{PlainMap, Block}
 use Rattle.vm_model.specs.Areas.{spans_of, areas_starting}
 use Rattle.vm_model.specs.Blocks.{PartAt, first_page, mapped_pages, rounded}
-use Rattle.vm_model.specs.Events.{Section, Event, ForPages}
+use Rattle.vm_model.specs.Events.{Section, Event}
 use Rattle.vm_model.specs.Effects.{effect_as}
-use Rattle.vm_model.specs.Places.{Place, Over, Refusing, Finding, FindingAgain, MappingArea, Dropping, SettlingArea, Removing, UnmappingArea, Waiting, PurgeTaking, PurgeFragmenting, PurgeUnlinking, PurgeWaiting, PurgeCollecting, PurgeFlushing, PurgeReturning, PurgeGiving, CuttingPart, SettlingBlock, AddingBlock, MappingPart, SettlingPart, BeginningUnmap, UnmappingPart, Retiring, UnlinkingBlock, LookingAtDirty, Made, block_spans}
+use Rattle.vm_model.specs.Places.{Place, Over, Refusing, Finding, FindingAgain, MappingArea, Dropping, SettlingArea, Removing, UnmappingArea, Waiting, PurgeTaking, PurgeFragmenting, PurgeUnlinking, PurgeWaiting, PurgeCollecting, PurgeFlushing, PurgeReturning, PurgeGiving, CuttingPart, SettlingBlock, AddingBlock, MappingPart, SettlingPart, BeginningUnmap, UnmappingPart, Retiring, UnlinkingBlock, LookingAtDirty, Made, block_spans, Depopulating, Filling, Populating, UnlinkingGroups}
 use Rattle.vm_model.specs.Next.{Next, Go, Answer, next}
 use Rattle.vm_model.specs.History.{World, Local, moved_to}
-use Rattle.vm_model.specs.Carried.{count_of, starts_out}
+use Rattle.vm_model.specs.Carried.{count_of}
 use Rattle.map_laws.proofs.Lists.{set_cases}
 use Rattle.map_laws.proofs.Chosen.{IsIn, filter_in, sum_has}
 use Rattle.map_laws.proofs.Places.{OnNext, IsPlainKind, HaveBeginnings, begins_with, answers_call}
@@ -24,15 +24,14 @@ use Rattle.map_laws.proofs.MapMoves.{area_times}
 use Rattle.map_laws.proofs.OutMoves.{IsInside, IsUnlinked, sum_two}
 use Rattle.map_laws.proofs.AreaMoves.{IsOutside}
 use Rattle.map_laws.proofs.AreaWorlds.{moved_caller}
-use Rattle.map_laws.proofs.MapPlaces.{IsMapPlace}
-use Rattle.map_laws.proofs.BlockFacts.{OnRow, IsStill, IsBlockArea, IsBlockFine, IsPartIn, IsOut, IsBlockAt, block_starts, count_cons, among_count, count_among, same_test, to_same, still_bare, still_mapped, still_unmapped, Stays, out_stays}
+use Rattle.map_laws.proofs.BlockFacts.{OnRow, IsStill, IsBlockArea, IsBlockFine, IsPartIn, IsOut, IsBlockAt, block_starts, count_cons, among_count, count_among, same_test, to_same, still_bare, still_mapped, still_unmapped, Stays, out_stays, block_out}
 use Rattle.map_laws.proofs.BlockMoves.{next_out, IsBlockMoved, part_within, row_of, same_start, area_holds, area_start}
-use Rattle.map_laws.proofs.BlockPlaces.{IsUnblocky, unblocky_at, unblocky_out}
-use Rattle.map_laws.proofs.BlockDispatch.{IsRemovedPlain}
+use Rattle.map_laws.proofs.BlockPlaces.{IsUnblocky, unblocky_at, unblocky_out, IsInChunk}
+use Rattle.map_laws.proofs.BlockDispatch.{IsRemovedPlain, IsChunkSided}
 
 pub record IsBlockWorld (c : Setup) (w : World) : Type 0 where
   pub blocks : (b : Block) → IsIn b w.map.blocks → IsBlockFine c w.map b
-  pub named : (start : ℕ) → count_of start (block_starts w.map.blocks) + sum_by (λ (l : Local). count_of start (starts_out c l.place)) w.locals ≤ 1
+  pub named : (start : ℕ) → count_of start (block_starts w.map.blocks) + sum_by (λ (l : Local). count_of start (block_out l.place)) w.locals ≤ 1
   pub each : (k : ℕ) (l : Local) → slice_get w.locals k ≡ Some l → IsBlockAt c w.map l.caller l.place
 
 pub unblocky_begins : (c : Setup) → HaveBeginnings IsUnblocky c
@@ -68,42 +67,18 @@ only_one s start h = to_same s start (or_false (s == start) h)
     or_false false e = e
 
 -- the area of a start that a caller has out
-pub out_area : (c : Setup) (m : PlainMap) (j : ℕ) (p : Place) (start : ℕ) → IsMapPlace p → IsBlockAt c m j p → is_among (starts_out c p) start ≡ true → IsBlockArea c m start
-out_area c m j (PurgeFragmenting cpu gone extra after) start is at h = (at start h).area
-out_area c m j (PurgeUnlinking gone extra after) start is at h = (at start h).area
-out_area c m j (UnlinkingBlock s r) start is at h = subst (IsBlockArea c m) (only_one s start h) at.area
-out_area c m j (AddingBlock part) start is at h = subst (IsBlockArea c m) (only_one part.block start h) at.0
-out_area c m j Over start is at h = cc
-out_area c m j (Refusing r) start is at h = cc
-out_area c m j (Finding search aim) start is at h = cc
-out_area c m j (FindingAgain search aim) start is at h = cc
-out_area c m j (MappingArea place kd) start is at h = cc
-out_area c m j (Dropping place) start is at h = cc
-out_area c m j (SettlingArea place kd) start is at h = cc
-out_area c m j (Removing st serial) start is at h = cc
-out_area c m j (UnmappingArea area) start is at h = cc
-out_area c m j (Waiting spans after) start is at h = cc
-out_area c m j (PurgeTaking extra after) start is at h = cc
-out_area c m j (PurgeWaiting gone extra after) start is at h = cc
-out_area c m j (PurgeCollecting extra after) start is at h = cc
-out_area c m j (PurgeFlushing hull waited after) start is at h = cc
-out_area c m j (PurgeReturning waited after) start is at h = cc
-out_area c m j (PurgeGiving after) start is at h = cc
-out_area c m j (CuttingPart cpu pages) start is at h = cc
-out_area c m j (SettlingBlock place cpu pages) start is at h = cc
-out_area c m j (MappingPart part) start is at h = cc
-out_area c m j (SettlingPart part) start is at h = cc
-out_area c m j (BeginningUnmap cpu page serial) start is at h = cc
-out_area c m j (UnmappingPart part) start is at h = cc
-out_area c m j (Retiring part r) start is at h = cc
-out_area c m j (LookingAtDirty cpu ranges) start is at h = cc
-out_area c m j _ start is at h = absurd is
+pub out_area : (c : Setup) (m : PlainMap) (j : ℕ) (p : Place) (start : ℕ) → IsBlockAt c m j p → is_among (block_out p) start ≡ true → IsBlockArea c m start
+out_area c m j (PurgeFragmenting cpu gone extra after) start at h = (at start h).area
+out_area c m j (PurgeUnlinking gone extra after) start at h = (at start h).area
+out_area c m j (UnlinkingBlock s r) start at h = subst (IsBlockArea c m) (only_one s start h) at.area
+out_area c m j (AddingBlock part) start at h = subst (IsBlockArea c m) (only_one part.block start h) at.0
+out_area c m j _ start at h = cc
 
 first_among : (s : ℕ) → is_among (s ∷ []) s ≡ true
 first_among s = ap (λ b. b || false) (same_test s)
 
 -- what another caller keeps
-at_stays : (c : Setup) (m m' : PlainMap) (j : ℕ) (p : Place) → ((start : ℕ) → is_among (starts_out c p) start ≡ true → IsBlockArea c m start → Stays c m m' start)
+at_stays : (c : Setup) (m m' : PlainMap) (j : ℕ) (p : Place) → ((start : ℕ) → is_among (block_out p) start ≡ true → IsBlockArea c m start → Stays c m m' start)
     → ((at : PartAt) → IsPartIn m j at → IsPartIn m' j at × OnRow (first_page at) (rounded at.pages) (IsStill m m')) → ((at : PartAt) → IsPartIn m j at → at.pages ≤ rounded at.pages) → IsBlockAt c m j p → IsBlockAt c m' j p
 at_stays c m m' j (PurgeFragmenting cpu gone extra after) stays hands low at = λ start h. out_stays c m m' start (stays start h (at start h).area) (at start h)
 at_stays c m m' j (PurgeUnlinking gone extra after) stays hands low at = λ start h. out_stays c m m' start (stays start h (at start h).area) (at start h)
@@ -116,9 +91,9 @@ at_stays c m m' j (Retiring part r) stays hands low at = let h = hands part at.0
 at_stays c m m' j _ stays hands low at = tt
 
 module _ (c : Setup) (w : World) (l : Local) (s : Section) (kept : IsBlockWorld c w) (here : slice_get w.locals l.caller ≡ Some l) (callers : (j : ℕ) (x : Local) → slice_get w.locals j ≡ Some x → x.caller ≡ j)
-    (places : (j : ℕ) (x : Local) → slice_get w.locals j ≡ Some x → IsMapPlace x.place) (call : length l.answers < length l.calls) (moved : IsBlockMoved c w.map l.caller l.place s (next c l.place s)) (setup : l.setup ≡ c) where
+    (call : length l.answers < length l.calls) (moved : IsBlockMoved c w.map l.caller l.place s (next c l.place s)) (setup : l.setup ≡ c) where
   abbrev outs : ℕ → Local → ℕ
-  outs start x = count_of start (starts_out c x.place)
+  outs start x = count_of start (block_out x.place)
 
   abbrev after_local : Local
   after_local = moved_to l (next c l.place s)
@@ -127,32 +102,32 @@ module _ (c : Setup) (w : World) (l : Local) (s : Section) (kept : IsBlockWorld 
   answer_un r made = let e = answers_call l r made call in
       subst (λ (x : Local). IsUnblocky x.place) (sym e.2) (begins_with IsUnblocky l.setup (unblocky_begins l.setup) l.opening _ (slice_get l.calls (suc (length l.answers))))
 
-  moved_out : (n : Next) (start : ℕ) → count_of start (starts_out c (moved_to l n).place) ≡ next_out c n start
+  moved_out : (n : Next) (start : ℕ) → count_of start (block_out (moved_to l n).place) ≡ next_out n start
   moved_out (Go p) start = refl
-  moved_out (Answer r made) start = unblocky_out c (moved_to l (Answer r made)).place start (answer_un r made)
+  moved_out (Answer r made) start = unblocky_out (moved_to l (Answer r made)).place start (answer_un r made)
 
   moved_at : (n : Next) → OnNext (IsBlockAt c (effect_as c w.map l.caller s) l.caller) n → IsBlockAt c (effect_as c w.map l.caller s) l.caller (moved_to l n).place
   moved_at (Go p) h = h
   moved_at (Answer r made) h = unblocky_at c (effect_as c w.map l.caller s) l.caller (moved_to l (Answer r made)).place (answer_un r made)
 
-  out_sum : (start : ℕ) → sum_by (λ (x : Local). count_of start (starts_out c x.place)) (slice_set w.locals l.caller after_local) + count_of start (starts_out c l.place)
-      ≡ sum_by (λ (x : Local). count_of start (starts_out c x.place)) w.locals + count_of start (starts_out c after_local.place)
+  out_sum : (start : ℕ) → sum_by (λ (x : Local). count_of start (block_out x.place)) (slice_set w.locals l.caller after_local) + count_of start (block_out l.place)
+      ≡ sum_by (λ (x : Local). count_of start (block_out x.place)) w.locals + count_of start (block_out after_local.place)
   out_sum start = ap (λ n. sum_by (outs start) (slice_set w.locals l.caller after_local) + n) (sym (ap (outs start) (get_or_from_slice_get w.locals l.caller l l here)))
       ∙ sum_by-set (outs start) w.locals l.caller after_local l (slice_get_within w.locals l.caller l here)
 
-  own_le : (start : ℕ) → count_of start (starts_out c l.place) ≤ sum_by (λ (x : Local). count_of start (starts_out c x.place)) w.locals
+  own_le : (start : ℕ) → count_of start (block_out l.place) ≤ sum_by (λ (x : Local). count_of start (block_out x.place)) w.locals
   own_le start = sum_has (outs start) w.locals l l.caller here
 
   -- what the others have out has its area
-  others_area : (start : ℕ) → 1 ≤ sum_by (λ (x : Local). count_of start (starts_out c x.place)) w.locals - count_of start (starts_out c l.place) → IsBlockArea c w.map start
+  others_area : (start : ℕ) → 1 ≤ sum_by (λ (x : Local). count_of start (block_out x.place)) w.locals - count_of start (block_out l.place) → IsBlockArea c w.map start
   others_area start h =
       let is = sum_some (outs start) w.locals (omega arith) in
-      out_area c w.map is.1.caller is.1.place start (places is.0 is.1 is.2) (kept.each is.0 is.1 is.2) (count_among start (starts_out c is.1.place) is.3)
+      out_area c w.map is.1.caller is.1.place start (kept.each is.0 is.1 is.2) (count_among start (block_out is.1.place) is.3)
 
-  step_named : (start : ℕ) → count_of start (block_starts (effect_as c w.map l.caller s).blocks) + sum_by (λ (x : Local). count_of start (starts_out c x.place)) (slice_set w.locals l.caller after_local) ≤ 1
+  step_named : (start : ℕ) → count_of start (block_starts (effect_as c w.map l.caller s).blocks) + sum_by (λ (x : Local). count_of start (block_out x.place)) (slice_set w.locals l.caller after_local) ≤ 1
   step_named start =
       let before = kept.named start in let own = own_le start in
-      let after = moved.names start (sum_by (λ (x : Local). count_of start (starts_out c x.place)) w.locals - count_of start (starts_out c l.place)) (omega arith) (others_area start) in
+      let after = moved.names start (sum_by (λ (x : Local). count_of start (block_out x.place)) w.locals - count_of start (block_out l.place)) (omega arith) (others_area start) in
       omega (arith, out_sum start, moved_out (next c l.place s) start)
 
   low_hand : (j : ℕ) (at : PartAt) → IsPartIn w.map j at → at.pages ≤ rounded at.pages
@@ -160,7 +135,7 @@ module _ (c : Setup) (w : World) (l : Local) (s : Section) (kept : IsBlockWorld 
 
   other_at : (j : ℕ) (x : Local) → slice_get w.locals j ≡ Some x → j ≢ l.caller → IsBlockAt c (effect_as c w.map l.caller s) x.caller x.place
   other_at j x at n = at_stays c w.map (effect_as c w.map l.caller s) x.caller x.place
-      (λ start h area. (let one = among_count start (starts_out c x.place) h in let total = kept.named start in let apart : l.caller ≢ j = (λ e. n (sym e)) in let two = sum_two (outs start) w.locals l.caller j l x here at apart in
+      (λ start h area. (let one = among_count start (block_out x.place) h in let total = kept.named start in let apart : l.caller ≢ j = (λ e. n (sym e)) in let two = sum_two (outs start) w.locals l.caller j l x here at apart in
       moved.stays start (omega arith) (omega arith) area))
       (λ part hand. moved.hands x.caller part (λ e. n (sym (callers j x at) ∙ e)) hand) (low_hand x.caller) (kept.each j x at)
 
@@ -237,34 +212,46 @@ module _ (c : Setup) (m : PlainMap) (once : (page : ℕ) → times page (spans_o
           inner = λ plain. (let block : IsPlainKind (kind.Block fine.area.cpu) = subst IsPlainKind fine.area.kind plain in absurd block);
         }
 
+chunk_inside : (m : PlainMap) (page : ℕ) → IsInChunk m page → IsInside m page
+chunk_inside m page is = record {
+  area = is.area;
+  there = is.there;
+  holds = is.holds;
+  inner = λ plain. (let chunk : IsPlainKind (kind.Chunk is.chunk is.group) = subst IsPlainKind is.kind plain in absurd chunk);
+}
+
 module _ (c : Setup) (m : PlainMap) (k : ℕ) (once : (page : ℕ) → times page (spans_of m.areas) ≤ 1) (all : (b : Block) → IsIn b m.blocks → IsBlockFine c m b) where
-  pub block_outside : (p : Place) → IsMapPlace p → IsRemovedPlain m p → IsBlockAt c m k p → ((start : ℕ) → count_of start (starts_out c p) ≤ 1) → IsOutside c m p
-  block_outside (Finding (ForPages pages align) aim) is plain at few = tt
-  block_outside (FindingAgain (ForPages pages align) aim) is plain at few = tt
-  block_outside (Removing start serial) is plain at few = plain
-  block_outside (PurgeUnlinking gone extra after) is plain at few = unlinked c m once gone at few
-  block_outside (UnlinkingBlock start r) is plain at few = unlinked c m once (start ∷ []) (λ s h. subst (IsOut c m) (only_one start s h) at) few
-  block_outside (MappingPart part) is plain at few = part_inside c m once k part all at.0
-  block_outside (UnmappingPart part) is plain at few = part_inside c m once k part all at.0
-  block_outside Over is plain at few = tt
-  block_outside (Refusing r) is plain at few = tt
-  block_outside (MappingArea place kd) is plain at few = tt
-  block_outside (Dropping place) is plain at few = tt
-  block_outside (SettlingArea place kd) is plain at few = tt
-  block_outside (UnmappingArea area) is plain at few = tt
-  block_outside (Waiting spans after) is plain at few = tt
-  block_outside (PurgeTaking extra after) is plain at few = tt
-  block_outside (PurgeFragmenting cpu gone extra after) is plain at few = tt
-  block_outside (PurgeWaiting gone extra after) is plain at few = tt
-  block_outside (PurgeCollecting extra after) is plain at few = tt
-  block_outside (PurgeFlushing hull waited after) is plain at few = tt
-  block_outside (PurgeReturning waited after) is plain at few = tt
-  block_outside (PurgeGiving after) is plain at few = tt
-  block_outside (CuttingPart cpu pages) is plain at few = tt
-  block_outside (SettlingBlock place cpu pages) is plain at few = tt
-  block_outside (AddingBlock part) is plain at few = tt
-  block_outside (SettlingPart part) is plain at few = tt
-  block_outside (BeginningUnmap cpu page serial) is plain at few = tt
-  block_outside (Retiring part r) is plain at few = tt
-  block_outside (LookingAtDirty cpu ranges) is plain at few = tt
-  block_outside _ is plain at few = absurd is
+  pub block_outside : (p : Place) → IsChunkSided c m p → IsRemovedPlain m p → IsBlockAt c m k p → ((start : ℕ) → count_of start (block_out p) ≤ 1) → IsOutside c m p
+  block_outside (Finding search aim) side plain at few = side
+  block_outside (FindingAgain search aim) side plain at few = side
+  block_outside (Removing start serial) side plain at few = plain
+  block_outside (PurgeUnlinking gone extra after) side plain at few = unlinked c m once gone at few
+  block_outside (UnlinkingBlock start r) side plain at few = unlinked c m once (start ∷ []) (λ s h. subst (IsOut c m) (only_one start s h) at) few
+  block_outside (UnlinkingGroups base) side plain at few = side.1
+  block_outside (MappingPart part) side plain at few = part_inside c m once k part all at.0
+  block_outside (UnmappingPart part) side plain at few = part_inside c m once k part all at.0
+  block_outside (Populating object missing) side plain at few = λ page h. chunk_inside m page (side page h)
+  block_outside (Filling chunk base page filled) side plain at few = λ own h. chunk_inside m own (side own h)
+  block_outside (Depopulating base populated) side plain at few = λ page h. chunk_inside m page (side page h)
+  block_outside Over side plain at few = tt
+  block_outside (Refusing r) side plain at few = tt
+  block_outside (MappingArea place kd) side plain at few = tt
+  block_outside (Dropping place) side plain at few = tt
+  block_outside (SettlingArea place kd) side plain at few = tt
+  block_outside (UnmappingArea area) side plain at few = tt
+  block_outside (Waiting spans after) side plain at few = tt
+  block_outside (PurgeTaking extra after) side plain at few = tt
+  block_outside (PurgeFragmenting cpu gone extra after) side plain at few = tt
+  block_outside (PurgeWaiting gone extra after) side plain at few = tt
+  block_outside (PurgeCollecting extra after) side plain at few = tt
+  block_outside (PurgeFlushing hull waited after) side plain at few = tt
+  block_outside (PurgeReturning waited after) side plain at few = tt
+  block_outside (PurgeGiving after) side plain at few = tt
+  block_outside (CuttingPart cpu pages) side plain at few = tt
+  block_outside (SettlingBlock place cpu pages) side plain at few = tt
+  block_outside (AddingBlock part) side plain at few = tt
+  block_outside (SettlingPart part) side plain at few = tt
+  block_outside (BeginningUnmap cpu page serial) side plain at few = tt
+  block_outside (Retiring part r) side plain at few = tt
+  block_outside (LookingAtDirty cpu ranges) side plain at few = tt
+  block_outside _ side plain at few = tt

@@ -12,7 +12,7 @@ use Rattle.vm_model.specs.Areas.{mapped_part}
 use Rattle.vm_model.specs.Blocks.{PartAt, first_page, mapped_pages, rounded, size_of, parts_size, life_of_part}
 use Rattle.vm_model.specs.Chunks.{life_of_object}
 use Rattle.vm_model.specs.Legal.{OnEach, IsBare, IsMapped, IsUnmapped}
-use Rattle.vm_model.specs.Places.{Place, Over, Refusing, Finding, FindingAgain, MappingArea, Dropping, SettlingArea, Removing, UnmappingArea, Waiting, PurgeTaking, PurgeFragmenting, PurgeUnlinking, PurgeWaiting, PurgeCollecting, PurgeFlushing, PurgeReturning, PurgeGiving, CuttingPart, SettlingBlock, AddingBlock, MappingPart, SettlingPart, BeginningUnmap, UnmappingPart, Retiring, UnlinkingBlock, LookingAtDirty, block_spans, group_starts}
+use Rattle.vm_model.specs.Places.{Place, Over, Refusing, Finding, FindingAgain, MappingArea, Dropping, SettlingArea, Removing, UnmappingArea, Waiting, PurgeTaking, PurgeFragmenting, PurgeUnlinking, PurgeWaiting, PurgeCollecting, PurgeFlushing, PurgeReturning, PurgeGiving, CuttingPart, SettlingBlock, AddingBlock, MappingPart, SettlingPart, BeginningUnmap, UnmappingPart, Retiring, UnlinkingBlock, LookingAtDirty, block_spans, group_starts, AddingChunk, Depopulating, UnlinkingGroups}
 use Rattle.vm_model.specs.History.{World, Local}
 use Rattle.vm_model.specs.Carried.{fresh, leaving, emptied, part_in_hand, object_in_hand, starts_out, IsChunkOut, IsCarried, IsPartKept, IsBlockKept, part_spans, IsAreaKept, IsKept, count_of}
 use Rattle.map_laws.specs.MapTraces.{WhatIsCarriedWithoutObjectsIsKept}
@@ -20,7 +20,7 @@ use Rattle.map_laws.proofs.Frames.{IsFramed}
 use Rattle.map_laws.proofs.Spans.{covers_one, holds_to, holds_from}
 use Rattle.map_laws.proofs.AreaFacts.{IsHolding, IsAreaFine}
 use Rattle.map_laws.proofs.MapPlaces.{IsMapPlace}
-use Rattle.map_laws.proofs.BlockFacts.{OnRow, IsPartFine, same_test, IsBlockFine, IsPartIn, IsOut, IsBlockAt, stacked_covers, stacked_at}
+use Rattle.map_laws.proofs.BlockFacts.{OnRow, IsPartFine, same_test, IsBlockFine, IsPartIn, IsOut, IsBlockAt, stacked_covers, stacked_at, block_out}
 use Rattle.map_laws.proofs.BlockWorlds.{out_area, only_one}
 use Rattle.map_laws.proofs.MapLegal.{held_life, block_at}
 use Rattle.map_laws.proofs.MapLaws.{IsMapTraceWorld, map_lasts, map_first, has_parts, areas_once, own_names}
@@ -143,6 +143,16 @@ module _ (c : Setup) (m : PlainMap) (k : ℕ) where
   emptied_unmapped (UnlinkingBlock start r) is own at = out_each (start ∷ []) (λ n h. subst (IsOut c m) (only_one start n h) at)
   emptied_unmapped (LookingAtDirty cpu ranges) is own at = λ page e. cc
   emptied_unmapped _ is own at = absurd is
+
+  map_outs : (p : Place) → IsMapPlace p → starts_out c p ≡ block_out p
+  map_outs (PurgeFragmenting cpu gone extra after) is = refl
+  map_outs (PurgeUnlinking gone extra after) is = refl
+  map_outs (AddingBlock at) is = refl
+  map_outs (UnlinkingBlock start reply) is = refl
+  map_outs (AddingChunk base chunk bytes align) is = absurd is
+  map_outs (Depopulating base populated) is = absurd is
+  map_outs (UnlinkingGroups base) is = absurd is
+  map_outs _ is = refl
 
   chunk_none : (p : Place) → IsMapPlace p → IsChunkOut c m p
   chunk_none Over is = tt
@@ -292,17 +302,17 @@ module _ (c : Setup) (w : World) (framed : IsFramed c w) (is : IsMapTraceWorld c
         chunk_out = chunk_none l.setup w.map l.caller l.place place;
         part_held = part_held l.setup w.map l.caller life l.place place at;
         object_held = object_none l.setup w.map l.caller l.place place;
-        out_live = λ start h. (let area = out_area c w.map l.caller l.place start place (is.blocks.each k l here) (ap (λ d. is_among (starts_out d l.place) start) (sym own.setup) ∙ h) in
+        out_live = λ start h. (let area = out_area c w.map l.caller l.place start (is.blocks.each k l here) (ap (λ starts. is_among starts start) (sym (map_outs l.setup w.map l.caller l.place place)) ∙ h) in
             (area.area, block_at c w.map l.caller (areas_once c w framed is k l here) is.full start area));
       }
 
-  sum_outs : (start : ℕ) (locals : List Local) → ((k : ℕ) (l : Local) → slice_get locals k ≡ Some l → l.setup ≡ c) → sum_by (λ (l : Local). count_of start (starts_out l.setup l.place)) locals ≡ sum_by (λ (l : Local). count_of start (starts_out c l.place)) locals
+  sum_outs : (start : ℕ) (locals : List Local) → ((k : ℕ) (l : Local) → slice_get locals k ≡ Some l → IsMapPlace l.place) → sum_by (λ (l : Local). count_of start (starts_out l.setup l.place)) locals ≡ sum_by (λ (l : Local). count_of start (block_out l.place)) locals
   sum_outs start [] all = refl
   sum_outs start (l ∷ locals) all = omega (
     arith,
     sum_by-cons (λ (l : Local). count_of start (starts_out l.setup l.place)) l locals,
-    sum_by-cons (λ (l : Local). count_of start (starts_out c l.place)) l locals,
-    ap (λ d. count_of start (starts_out d l.place)) (all 0 l refl),
+    sum_by-cons (λ (l : Local). count_of start (block_out l.place)) l locals,
+    ap (count_of start) (map_outs l.setup w.map l.caller l.place (all 0 l refl)),
     sum_outs start locals (λ k x h. all (suc k) x h),
   )
 
@@ -314,7 +324,7 @@ module _ (c : Setup) (w : World) (framed : IsFramed c w) (is : IsMapTraceWorld c
     purge_turn = is.turns.turns.purge;
     alloc_turn = is.turns.turns.alloc;
     carried = caller_kept;
-    named_once = λ start. (let n = is.blocks.named start in omega (arith, no_chunks start, sum_outs start w.locals (λ k l h. (framed.own k l h).setup)));
+    named_once = λ start. (let n = is.blocks.named start in omega (arith, no_chunks start, sum_outs start w.locals (λ k l h. (is.only.each k l h).place)));
     waiting_unmapped = λ page h. (is.area.fine.pages page).waiting h;
     flushing_unmapped = λ page caller h. (is.area.fine.pages page).flushing caller h;
     areas = λ i a h. area_kept w.map a (is.area.fine.areas i a h) a.kind refl;

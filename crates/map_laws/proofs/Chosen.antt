@@ -1,8 +1,9 @@
 -- What a filter, a least element and a row of numbers hold.
-use Rattle.std.proofs.Common.{◌≡◌, ℕ, zero, suc, ◌+◌, ◌<◌, ◌≤◌, Bool, true, false, cond, nat_le, if◌then◌else◌, List, [], ◌∷◌, slice_get, filter, find, sum_by, Option, Some, None, refl, ap, sym, ◌∙◌, arith}
+use Rattle.std.proofs.Common.{◌≡◌, ℕ, zero, suc, ◌+◌, ◌<◌, ◌≤◌, Bool, true, false, cond, nat_le, if◌then◌else◌, List, [], ◌∷◌, slice_get, filter, find, sum_by, Option, Some, None, refl, ap, sym, ◌∙◌, arith, ◌==◌, ◌||◌}
 use Rattle.std.proofs.lemmas.List.Sums.{sum_by-cons}
 use Rattle.vm_model.specs.Setup.{last_of}
-use Rattle.vm_model.specs.Space.{count_from, least_by, smaller_by}
+use Rattle.vm_model.specs.Space.{count_from, least_by, smaller_by, is_among}
+use Rattle.std.proofs.lemmas.Bool.Decides.{nat_tests}
 
 pub record IsIn {X : Type 0} (x : X) (xs : List X) : Type 0 where
   pub place : ℕ
@@ -110,3 +111,28 @@ pub last_in : {X : Type 0} (xs : List X) (x : X) → last_of xs ≡ Some x → I
 last_in [] x h = cc
 last_in (y ∷ []) x h = record { place = 0; at = h }
 last_in (y ∷ z ∷ xs) x h = in_more x y (z ∷ xs) (last_in (z ∷ xs) x h)
+
+among_by : (x y : ℕ) (xs : List ℕ) (t : Bool) → (y == x) ≡ t → (t || is_among xs x) ≡ true → (is_among xs x ≡ true → IsIn x xs) → IsIn x (y ∷ xs)
+among_by x y xs true e h more = let same : y ≡ x = grind (arith, nat_tests) in record { place = 0; at = ap (λ n. Some n) same }
+among_by x y xs false e h more = in_more x y xs (more h)
+
+pub among_in : (x : ℕ) (xs : List ℕ) → is_among xs x ≡ true → IsIn x xs
+among_in x [] h = cc
+among_in x (y ∷ xs) h = among_by x y xs (y == x) refl h (among_in x xs)
+
+in_by : (x : ℕ) (xs : List ℕ) (i : ℕ) → slice_get xs i ≡ Some x → is_among xs x ≡ true
+in_by x [] i e = cc
+in_by x (y ∷ xs) zero e = let same : y ≡ x = cc in ap (λ b. b || is_among xs x) (let t : (y == x) ≡ true = grind (arith, nat_tests) in t)
+in_by x (y ∷ xs) (suc i) e = or_more (y == x) (in_by x xs i e)
+  where
+    or_more : (b : Bool) → is_among xs x ≡ true → (b || is_among xs x) ≡ true
+    or_more true f = refl
+    or_more false f = f
+
+pub in_among : (x : ℕ) (xs : List ℕ) → IsIn x xs → is_among xs x ≡ true
+in_among x xs h = in_by x xs h.place h.at
+
+pub count_at : (n first x : ℕ) → x < n → slice_get (count_from n first) x ≡ Some (first + x)
+count_at zero first x h = absurd (omega arith)
+count_at (suc n) first zero h = ap (λ i. Some i) (let e : first ≡ first + 0 = omega arith in e)
+count_at (suc n) first (suc x) h = count_at n (suc first) x (omega arith) ∙ ap (λ i. Some i) (let e : suc first + x ≡ first + suc x = omega arith in e)

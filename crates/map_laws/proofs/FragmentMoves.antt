@@ -179,7 +179,7 @@ module _ (c : Setup) (m : PlainMap) (k : ℕ) (all : (b : Block) → IsIn b m.bl
 
     -- what follows, with all starts that are out
     pub record IsFragmentNext (n : Next) : Type 0 where
-      pub less : (start : ℕ) → next_out c n start ≤ count_of start (gone ++ g)
+      pub less : (start : ℕ) → next_out n start ≤ count_of start (gone ++ g)
       pub own : ((start : ℕ) → is_among (gone ++ g) start ≡ true → IsOut c (effect_as c m k (Fragment cpu g)) start) → OnNext (IsBlockAt c (effect_as c m k (Fragment cpu g)) k) n
 
     pub fragment_moved : (n : Next) → IsFragmentNext n → IsBlockMoved c m k (PurgeFragmenting cpu gone extra after) (Fragment cpu g) n

@@ -97,7 +97,7 @@ below_none base page (g ∷ groups) low = omega (arith, times-cons page (span (b
     none_here true e = absurd (let r = holds_to (span (base + g.start) g.pages) page e in omega arith)
     none_here false e = ap one_if e
 
-groups_once : (c : Setup) (base page : ℕ) → AreGroups c → (t : Bool) → nat_le base page ≡ t → times page (groups_at c base) ≤ 1
+pub groups_once : (c : Setup) (base page : ℕ) → AreGroups c → (t : Bool) → nat_le base page ≡ t → times page (groups_at c base) ≤ 1
 groups_once c base page groups true e = let low : base ≤ page = grind (arith, nat_tests) in omega (arith, shifted base page c.groups low, apart_once c.groups (page - base) groups.apart)
 groups_once c base page groups false e = let high : page < base = grind (arith, nat_tests) in omega (arith, below_none base page c.groups high)
 

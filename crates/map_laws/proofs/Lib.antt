@@ -48,3 +48,13 @@ pub mod MapLegal
 pub mod CarriedKept
 pub mod EveryTraceProofs
 pub mod GroupsFree
+pub mod ChunkFacts
+pub mod Changed
+pub mod ChunkRows
+pub mod ChunkPlaced
+pub mod ChunkMoves
+pub mod ChunkOut
+pub mod ChunkNoted
+pub mod ChunkLeft
+pub mod ChunkUnlinked
+pub mod ChunkPlaces

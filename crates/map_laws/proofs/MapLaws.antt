@@ -12,17 +12,17 @@ use Rattle.vm_model.specs.PlainMap.{PlainMap, Part}
 use Rattle.vm_model.specs.Areas.{spans_of, areas_of}
 use Rattle.vm_model.specs.Blocks.{size_of}
 use Rattle.vm_model.specs.Legal.{IsLegalAs}
-use Rattle.vm_model.specs.Events.{Section, Settle, AddChunk, PlaceObject, PlaceAtomic, SettleObject, Unplace, FreeObject, Spare, Filled}
+use Rattle.vm_model.specs.Events.{Section, Settle, AddChunk, PlaceObject, PlaceAtomic, SettleObject, Unplace, FreeObject, Spare, Filled, ForGroups, ForPages}
 use Rattle.vm_model.specs.Chunks.{change_chunk, with_object, without_object, with_live_object, with_page}
 use Rattle.vm_model.specs.PlainMap.{Chunk, Lives}
 use Rattle.map_laws.proofs.ChunkFalls.{added}
 use Rattle.map_laws.proofs.Filling.{asks_chunk, adds_nothing}
 use Rattle.vm_model.specs.Effects.{effect_as}
-use Rattle.vm_model.specs.Places.{Place, AddingChunk, Removing, SettlingArea, SettlingBlock, SettlingGroups, ask}
+use Rattle.vm_model.specs.Places.{Place, AddingChunk, Removing, SettlingArea, SettlingBlock, SettlingGroups, ask, Depopulating, Filling, Finding, FindingAgain, Populating, UnlinkingGroups}
 use Rattle.vm_model.specs.Next.{next}
 use Rattle.vm_model.specs.Calls.{Answered}
 use Rattle.vm_model.specs.History.{moved_to, World, Local, started, made_by, opening_world, opening_answers, callers_from, with_callers}
-use Rattle.vm_model.specs.Carried.{count_of, starts_out}
+use Rattle.vm_model.specs.Carried.{count_of}
 use Rattle.vm_model.specs.LegalHistory.{Meets, IsReached}
 use Rattle.vm_model.specs.Rules.{IsTrace}
 use Rattle.map_laws.specs.MapTraces.{AreWithoutObjects, AreasWithoutObjectsAreDisjointAndAligned, TheGuardWithoutObjectsIsNeverMapped, FreePagesAreCleanWithoutObjects, PartsWithoutObjectsAreDisjoint}
@@ -42,9 +42,9 @@ use Rattle.map_laws.proofs.VmallocPlaces.{AreAligned, aligned_first, aligned_las
 use Rattle.map_laws.proofs.Serials.{IsPlainWorld, plain_first, plain_step, plain_joins, IsPlainPlace, removed_plain}
 use Rattle.map_laws.proofs.MapPlaces.{IsMapPlace, IsMapOnly, map_only_first, map_only_step, map_only_joins}
 use Rattle.map_laws.proofs.AreaStarts.{area_first, area_joins, guard_in}
-use Rattle.map_laws.proofs.BlockFacts.{IsBlockAt, block_starts, AreStacked}
+use Rattle.map_laws.proofs.BlockFacts.{IsBlockAt, block_starts, AreStacked, block_out}
 use Rattle.map_laws.proofs.BlockPlaces.{HasParts, IsUnblocky, unblocky_at, unblocky_out}
-use Rattle.map_laws.proofs.BlockDispatch.{IsRemovedPlain, block_by}
+use Rattle.map_laws.proofs.BlockDispatch.{IsRemovedPlain, block_by, IsChunkSided}
 use Rattle.map_laws.proofs.BlockWorlds.{IsBlockWorld, block_step, block_outside, unblocky_begins}
 
 -- each area has pages
@@ -98,13 +98,25 @@ pub record IsMapTraceWorld (c : Setup) (w : World) : Type 0 where
   pub full : AreFull w.map
   pub chunks : w.map.chunks ≡ []
 
+-- such callers search for no groups
+map_sided : (c : Setup) (m : PlainMap) (p : Place) → IsMapPlace p → IsChunkSided c m p
+map_sided c m (Finding (ForPages pages align) aim) is = tt
+map_sided c m (FindingAgain (ForPages pages align) aim) is = tt
+map_sided c m (Finding ForGroups aim) is = absurd is
+map_sided c m (FindingAgain ForGroups aim) is = absurd is
+map_sided c m (Populating at missing) is = absurd is
+map_sided c m (Filling chunk base page filled) is = absurd is
+map_sided c m (Depopulating base populated) is = absurd is
+map_sided c m (UnlinkingGroups base) is = absurd is
+map_sided c m _ is = tt
+
 removed_by : (m : PlainMap) (p : Place) → IsPlainPlace m p → IsRemovedPlain m p
 removed_by m (Removing start serial) is = removed_plain m start serial is
 removed_by m _ is = tt
 
 module _ (c : Setup) (w : World) (framed : IsFramed c w) (is : IsMapTraceWorld c w) (k : ℕ) (l : Local) (here : slice_get w.locals k ≡ Some l) where
-  pub own_names : (start : ℕ) → count_of start (block_starts w.map.blocks) + count_of start (starts_out c l.place) ≤ 1
-  own_names start = let all = is.blocks.named start in omega (arith, sum_has (λ (x : Local). count_of start (starts_out c x.place)) w.locals l k here)
+  pub own_names : (start : ℕ) → count_of start (block_starts w.map.blocks) + count_of start (block_out l.place) ≤ 1
+  own_names start = let all = is.blocks.named start in omega (arith, sum_has (λ (x : Local). count_of start (block_out x.place)) w.locals l k here)
 
   pub areas_once : (page : ℕ) → times page (spans_of w.map.areas) ≤ 1
   areas_once page = let o = is.area.once page in omega arith
@@ -120,9 +132,9 @@ step_blocks c w k l s has framed is step =
     let meets : Meets c (ask c l.place) s = subst (λ d. Meets d (ask d l.place) s) own.setup step.meets in
     let proper : IsProper c l.place = subst (λ d. IsProper d l.place) own.setup (is.turns.proper.each k l step.step.here) in
     let holding : IsHolding c w.map l.caller l.place = subst (λ d. IsHolding d w.map l.caller l.place) own.setup (is.area.each k l step.step.here) in
-    let moved = block_by c w.map l.caller is.area.fine has is.blocks.blocks l.place s (is.only.each k l step.step.here).place proper holding (plain_here c w framed is k l step.step.here)
+    let moved = block_by c w.map l.caller is.area.fine has is.blocks.blocks l.place s (map_sided c w.map l.place (is.only.each k l step.step.here).place) proper holding (plain_here c w framed is k l step.step.here)
     (subst (λ d. (page : ℕ) → own_uses d w.map l.place page ≤ 1) own.setup (own_once w k l is.area step.step.here)) (own_names c w framed is k l step.step.here) (is.blocks.each k l step.step.here) meets legal in
-    block_step c w l s is.blocks here (λ j x h. (framed.own j x h).caller) (λ j x h. (is.only.each j x h).place) (has_call c k l own (not_over l.setup w.map l.place s step.step.gives)) moved own.setup
+    block_step c w l s is.blocks here (λ j x h. (framed.own j x h).caller) (has_call c k l own (not_over l.setup w.map l.place s step.step.gives)) moved own.setup
     (made_by w l s).map (ap (λ d. effect_as d w.map l.caller s) own.setup) (made_by w l s).locals (ap (λ d. slice_set w.locals l.caller (moved_to l (next d l.place s))) own.setup) (made_by w l s).events
 
 module _ (c : Setup) (opening : List Call) (calls : List (List Call)) (areas : AreWithoutObjects opening calls) (has : HasParts c) where
@@ -132,7 +144,7 @@ module _ (c : Setup) (opening : List Call) (calls : List (List Call)) (areas : A
       let proper = is.turns.proper.each k l step.step.here in
       let place = (is.only.each k l step.step.here).place in
       let outside : IsOutside l.setup w.map l.place = subst (λ d. IsOutside d w.map l.place) (sym own.setup)
-      (block_outside c w.map l.caller (areas_once c w framed is k l step.step.here) is.blocks.blocks l.place place (plain_here c w framed is k l step.step.here) (is.blocks.each k l step.step.here)
+      (block_outside c w.map l.caller (areas_once c w framed is k l step.step.here) is.blocks.blocks l.place (map_sided c w.map l.place place) (plain_here c w framed is k l step.step.here) (is.blocks.each k l step.step.here)
       (λ start. (let n = own_names c w framed is k l step.step.here start in omega arith))) in record {
         turns = (turns_last c calls).steps w k l s framed is.turns step.step;
         area = area_kept c w k l s framed is.area proper outside step;
@@ -147,12 +159,12 @@ module _ (c : Setup) (opening : List Call) (calls : List (List Call)) (areas : A
       }
 
   -- callers at their start have no block
-  callers_out : (start first : ℕ) (answers : List Answered) (more : List (List Call)) → sum_by (λ (x : Local). count_of start (starts_out c x.place)) (callers_from c answers first more) ≡ 0
+  callers_out : (start first : ℕ) (answers : List Answered) (more : List (List Call)) → sum_by (λ (x : Local). count_of start (block_out x.place)) (callers_from c answers first more) ≡ 0
   callers_out start first answers [] = refl
   callers_out start first answers (own ∷ more) = omega (
     arith,
-    sum_by-cons (λ (x : Local). count_of start (starts_out c x.place)) (started c answers first own) (callers_from c answers (suc first) more),
-    unblocky_out c (started c answers first own).place start (begins_with IsUnblocky c (unblocky_begins c) answers [] (slice_get own 0)),
+    sum_by-cons (λ (x : Local). count_of start (block_out x.place)) (started c answers first own) (callers_from c answers (suc first) more),
+    unblocky_out (started c answers first own).place start (begins_with IsUnblocky c (unblocky_begins c) answers [] (slice_get own 0)),
     callers_out start (suc first) answers more,
   )
 
@@ -165,7 +177,7 @@ module _ (c : Setup) (opening : List Call) (calls : List (List Call)) (areas : A
   block_joins : (w : World) → IsBlockWorld c w → IsBlockWorld c (with_callers c calls w)
   block_joins w is = record {
     blocks = is.blocks;
-    named = λ start. (let before = is.named start in omega (arith, sum_by-append (λ (x : Local). count_of start (starts_out c x.place)) w.locals (callers_from c (opening_answers w.locals) 1 calls), callers_out start 1 (opening_answers w.locals) calls));
+    named = λ start. (let before = is.named start in omega (arith, sum_by-append (λ (x : Local). count_of start (block_out x.place)) w.locals (callers_from c (opening_answers w.locals) 1 calls), callers_out start 1 (opening_answers w.locals) calls));
     each = λ k l h. elim (append_cases w.locals (callers_from c (opening_answers w.locals) 1 calls) k l h) [ inl e ↦ is.each k l e | inr e ↦ callers_at w.map (opening_answers w.locals) 1 calls e.0 l e.2 ];
   }
 

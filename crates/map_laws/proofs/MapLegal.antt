@@ -16,7 +16,7 @@ use Rattle.vm_model.specs.Events.{Section, ForPages, TakePurge, MapPages, NoFram
 use Rattle.vm_model.specs.Places.{Place, Over, Refusing, Finding, FindingAgain, MappingArea, Dropping, SettlingArea, Removing, UnmappingArea, Waiting, PurgeTaking, PurgeFragmenting, PurgeUnlinking, PurgeWaiting, PurgeCollecting, PurgeFlushing, PurgeReturning, PurgeGiving, CuttingPart, SettlingBlock, AddingBlock, MappingPart, SettlingPart, BeginningUnmap, UnmappingPart, Retiring, UnlinkingBlock, LookingAtDirty, block_spans, ask}
 use Rattle.vm_model.specs.Given.{given, carving, removal, cutting, beginning}
 use Rattle.vm_model.specs.History.{World, Local}
-use Rattle.vm_model.specs.Carried.{has_purge, count_of, starts_out}
+use Rattle.vm_model.specs.Carried.{has_purge, count_of}
 use Rattle.map_laws.specs.MapTraces.{HistoriesWithoutObjectsAreLegal}
 use Rattle.map_laws.proofs.Chosen.{IsIn, in_more, filter_has, filter_in, find_has, sum_by-filter-le}
 use Rattle.map_laws.proofs.Fits.{and_both}
@@ -30,7 +30,7 @@ use Rattle.map_laws.proofs.AreaFacts.{IsHolding, mapped_covers}
 use Rattle.map_laws.proofs.MapMoves.{times_both}
 use Rattle.map_laws.proofs.AreaWorlds.{IsLegalStep}
 use Rattle.map_laws.proofs.MapPlaces.{IsMapPlace}
-use Rattle.map_laws.proofs.BlockFacts.{IsBlockArea, IsBlockFine, IsPartIn, IsOut, IsBlockAt, AreStacked, block_starts, among_count, counted_block, to_same, size_cons}
+use Rattle.map_laws.proofs.BlockFacts.{IsBlockArea, IsBlockFine, IsPartIn, IsOut, IsBlockAt, AreStacked, block_starts, among_count, counted_block, to_same, size_cons, block_out}
 use Rattle.map_laws.proofs.BlockMoves.{part_within, row_of, same_start, area_start}
 use Rattle.map_laws.proofs.PartMoves.{own_is}
 use Rattle.map_laws.proofs.BlockWorlds.{times_count, row_covers, covered_start, only_one}
@@ -224,7 +224,7 @@ module _ (c : Setup) (m : PlainMap) (k : ℕ) (once : (page : ℕ) → times pag
     low_size : (at : PartAt) → IsPartIn m k at → at.pages ≤ rounded at.pages
     low_size at hand = let z = (part_within c m hand.block hand.part (all hand.block hand.there) hand.part_there).1 in let r = row_of m k at hand in omega (arith, r.1, r.2)
 
-    pub legal_map : (p : Place) (s : Section) → IsMapPlace p → IsProper c p → IsHolding c m k p → IsBlockAt c m k p → ((start : ℕ) → count_of start (starts_out c p) ≤ 1) → (has_purge p ≡ true → m.purge_turn ≡ Some k) → given c m (ask c p) ≡ Some s → IsLegalAs c m k s
+    pub legal_map : (p : Place) (s : Section) → IsMapPlace p → IsProper c p → IsHolding c m k p → IsBlockAt c m k p → ((start : ℕ) → count_of start (block_out p) ≤ 1) → (has_purge p ≡ true → m.purge_turn ≡ Some k) → given c m (ask c p) ≡ Some s → IsLegalAs c m k s
     legal_map Over s is proper own at few turn e = cc
     legal_map (Refusing r) s is proper own at few turn e = told_legal s _ e tt
     legal_map (Finding (ForPages pages align) aim) s is proper own at few turn e = told_legal s _ e (carving_legal pages align (lowest (taken m) pages align) refl)
@@ -261,7 +261,7 @@ trace_legal : (c : Setup) (units : 8 ≤ c.unit_pages) (w : World) (k : ℕ) (l 
 trace_legal c units w k l s framed is step =
     let own = framed.own k l step.here in
     let proper = is.turns.proper.each k l step.here in
-    let named : (start : ℕ) → count_of start (block_starts w.map.blocks) + count_of start (starts_out c l.place) ≤ 1 = own_names c w framed is k l step.here in
+    let named : (start : ℕ) → count_of start (block_starts w.map.blocks) + count_of start (block_out l.place) ≤ 1 = own_names c w framed is k l step.here in
     let gives : given c w.map (ask c l.place) ≡ Some s = subst (λ d. given d w.map (ask d l.place) ≡ Some s) own.setup step.gives in
     let holding : IsHolding c w.map k l.place = subst (λ d. IsHolding d w.map k l.place) own.setup (subst (λ i. IsHolding l.setup w.map i l.place) own.caller (is.area.each k l step.here)) in
     let legal : IsLegalAs c w.map k s = legal_map c w.map k (areas_once c w framed is k l step.here) is.full is.blocks.blocks (λ start. (let n = named start in omega arith)) l.place s (is.only.each k l step.here).place

@@ -13,12 +13,12 @@ use Rattle.vm_model.specs.Places.{CuttingPart, SettlingPart, MappingPart, Adding
 use Rattle.vm_model.specs.declared.calls.Reply.{Reply}
 use Rattle.vm_model.specs.Places.{Made, MadeNothing}
 use Rattle.vm_model.specs.Next.{Go, Answer}
-use Rattle.vm_model.specs.Carried.{count_of, starts_out}
+use Rattle.vm_model.specs.Carried.{count_of}
 use Rattle.map_laws.proofs.Lists.{same_or, append_cases, append_first}
 use Rattle.map_laws.proofs.Chosen.{IsIn, in_more, find_has, filter_has, filter_in, sum_without, sum_by-filter-le}
 use Rattle.map_laws.proofs.Fits.{and_both}
 use Rattle.map_laws.proofs.Powers.{rounded_some, rounded_low}
-use Rattle.map_laws.proofs.BlockFacts.{OnRow, IsStill, IsBlockArea, AreStacked, IsPartFine, IsBlockFine, IsPartIn, IsOut, block_starts, count_cons, count_append, to_same, same_block, same_part, size_cons, block_stays}
+use Rattle.map_laws.proofs.BlockFacts.{OnRow, IsStill, IsBlockArea, AreStacked, IsPartFine, IsBlockFine, IsPartIn, IsOut, block_starts, count_cons, count_append, to_same, same_block, same_part, size_cons, block_stays, block_out}
 use Rattle.map_laws.proofs.BlockChanges.{in_of, changed_is, changed_in, unchanged_in, changed_starts, blocks_only, lived_blocks, lived_hand, ended_unmapped, hand_not_ended}
 use Rattle.map_laws.proofs.BlockMoves.{IsBlockMoved, row_of}
 
@@ -71,7 +71,7 @@ module _ (c : Setup) (m : PlainMap) (k : ℕ) (all : (b : Block) → IsIn b m.bl
     rest = λ page low high. (let e = size_more b.parts (record { offset = at.offset; pages = at.pages; caller = k; life = InHand k }) in fine.rest page (omega arith) high);
   }
 
-  module _ (cpu pages : ℕ) (at : PartAt) (named : (start : ℕ) → count_of start (block_starts m.blocks) + count_of start (starts_out c (CuttingPart cpu pages)) ≤ 1) (few : at.pages ≤ 1048576)
+  module _ (cpu pages : ℕ) (at : PartAt) (named : (start : ℕ) → count_of start (block_starts m.blocks) + count_of start (block_out (CuttingPart cpu pages)) ≤ 1) (few : at.pages ≤ 1048576)
       (legal : IsLegalAs c m k (CutPart at)) where
     cut_is : (o : Option Block) → first_with_room c at.cpu at.pages m.blocks ≡ o → option_map (cut_from c at.pages) o ≡ Some at → (b : Block) × (first_with_room c at.cpu at.pages m.blocks ≡ Some b) × (cut_from c at.pages b ≡ at)
     cut_is None e h = cc

@@ -33,12 +33,12 @@ pub record IsMoved (c : Setup) (m : PlainMap) (k : ℕ) (p : Place) (s : Section
 
 -- The pages that a search finds are free.
 
-slice_get-drop : {X : Type 0} (n : ℕ) (xs : List X) (i : ℕ) → slice_get (drop n xs) i ≡ slice_get xs (n + i)
+pub slice_get-drop : {X : Type 0} (n : ℕ) (xs : List X) (i : ℕ) → slice_get (drop n xs) i ≡ slice_get xs (n + i)
 slice_get-drop zero xs i = ap (slice_get xs) (let e : i ≡ 0 + i = omega arith in e)
 slice_get-drop (suc n) [] i = refl
 slice_get-drop (suc n) (x ∷ xs) i = slice_get-drop n xs i ∙ ap (slice_get (x ∷ xs)) (let e : suc (n + i) ≡ suc n + i = omega arith in e)
 
-begins_free-at : (n : ℕ) (taken : List Bool) (i : ℕ) → begins_free n taken ≡ true → i < n → slice_get taken i ≡ Some false
+pub begins_free-at : (n : ℕ) (taken : List Bool) (i : ℕ) → begins_free n taken ≡ true → i < n → slice_get taken i ≡ Some false
 begins_free-at zero taken i h l = absurd (omega arith)
 begins_free-at (suc n) [] i h l = cc
 begins_free-at (suc n) (true ∷ taken) i h l = cc
@@ -73,7 +73,7 @@ free_there (Some Waits) h = absurd (omega arith)
 free_there (Some (Flushing k)) h = absurd (omega arith)
 
 -- frames that pages get
-given_still : (pages free : List ℕ) (frames : List (Option ℕ)) (page f : ℕ) → slice_get frames page ≡ Some (Some f) → (g : ℕ) × (slice_get (give_frames pages free frames) page ≡ Some (Some g))
+pub given_still : (pages free : List ℕ) (frames : List (Option ℕ)) (page f : ℕ) → slice_get frames page ≡ Some (Some f) → (g : ℕ) × (slice_get (give_frames pages free frames) page ≡ Some (Some g))
 given_still [] free frames page f h = (f, h)
 given_still (p ∷ pages) [] frames page f h = (f, h)
 given_still (p ∷ pages) (frame ∷ free) frames page f h = elim (same_or page p) [

@@ -1,5 +1,5 @@
 -- What is proper of a caller's place whatever the map is: searches are for what fits them, and objects aren't too large.
-use Rattle.std.proofs.Common.{◌≡◌, ℕ, zero, suc, inl, inr, ◌+◌, ◌*◌, ◌%◌, ◌<◌, ◌≤◌, max, Bool, true, false, nat_lt, nat_le, if◌then◌else◌, List, [], ◌∷◌, ◌++◌, slice_get, length, Option, Some, None, refl, ap, sym, ◌∙◌, subst, arith, ℤ}
+use Rattle.std.proofs.Common.{◌≡◌, ℕ, zero, suc, inl, inr, ◌+◌, ◌*◌, ◌%◌, ◌<◌, ◌≤◌, max, Bool, true, false, nat_lt, nat_le, if◌then◌else◌, List, [], ◌∷◌, ◌++◌, slice_get, length, Option, Some, None, refl, ap, sym, ◌∙◌, subst, arith, ℤ, ◌-◌}
 use Rattle.std.proofs.lemmas.Bool.Decides.{nat_tests}
 use Rattle.vm_model.specs.declared.areas.Span.{Span}
 use Rattle.vm_model.specs.declared.areas.Area.{Area}
@@ -32,6 +32,10 @@ IsPlainKind kind.MapRam = Unit {0}
 IsPlainKind (kind.Block cpu) = ⊥
 IsPlainKind (kind.Chunk chunk group) = ⊥
 
+-- an object's bytes are whole words, and not too many
+abbrev pub IsObjectSize : ℕ → Type 0
+IsObjectSize bytes = (bytes ≤ 32768) × (more : ℕ) × (bytes ≡ 4 * suc more)
+
 -- pages are searched for areas and blocks, and groups for a chunk
 abbrev pub IsAimed : Setup → Search → Aim → Type 0
 IsAimed c (ForPages pages align) (ForArea k) = IsPlainKind k × (1 ≤ pages)
@@ -39,7 +43,7 @@ IsAimed c (ForPages pages align) (ForBlock cpu asked) = (pages ≡ c.block_pages
 IsAimed c (ForPages pages align) (ForChunk chunk bytes to) = ⊥
 IsAimed c ForGroups (ForArea k) = ⊥
 IsAimed c ForGroups (ForBlock cpu asked) = ⊥
-IsAimed c ForGroups (ForChunk chunk bytes to) = bytes ≤ 32768
+IsAimed c ForGroups (ForChunk chunk bytes to) = IsObjectSize bytes
 
 abbrev pub IsFollowed : Setup → Then → Type 0
 IsFollowed c (SearchAgain search aim) = IsAimed c search aim
@@ -63,10 +67,11 @@ IsProper c (PurgeCollecting extra after) = IsFollowed c after
 IsProper c (PurgeFlushing s waited after) = IsFollowed c after
 IsProper c (PurgeReturning waited after) = IsFollowed c after
 IsProper c (PurgeGiving after) = IsFollowed c after
-IsProper c (TakingAlloc bytes align) = bytes ≤ 32768
-IsProper c (Choosing bytes align) = bytes ≤ 32768
-IsProper c (SettlingGroups base chunk bytes align) = (bytes ≤ 32768) × (base % c.atom ≡ 0)
-IsProper c (AddingChunk base chunk bytes align) = bytes ≤ 32768
+IsProper c (TakingAlloc bytes align) = IsObjectSize bytes
+IsProper c (Choosing bytes align) = IsObjectSize bytes
+IsProper c (SettlingGroups base chunk bytes align) = (IsObjectSize bytes) × (base % c.atom ≡ 0)
+IsProper c (AddingChunk base chunk bytes align) = IsObjectSize bytes
+IsProper c (ChoosingAtomic bytes align) = IsObjectSize bytes
 IsProper c _ = Unit {0}
 
 -- what a fact about places says of what comes next
@@ -101,7 +106,7 @@ module _ (c : Setup) (m : PlainMap) where
       let fit = is_zero (start % align) (lowest_fit (taken m) pages align start e).0 in (is.0, ap (λ n. start % n) (sym is.1) ∙ fit, is.2, is.3)
   found_pages pages align (ForChunk chunk bytes to) otherwise (Some start) e is q = absurd is
 
-  found_groups : (chunk bytes align : ℕ) (otherwise : Next) (o : Option ℕ) → highest c (taken m) ≡ o → bytes ≤ 32768 → OnNext (IsProper c) otherwise
+  found_groups : (chunk bytes align : ℕ) (otherwise : Next) (o : Option ℕ) → highest c (taken m) ≡ o → IsObjectSize bytes → OnNext (IsProper c) otherwise
       → OnNext (IsProper c) (found (ForChunk chunk bytes align) (carved (carving_groups o)) (carved_base (carving_groups o)) otherwise)
   found_groups chunk bytes align otherwise None e few q = q
   found_groups chunk bytes align otherwise (Some base) e few q = (few, is_zero (base % c.atom) (highest_fit c (taken m) base e).0)
@@ -150,7 +155,7 @@ module _ (c : Setup) (m : PlainMap) where
   begun_proper None = tt
   begun_proper (Some at) = tt
 
-  placed_proper : (bytes align n : ℕ) (o : Option (ObjectAt × List ℕ)) → bytes ≤ 32768 → OnNext (IsProper c) (after_place bytes align n o)
+  placed_proper : (bytes align n : ℕ) (o : Option (ObjectAt × List ℕ)) → IsObjectSize bytes → OnNext (IsProper c) (after_place bytes align n o)
   placed_proper bytes align n None is = is
   placed_proper bytes align n (Some p) is = tt
 
@@ -203,8 +208,8 @@ module _ (c : Setup) (m : PlainMap) where
 -- Where a call begins.
 
 -- a size that the desk accepts
-accepted_size : (bytes : ℕ) → is_bad_object_size bytes ≡ false → 4 * words_for bytes ≤ 32768
-accepted_size bytes h = let few : bytes ≤ 32768 = grind (arith, nat_tests) in omega arith
+accepted_size : (bytes : ℕ) → is_bad_object_size bytes ≡ false → IsObjectSize (4 * words_for bytes)
+accepted_size bytes h = let few : bytes ≤ 32768 = grind (arith, nat_tests) in let some : 1 ≤ bytes = grind (arith, nat_tests) in ((omega arith), words_for bytes - 1, (omega arith))
 
 -- a mapping that the desk accepts has a page
 some_pages : (c : Setup) (pages : ℕ) → is_bad_map_size c pages ≡ false → 1 ≤ pages
@@ -217,8 +222,8 @@ pub record HaveBeginnings (P : Place → Type 0) (c : Setup) : Type 0 where
   pub area : (pages align : ℕ) (k : AreaKind) → IsPlainKind k → 1 ≤ pages → P (Finding (ForPages pages align) (ForArea k))
   pub part : (cpu pages : ℕ) → is_bad_map_size c pages ≡ false → nat_le pages c.part_limit ≡ true → P (CuttingPart cpu pages)
   pub dirty : P (LookingAtDirty 0 [])
-  pub object : (bytes align : ℕ) → bytes ≤ 32768 → P (TakingAlloc bytes align)
-  pub atomic : (bytes align : ℕ) → bytes ≤ 32768 → P (ChoosingAtomic bytes align)
+  pub object : (bytes align : ℕ) → IsObjectSize bytes → P (TakingAlloc bytes align)
+  pub atomic : (bytes align : ℕ) → IsObjectSize bytes → P (ChoosingAtomic bytes align)
   pub remove : (start serial : ℕ) → P (Removing start serial)
   pub unmap : (cpu page serial : ℕ) → P (BeginningUnmap cpu page serial)
   pub free : (at : ObjectAt) (serial : ℕ) → P (FreeingObject at serial)
@@ -227,7 +232,7 @@ pub record HaveBeginnings (P : Place → Type 0) (c : Setup) : Type 0 where
   pub balance : P TakingToBalance
 
 module _ (P : Place → Type 0) (c : Setup) (have : HaveBeginnings P c) where
-  alloc_begins : (place : ℕ → ℕ → Place) (bytes align : ℕ) → ((n to : ℕ) → n ≤ 32768 → P (place n to)) → P (begin_alloc place bytes align)
+  alloc_begins : (place : ℕ → ℕ → Place) (bytes align : ℕ) → ((n to : ℕ) → IsObjectSize n → P (place n to)) → P (begin_alloc place bytes align)
   alloc_begins place bytes align h = either_place P (is_bad_object_size bytes) _ _ (λ e. have.refused reply.BadSize)
       (λ e. either_place P (is_bad_object_align align) _ _ (λ f. have.refused reply.BadAlign) (λ f. h (4 * words_for bytes) (max align 4) (accepted_size bytes e)))
 
@@ -288,7 +293,7 @@ proper_begins c = record {
   part = λ cpu pages e f. ((some_pages c pages e), (let few : pages ≤ c.part_limit = grind (arith, nat_tests) in few));
   dirty = tt;
   object = λ bytes align few. few;
-  atomic = λ bytes align few. tt;
+  atomic = λ bytes align few. few;
   remove = λ start serial. tt;
   unmap = λ cpu page serial. tt;
   free = λ at serial. tt;

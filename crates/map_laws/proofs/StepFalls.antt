@@ -25,7 +25,7 @@ use Rattle.map_laws.proofs.Sizes.{AreSized}
 
 -- the object of a new chunk has room
 pub has_room : (c : Setup) (m : PlainMap) (p : Place) → 8 ≤ c.unit_pages → IsProper c p → HasRoom c m (ask c p)
-has_room c m (AddingChunk base chunk bytes align) u is = new_chunk_has_room c chunk base bytes align m.chunks u is
+has_room c m (AddingChunk base chunk bytes align) u is = new_chunk_has_room c chunk base bytes align m.chunks u is.0
 has_room c m _ u is = tt
 
 asks_as : (c : Setup) (p : Place) → adds_chunk p ≡ false → asks_chunk (ask c p) ≡ false
@@ -39,7 +39,7 @@ module _ (c : Setup) (m : PlainMap) (k : ℕ) (units : 8 ≤ c.unit_pages) where
   -- all sections but those of a balance
   plain_by : (p : Place) (s : Section) (b : Bool) → adds_chunk p ≡ b → is_balancing p ≡ false → IsProper c p → given c m (ask c p) ≡ Some s → left_next c (next c p s) + added c s < left c p
   plain_by p s false f h is e = omega (arith, step_falls c m units p s h f is e, adds_nothing c (ask c p) s (asks_as c p f) (given_meets c m s (ask c p) (has_room c m p units is) e))
-  plain_by (AddingChunk base chunk bytes align) s true f h is e = chunk_left c m units base chunk bytes align s is e
+  plain_by (AddingChunk base chunk bytes align) s true f h is e = chunk_left c m units base chunk bytes align s is.0 e
   plain_by _ s true f h is e = cc
 
   pub plain_falls : (p : Place) (s : Section) → is_balancing p ≡ false → IsProper c p → given c m (ask c p) ≡ Some s → left_next c (next c p s) + added c s < left c p
