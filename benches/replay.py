@@ -3,7 +3,7 @@
 
 Prints the tables of docs/PERFORMANCE.md. Where the program is missing it says so and measures nothing; another program
 than the one that the tests build may be given as the only argument. Times are processor time (user and system) of the
-best of nine runs, so that other work on the machine counts little.
+best of 25 runs, and the commands take turns, so that other work on the machine counts little.
 """
 import os
 import resource
@@ -13,20 +13,28 @@ import sys
 import tempfile
 
 BUILT = os.path.join(os.path.dirname(os.path.abspath(__file__)), "..", "crates", "vmreplay", "out", "vmreplay")
-RUNS = 9
+RUNS = 25
 
 
-def calls(count):
-    """A trace of `count` calls that all get an address: from 1 to 4,999 bytes each, in a range that has room."""
-    lines = ["vmtrace 1", "space 1048576"]
-    lines += [f"vmalloc a{number} {1 + number * 37 % 4999} 4096" for number in range(count)]
+def trace(space, call, count):
+    """A trace of `count` calls: `call` is formatted with the number of each."""
+    lines = ["vmtrace 1", f"space {space}"] + [call(number) for number in range(count)]
     return "\n".join(lines + ["end", ""]).encode()
+
+
+def frameless(count):
+    """Calls for 1 to 4,999 bytes in a large range: the first 877 get an address, and then the frames are short."""
+    return trace(1048576, lambda number: f"vmalloc a{number} {1 + number * 37 % 4999} 4096", count)
+
+
+def gaps(count):
+    """Calls with an alignment that leaves a gap after each area: later searches pass 1,024 free blocks that don't fit."""
+    return trace(1048576, lambda number: f"vmalloc a{number} 1 16384", count)
 
 
 def full(count):
-    """A trace of `count` calls in a range of 16 pages: all but the first few end in no-space, after a purge."""
-    lines = ["vmtrace 1", "space 16"] + [f"vmalloc a{number} 1 1" for number in range(count)]
-    return "\n".join(lines + ["end", ""]).encode()
+    """Calls in a range of 16 pages: all but the first eight end in no-space, after a purge."""
+    return trace(16, lambda number: f"vmalloc a{number} 1 1", count)
 
 
 def late_fault(length):
@@ -36,17 +44,22 @@ def late_fault(length):
 
 
 def seconds(command, path):
-    """The least processor time of `command` with the file as its input, or None where there is no such command."""
-    if shutil.which(command[0]) is None:
-        return None
-    times = []
+    """The processor time of one run of `command` with the file as its input."""
+    before = resource.getrusage(resource.RUSAGE_CHILDREN)
+    with open(path, "rb") as text:
+        subprocess.run(command, stdin=text, stdout=subprocess.DEVNULL, check=False)
+    after = resource.getrusage(resource.RUSAGE_CHILDREN)
+    return after.ru_utime + after.ru_stime - before.ru_utime - before.ru_stime
+
+
+def least(runs):
+    """The least time of each of these commands, or None where there is no such command."""
+    times = [[] for _ in runs]
     for _ in range(RUNS):
-        before = resource.getrusage(resource.RUSAGE_CHILDREN)
-        with open(path, "rb") as text:
-            subprocess.run(command, stdin=text, stdout=subprocess.DEVNULL, check=False)
-        after = resource.getrusage(resource.RUSAGE_CHILDREN)
-        times.append(after.ru_utime + after.ru_stime - before.ru_utime - before.ru_stime)
-    return min(times)
+        for (command, path), own in zip(runs, times):
+            if shutil.which(command[0]):
+                own.append(seconds(command, path))
+    return [min(own, default=None) for own in times]
 
 
 def ratio(time, other):
@@ -59,8 +72,9 @@ def main():
         print(f"skipped: there is no {program}")
         return
     texts = [
-        ("100,000 calls, all with an address", calls(50_000), calls(100_000)),
+        ("100,000 calls, nearly all without frames", frameless(50_000), frameless(100_000)),
         ("100,000 calls, nearly all without space", full(50_000), full(100_000)),
+        ("100,000 calls past 1,024 gaps", gaps(50_000), gaps(100_000)),
         ("16 MiB, the fault in the last line", late_fault(8 << 20), late_fault(16 << 20)),
     ]
     print("| Text | seconds | to its half | to `wc -l` | to `sort` |")
@@ -71,9 +85,8 @@ def main():
             for place, text in ((half_path, half), (path, whole)):
                 with open(place, "wb") as file:
                     file.write(text)
-            time = seconds([program, "replay"], path)
-            halved = seconds([program, "replay"], half_path)
-            lines, sorting = seconds(["wc", "-l"], path), seconds(["sort"], path)
+            replay = [program, "replay"]
+            time, halved, lines, sorting = least([(replay, path), (replay, half_path), (["wc", "-l"], path), (["sort"], path)])
             print(f"| {name} | {time:.3f} | {ratio(time, halved)} | {ratio(time, lines)} | {ratio(time, sorting)} |")
 
 
