@@ -1,0 +1,17 @@
+//! The allocators of a space as regions, and callers that make one lock section after another over them.
+#![tactic(auto)]
+
+mod answers;
+mod begin;
+mod busy_sections;
+mod busy_side;
+mod free_sections;
+pub mod local;
+mod place;
+pub mod region;
+mod sections;
+mod turn_sections;
+
+pub use local::Local;
+pub use region::{Region, Stepped};
+pub use sections::section;
