@@ -58,3 +58,4 @@ pub mod ChunkNoted
 pub mod ChunkLeft
 pub mod ChunkUnlinked
 pub mod ChunkPlaces
+pub mod ReachedSteps

@@ -257,7 +257,7 @@ module _ (c : Setup) (m : PlainMap) (k : ℕ) (once : (page : ℕ) → times pag
     legal_map (LookingAtDirty cpu ranges) s is proper own at few turn e = told_legal s _ e refl
     legal_map _ s is proper own at few turn e = absurd is
 
-trace_legal : (c : Setup) (units : 8 ≤ c.unit_pages) (w : World) (k : ℕ) (l : Local) (s : Section) → IsFramed c w → IsMapTraceWorld c w → IsStep w k l s → IsLegalStep w k l s
+pub trace_legal : (c : Setup) (units : 8 ≤ c.unit_pages) (w : World) (k : ℕ) (l : Local) (s : Section) → IsFramed c w → IsMapTraceWorld c w → IsStep w k l s → IsLegalStep w k l s
 trace_legal c units w k l s framed is step =
     let own = framed.own k l step.here in
     let proper = is.turns.proper.each k l step.here in

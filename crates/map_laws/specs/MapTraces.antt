@@ -8,7 +8,7 @@ use Rattle.vm_model.specs.Space.{end_of}
 use Rattle.vm_model.specs.Setup.{Setup}
 use Rattle.vm_model.specs.PlainMap.{PlainMap, Block, at_first}
 use Rattle.vm_model.specs.Legal.{IsUnmapped}
-use Rattle.vm_model.specs.History.{World, placing_calls}
+use Rattle.vm_model.specs.History.{World, placing_calls, step, finish, most_events, opening_world, with_callers}
 use Rattle.vm_model.specs.Rules.{IsTrace}
 use Rattle.vm_model.specs.Carried.{IsKept}
 use Rattle.vm_model.specs.LegalHistory.{IsReached}
@@ -52,3 +52,11 @@ HistoriesWithoutObjectsAreLegal = (c : Setup) (opening : List Call) (calls : Lis
 
 abbrev pub WhatIsCarriedWithoutObjectsIsKept : Type 0
 WhatIsCarriedWithoutObjectsIsKept = AlwaysWithoutObjects (λ c m w. IsKept c w)
+
+-- a step from a reached world, of whichever caller, leads to a reached world; the start of the callers is one
+pub record IsReachedOn (c : Setup) (opening : List Call) (calls : List (List Call)) : Type 0 where
+  pub started : IsReached c opening calls (with_callers c calls (finish most_events (opening_world c opening calls)))
+  pub steps : (w : World) (k : ℕ) → IsReached c opening calls w → IsReached c opening calls (step w k)
+
+abbrev pub StepsWithoutObjectsAreReached : Type 0
+StepsWithoutObjectsAreReached = (c : Setup) (opening : List Call) (calls : List (List Call)) → IsTrace c opening calls → AreWithoutObjects opening calls → IsReachedOn c opening calls

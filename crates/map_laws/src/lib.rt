@@ -5,7 +5,7 @@ ghost use Rattle.vm_model.specs.Laws.{ThePurgeTurnIsTakenLast, MoreFuelChangesNo
 ghost use Rattle.map_laws.specs.Turns.{TheTurnsAreKept};
 ghost use Rattle.map_laws.specs.Ends.{EveryRunEnds, HistoriesAreShort};
 ghost use Rattle.map_laws.specs.EveryTrace.{AreasAreAligned, FramesAreOwned};
-ghost use Rattle.map_laws.specs.MapTraces.{AreasWithoutObjectsAreDisjointAndAligned, TheGuardWithoutObjectsIsNeverMapped, FreePagesAreCleanWithoutObjects, PartsWithoutObjectsAreDisjoint, WhatIsCarriedWithoutObjectsIsKept, HistoriesWithoutObjectsAreLegal};
+ghost use Rattle.map_laws.specs.MapTraces.{AreasWithoutObjectsAreDisjointAndAligned, TheGuardWithoutObjectsIsNeverMapped, FreePagesAreCleanWithoutObjects, PartsWithoutObjectsAreDisjoint, WhatIsCarriedWithoutObjectsIsKept, HistoriesWithoutObjectsAreLegal, StepsWithoutObjectsAreReached};
 
 /// Each of the two turns is with the one caller whose place has it, and the purge turn is taken last.
 pub fn turns()
@@ -28,8 +28,8 @@ pub fn every_trace()
 {}
 
 /// In traces whose calls use no per-CPU object: areas are disjoint and aligned, a guard is never mapped, free pages are
-/// clean, the parts of a block are disjoint, what callers carry is kept, and the history is one legal history in which
-/// every caller ends.
+/// clean, the parts of a block are disjoint, what callers carry is kept, the history is one legal history in which every
+/// caller ends, and each step of a caller leads from a world of legal histories to another.
 pub fn traces_without_objects()
     ensures apart { AreasWithoutObjectsAreDisjointAndAligned }
     ensures guard { TheGuardWithoutObjectsIsNeverMapped }
@@ -37,4 +37,5 @@ pub fn traces_without_objects()
     ensures parts { PartsWithoutObjectsAreDisjoint }
     ensures carried { WhatIsCarriedWithoutObjectsIsKept }
     ensures legal { HistoriesWithoutObjectsAreLegal }
+    ensures steps { StepsWithoutObjectsAreReached }
 {}

@@ -4,3 +4,4 @@ pub mod LiveRows
 pub mod Regions
 pub mod Sections
 pub mod Lawful
+pub mod Kernels

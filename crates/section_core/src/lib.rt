@@ -6,12 +6,14 @@ mod begin;
 mod busy_sections;
 mod busy_side;
 mod free_sections;
+pub mod kernel;
 pub mod local;
 mod place;
 pub mod region;
 mod sections;
 mod turn_sections;
 
+pub use kernel::Kernel;
 pub use local::Local;
 pub use region::{Region, Stepped};
 pub use sections::section;

@@ -1,0 +1,88 @@
+//! The kernel: all regions and all callers, one step after another.
+ghost use Rattle.std.specs.Prelude.{◌≡◌, ◌≢◌, ◌<◌, ◌≤◌, ℕ, List, All, Some, length, take, slice_get, IfOk, OnOk, OnErr};
+ghost use Rattle.vm_model.specs.declared.calls.Call.{Call};
+ghost use Rattle.vm_model.specs.Setup.{Setup};
+ghost use Rattle.vm_model.specs.History.{World, step, pick_all, first_mover, finish, most_events};
+ghost use Rattle.vm_model.specs.LegalHistory.{AllOver};
+ghost use Rattle.vm_model.specs.Parts.{wants, moves, after};
+ghost use Rattle.vm_model.specs.Run.{section_by};
+ghost use Rattle.section_core.specs.Lawful.{IsLawful};
+ghost use Rattle.section_core.specs.Kernels.{KernelState, IsStanding, IsSteppedAs, SectionAs};
+
+use crate::local::Local;
+use crate::region::{Region, Stepped};
+use crate::sections::section;
+use std::alloc::AllocError;
+use std::marker::Model;
+
+/// More events than any trace makes.
+const MOST_EVENTS: u32 = 100_000_000;
+
+/// An allocator and its callers: the opening is caller 0.
+#[derive(Drop)]
+pub struct Kernel {
+    regions: Vec<Region>,
+    locals: Vec<Local>,
+    moved: Vec<u16>,
+}
+
+impl Model for Kernel {
+    ghost use Rattle.section_core.specs.Kernels.{KernelState, IsSomewhere};
+
+    ghost Value = { KernelState };
+
+    ghost view = { λ k. record { regions = k.regions.items; locals = k.locals.items; moved = k.moved.items } };
+
+    ghost invariant = { λ k. IsSomewhere (record { regions = k.regions.items; locals = k.locals.items; moved = k.moved.items }) };
+}
+
+/// The next section of a caller, over the region of all that it wants.
+fn section_of(
+    regions: &mut [Region],
+    locals: &mut [Local],
+    caller: usize,
+) -> Result<Stepped, AllocError>
+    requires caller { caller < length locals.old }
+    requires lawful { IsLawful regions.old locals.old }
+    ensures ok { OnOk result ((regions.new, locals.new) ≡ section_by wants moves after (regions.old, locals.old) caller (slice_get locals.old caller)) }
+    ensures ended { IfOk result (SectionAs (regions.old, locals.old) caller) }
+    ensures err { OnErr result ((regions.new ≡ regions.old) × (locals.new ≡ locals.old)) }
+{
+    let local = &mut locals[caller];
+    let Some(number) = local.wants() else {
+        return Ok(Stepped::Ended);
+    };
+    section(local, &mut regions[number as usize])
+}
+
+impl Kernel {
+    /// One event of a caller, by its number. It stays where its next section takes a turn that another has, and it has
+    /// ended where all its calls are answered; then nothing changes. An error changes nothing either.
+    pub fn step(&mut self, caller: u16) -> Result<Stepped, AllocError>
+        requires { caller < length self.old.locals }
+        ensures ok { OnOk result ((c : Setup) (opening : List Call) (calls : List (List Call)) (w : World) → IsStanding c opening calls w self.old → IsStanding c opening calls (step w caller) self.new) }
+        ensures stepped { IfOk result (λ stepped. (c : Setup) (opening : List Call) (calls : List (List Call)) (w : World) → IsStanding c opening calls w self.old → IsSteppedAs w caller stepped) }
+        ensures callers { length self.new.locals ≡ length self.old.locals }
+        ensures err { OnErr result (self.new ≡ self.old) }
+    {
+        self.moved.reserve(1)?;
+        let stepped = section_of(&mut self.regions, &mut self.locals, caller as usize)?;
+        if stepped == Stepped::Moved {
+            self.moved.push_reserved(caller);
+        }
+        Ok(stepped)
+    }
+
+    /// One step for each pick, in their order. After an error the kernel stands where the picks before it led.
+    pub fn run(&mut self, picks: &[u16]) -> Result<(), AllocError>
+        requires { All (λ (pick : ℕ). pick < length self.old.locals) picks.now }
+        ensures ok { OnOk result ((c : Setup) (opening : List Call) (calls : List (List Call)) (w : World) → IsStanding c opening calls w self.old → IsStanding c opening calls (pick_all w picks.now) self.new) }
+        ensures callers { length self.new.locals ≡ length self.old.locals }
+        ensures err { OnErr result ((n : ℕ) × (n < length picks.now) × ((c : Setup) (opening : List Call) (calls : List (List Call)) (w : World) → IsStanding c opening calls w self.old → IsStanding c opening calls (pick_all w (take n picks.now)) self.new)) }
+    {
+        for pick in picks {
+            self.step(*pick)?;
+        }
+        Ok(())
+    }
+}
