@@ -4,3 +4,4 @@ pub mod Moved
 pub mod FreeSections
 pub mod Counted
 pub mod LawfulRegions
+pub mod SectionsMade

@@ -1,0 +1,4 @@
+pub mod Pages
+pub mod FrameList
+pub mod StaleList
+pub mod Words

@@ -1,0 +1,38 @@
+-- The page map, as a list of pages, and the cells of its frames.
+use Rattle.std.specs.Prelude.{◌≡◌, ℕ, ◌^◌, ◌/◌, ◌<◌, Bool, false, not, List, length, filter, count_by, slice_get, Option, Some, None, is_some, ℤ}
+use Rattle.vm_model.specs.Space.{count_from}
+use Rattle.vm_model.specs.Frames.{is_used}
+use Rattle.page_pool.specs.FrameList.{FrameList}
+
+-- of each page its frame and whether it is stale, and of each frame in turn 1,024 cells
+pub record Pages : Type 0 where
+  pub frames : List (Option ℕ)
+  pub stale : List Bool
+  pub cells : List ℤ
+
+-- how many frames of memory there are
+abbrev pub memory : Pages → ℕ
+memory p = length p.cells / 1024
+
+-- the frames that no page has, lowest first
+abbrev pub free_of : Pages → List ℕ
+free_of p = filter (λ frame. not (is_used frame p.frames)) (count_from (memory p) 0)
+
+-- how many pages are mapped, and how many are stale
+abbrev pub mapped_count : Pages → ℕ
+mapped_count p = count_by is_some p.frames
+
+abbrev pub stale_count : Pages → ℕ
+stale_count p = count_by (λ b. b) p.stale
+
+-- the page is unmapped, and not stale
+pub record IsBare (p : Pages) (page : ℕ) : Type 0 where
+  pub unmapped : slice_get p.frames page ≡ Some None
+  pub not_stale : slice_get p.stale page ≡ Some false
+
+-- what is kept beside the pages: their free frames, and how many are mapped
+pub record IsKept (p : Pages) (free : FrameList) (mapped : ℕ) : Type 0 where
+  pub frees : free ≡ record { numbers = free_of p; memory = memory p }
+  pub count : mapped ≡ mapped_count p
+  pub space : length p.frames < 2 ^ 32
+  pub alike : length p.stale ≡ length p.frames

@@ -1,0 +1,114 @@
+//! The page map.
+ghost use Rattle.std.specs.Prelude.{◌≡◌, ◌*◌, ◌≤◌, ◌<◌, ◌^◌, ℕ, true, false, None, pos, length, replicate, drop, OnOk, OnErr, IfOk, IfErr};
+ghost use Rattle.vm_model.specs.Space.{holds, end_of, pages_of};
+ghost use Rattle.vm_model.specs.Frames.{give_frames};
+ghost use Rattle.page_pool.specs.Pages.{Pages, free_of, mapped_count, stale_count, IsBare};
+
+use crate::cells::Cells;
+use crate::free_frames::FreeFrames;
+use crate::stale_pages::StalePages;
+use std::alloc::{AllocError, Global};
+use std::marker::Model;
+use vm_model::Span;
+
+/// There are fewer free frames than pages to map.
+#[derive(Clone, Copy, Debug, PartialEq, Eq)]
+pub struct NoFrames {
+    /// The pages.
+    pub asked: u32,
+    /// The free frames.
+    pub free: u32,
+}
+
+/// Which frame each page of a space has, which pages are stale, and the words of memory.
+#[derive(Drop)]
+pub struct PageSide {
+    frames: Vec<Option<u32>>,
+    free: FreeFrames,
+    mapped: u32,
+    stale: StalePages,
+    cells: Cells,
+}
+
+impl Model for PageSide {
+    ghost use Rattle.page_pool.specs.Pages.{Pages, IsKept};
+
+    ghost Value = { Pages };
+
+    ghost view = { λ s. record { frames = s.frames.items; stale = s.stale; cells = s.cells } };
+
+    ghost invariant = { λ s. IsKept (record { frames = s.frames.items; stale = s.stale; cells = s.cells }) s.free s.mapped };
+}
+
+/// Gives the pages of a span the lowest free frames, by rising page.
+fn give_lowest(frames: &mut [Option<u32>], free: &mut FreeFrames, span: Span)
+    requires inside { end_of span ≤ length frames.old }
+    requires space { length frames.old < 2 ^ 32 }
+    requires enough { span.pages ≤ length free.old.numbers }
+    ensures frames { frames.new ≡ give_frames (pages_of span) free.old.numbers frames.old }
+    ensures free { free.new ≡ record free.old { numbers = drop span.pages free.old.numbers } }
+{
+    for page in span.start..span.start + span.pages {
+        frames[page as usize] = Some(free.take_lowest());
+    }
+}
+
+impl PageSide {
+    /// A space of so many pages over a memory of so many frames: nothing is mapped, nothing is stale, and each word
+    /// is 0. It takes all the memory that the side ever needs.
+    pub fn new(alloc: Global, space: u32, frames: u32) -> Result<PageSide, AllocError>
+        ensures { IfOk result (λ side. side ≡ record { frames = replicate space None; stale = replicate space false; cells = replicate (1024 * frames) (pos 0) }) }
+    {
+        Ok(PageSide {
+            frames: vec![in alloc; None; space as usize]?,
+            free: FreeFrames::all(alloc, frames)?,
+            mapped: 0,
+            stale: StalePages::none(alloc, space)?,
+            cells: Cells::zero(alloc, frames)?,
+        })
+    }
+
+    /// Maps the pages of a span, which are neither mapped nor stale: by rising number each gets the lowest free frame,
+    /// as the page tables get them from `alloc_page`. Where there are too few, nothing is changed. It takes no memory.
+    pub fn map(&mut self, span: Span) -> Result<(), NoFrames>
+        requires inside { end_of span ≤ length self.old.frames }
+        requires bare { (page : ℕ) → holds span page ≡ true → IsBare self.old page }
+        ensures mapped { OnOk result (self.new ≡ record self.old { frames = give_frames (pages_of span) (free_of self.old) self.old.frames }) }
+        ensures enough { OnOk result (span.pages ≤ length (free_of self.old)) }
+        ensures refused { IfErr result (λ refusal. refusal ≡ record { asked = span.pages; free = length (free_of self.old) }) }
+        ensures too_few { OnErr result (length (free_of self.old) < span.pages) }
+        ensures err { OnErr result (self.new ≡ self.old) }
+    {
+        let free = self.free.len();
+        if free < span.pages {
+            return Err(NoFrames {
+                asked: span.pages,
+                free,
+            });
+        }
+        give_lowest(&mut self.frames, &mut self.free, span);
+        self.mapped += span.pages;
+        Ok(())
+    }
+
+    /// How many frames no page has. It takes no memory.
+    pub fn free_frames(&self) -> u32
+        ensures { result ≡ length (free_of self.now) }
+    {
+        self.free.len()
+    }
+
+    /// How many pages are mapped. It takes no memory.
+    pub fn mapped(&self) -> u32
+        ensures { result ≡ mapped_count self.now }
+    {
+        self.mapped
+    }
+
+    /// How many pages are stale. It takes no memory.
+    pub fn stale(&self) -> u32
+        ensures { result ≡ stale_count self.now }
+    {
+        self.stale.len()
+    }
+}
