@@ -68,7 +68,7 @@ map_call : (call : Call) → IsVmallocCall (Some call) → IsMapCall call
 map_call (Vmalloc bytes align) is = tt
 map_call _ is = absurd is
 
-without_objects : (c : Setup) (opening : List Call) (calls : List (List Call)) (w : World) → IsRunning c opening calls w → AreWithoutObjects opening calls
+pub without_objects : (c : Setup) (opening : List Call) (calls : List (List Call)) (w : World) → IsRunning c opening calls w → AreWithoutObjects opening calls
 without_objects c opening calls w is = record {
   of_opening = λ i call h. map_call call (is.opening_built i call h);
   of_callers = λ k own h i call at. map_call call (is.callers_built k own h i call at);

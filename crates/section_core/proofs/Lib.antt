@@ -5,3 +5,5 @@ pub mod FreeSections
 pub mod Counted
 pub mod LawfulRegions
 pub mod SectionsMade
+pub mod Picks
+pub mod Callers

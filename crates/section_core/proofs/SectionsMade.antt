@@ -1,12 +1,15 @@
 -- A section over a list of regions and a list of callers, and the step of a world that it is.
-use Rattle.std.proofs.Common.{◌≡◌, ◌≢◌, ℕ, Bool, true, false, inl, inr, List, [], ◌∷◌, ◌++◌, length, map, slice_get, slice_set, Option, Some, None, is_some, refl, ap, sym, ◌∙◌, subst}
-use Rattle.std.proofs.lemmas.List.{map_append}
+use Rattle.std.proofs.Common.{Vec, Global, Result, Ok, Err, IfOk, OnOk, ◌<◌, zero, suc, ◌≡◌, ◌≢◌, ℕ, Bool, true, false, inl, inr, List, [], ◌∷◌, ◌++◌, length, map, slice_get, slice_set, Option, Some, None, is_some, refl, ap, sym, ◌∙◌, subst}
+use Rattle.std.proofs.lemmas.List.{map-append, with_items_is}
+use Rattle.std.specs.Vec.{with_items}
+use Rattle.std.proofs.lemmas.Option.{slice_get_within}
+use Rattle.std.specs.declared.alloc.AllocError.{AllocError}
 use Rattle.vm_model.specs.declared.calls.Call.{Call}
 use Rattle.vm_model.specs.Setup.{Setup}
 use Rattle.vm_model.specs.Events.{Section, Event}
 use Rattle.vm_model.specs.Places.{Ask, AskNothing, ask}
 use Rattle.vm_model.specs.Given.{given, can_move}
-use Rattle.vm_model.specs.History.{World, Local, section_of, event_of, made_if, step, step_of}
+use Rattle.vm_model.specs.History.{World, Local, moves_in, section_of, event_of, made_if, step, step_of}
 use Rattle.vm_model.specs.Parts.{Region, regions_of, number_of, wants, moves, after, state_of}
 use Rattle.vm_model.specs.Run.{section_by}
 use Rattle.vm_model.specs.Rules.{IsSetup}
@@ -22,12 +25,14 @@ use Rattle.map_laws.proofs.ReachedSteps.{steps_reached}
 use Rattle.section_core.specs.declared.region.Stepped.{Stepped}
 use Rattle.section_core.specs.declared.region.Stepped.TheVariants.{Moved, Stays, Ended}
 use Rattle.section_core.specs.Sections.{IsMoved, HasStayed, Answers}
-use Rattle.section_core.specs.Lawful.{IsRunning}
-use Rattle.section_core.specs.Kernels.{KernelState, IsStanding, IsSteppedAs, StepsAs, SectionAs, movers}
+use Rattle.section_core.specs.Lawful.{IsRunning, IsLawful}
+use Rattle.section_core.specs.Kernels.{KernelState, IsStanding, IsSomewhere, IsSteppedAs, StepsAs, SectionAs, movers}
 use Rattle.section_core.proofs.LawfulRegions.{without_objects, sound}
 
 set_there : {X : Type 0} (xs : List X) (i : ℕ) (x : X) → slice_get xs i ≡ Some x → slice_set xs i x ≡ xs
-set_there xs i x at = ?
+set_there [] i x at = cc
+set_there (y ∷ xs) zero x at = let same : y ≡ x = cc in ap (λ z. z ∷ xs) (sym same)
+set_there (y ∷ xs) (suc i) x at = ap (λ zs. y ∷ zs) (set_there xs i x at)
 
 -- the two values that a section leaves, in their places
 module _ (rs : List Region) (ls : List Local) (k n : ℕ) (l : Local) (r : Region) (here : slice_get ls k ≡ Some l) (wanted : wants l ≡ Some n) (there : slice_get rs n ≡ Some r) where
@@ -53,6 +58,15 @@ module _ (rs : List Region) (ls : List Local) (k n : ℕ) (l : Local) (r : Regio
   section_as Moved l' r' is = (l, n, r, here, wanted, there, is.moves)
   section_as Stays l' r' is = (l, n, r, here, wanted, there, is.stays)
   section_as Ended l' r' is = absurd is
+
+  pub made_ok : (l' : Local) (r' : Region) (result : Result Stepped AllocError) → IfOk result (Answers l r l' r')
+      → OnOk result ((slice_set rs n r', slice_set ls k l') ≡ section_by wants moves after (rs, ls) k (slice_get ls k))
+  made_ok l' r' (Ok stepped) is = put_back stepped l' r' is
+  made_ok l' r' (Err e) is = tt
+
+  pub made_as : (l' : Local) (r' : Region) (result : Result Stepped AllocError) → IfOk result (Answers l r l' r') → IfOk result (SectionAs (rs, ls) k)
+  made_as l' r' (Ok stepped) is = section_as stepped l' r' is
+  made_as l' r' (Err e) is = tt
 
 -- who wants nothing leaves all as it is
 pub put_ended : (rs : List Region) (ls : List Local) (k : ℕ) (l : Local) → slice_get ls k ≡ Some l → wants l ≡ None → (rs, ls) ≡ section_by wants moves after (rs, ls) k (slice_get ls k)
@@ -93,12 +107,21 @@ module _ (c : Setup) (opening : List Call) (calls : List (List Call)) (w : World
         let same : r ≡ over.region = (let both : Some r ≡ Some over.region = sym there ∙ ap (λ d. slice_get (regions_of d w.map) n) (sym mine.setup) ∙ over.here in cc) in
         ap (moves l) same ∙ over.moves_alike
 
+    -- the region that it wants is there
+    pub wanted_there : (n : ℕ) → wants l ≡ Some n → n < length (regions_of c w.map)
+    wanted_there n wanted =
+        let setup : IsSetup l.setup = subst IsSetup (sym mine.setup) is.trace.setup in
+        let kept : KeepsApart l.setup w = subst (λ d. KeepsApart d w) (sym mine.setup) apart in
+        let over : IsOverOneRegion l.setup w.map k (ask l.setup l.place) n =
+        over_one_region l.setup w.map k (ask l.setup l.place) n (kept_worlds_fall_apart l.setup w setup kept) (kept_callers_stay_within l.setup w k l setup kept here) wanted in
+        slice_get_within (regions_of c w.map) n over.region (ap (λ d. slice_get (regions_of d w.map) n) (sym mine.setup) ∙ over.here)
+
     step_is : step w k ≡ made_if w l (section_of w.map l)
     step_is = ap (step_of w) here
 
     made_some : (o : Option Section) → section_of w.map l ≡ o → is_some o ≡ true → movers (made_if w l o).events ≡ movers w.events ++ k ∷ []
     made_some None e h = cc
-    made_some (Some s) e h = map_append (λ (e : Event). e.caller) w.events (event_of l s ∷ []) ∙ ap (λ j. movers w.events ++ j ∷ []) mine.caller
+    made_some (Some s) e h = map-append (λ (e : Event). e.caller) w.events (event_of l s ∷ []) ∙ ap (λ j. movers w.events ++ j ∷ []) mine.caller
 
     made_none : (o : Option Section) → section_of w.map l ≡ o → is_some o ≡ false → made_if w l o ≡ w
     made_none None e h = refl
@@ -130,11 +153,16 @@ module _ (c : Setup) (opening : List Call) (calls : List (List Call)) (w : World
   movers_after k Stays moved s one none = none (λ e. cc) ∙ sym (ap (λ (v : World). movers v.events) (world_stays k s.0 s.1 s.2.0))
   movers_after k Ended moved s one none = none (λ e. cc) ∙ sym (ap (λ (v : World). movers v.events) (world_stays k s.0 s.1 (nothing_moves s.0 s.2)))
 
+pub wanted_within : (rs : List Region) (ls : List Local) (k n : ℕ) (l : Local) → IsLawful rs ls → slice_get ls k ≡ Some l → wants l ≡ Some n → n < length rs
+wanted_within rs ls k n l law here wanted =
+    let at : slice_get law.3.locals k ≡ Some l = subst (λ (s : List Region × List Local). slice_get s.1 k ≡ Some l) law.5 here in
+    subst (λ (s : List Region × List Local). n < length s.0) (sym law.5) (wanted_there law.0 law.1 law.2 law.3 law.4 k l at n wanted)
+
 -- a kernel that stands in a world stands in the next one after a step
 pub stands_next : (c : Setup) (opening : List Call) (calls : List (List Call)) (w : World) (old new : KernelState) (k : ℕ) (stepped : Stepped) → IsStanding c opening calls w old
     → (new.regions, new.locals) ≡ section_by wants moves after (old.regions, old.locals) k (slice_get old.locals k) → SectionAs (old.regions, old.locals) k stepped
     → (stepped ≡ Moved → new.moved ≡ old.moved ++ k ∷ []) → (stepped ≢ Moved → new.moved ≡ old.moved) → IsStanding c opening calls (step w k) new
-stands_next c opening calls w old new k stepped st made as one none =
+stands_next c opening calls w old new k stepped st made how one none =
     let run = st.running in
     let state : (old.regions, old.locals) ≡ state_of c w = ap (λ rs. (rs, old.locals)) st.regions ∙ ap (λ ls. (regions_of c w.map, ls)) st.locals in
     let all : (new.regions, new.locals) ≡ state_of c (step w k) =
@@ -143,12 +171,60 @@ stands_next c opening calls w old new k stepped st made as one none =
       running = next_running c opening calls w run k;
       regions = ap (λ (s : List Region × List Local). s.0) all;
       locals = ap (λ (s : List Region × List Local). s.1) all;
-      moved = movers_after c opening calls w run k stepped new.moved (stepped_as c opening calls w run k stepped (subst (λ s. SectionAs s k stepped) state as))
+      moved = movers_after c opening calls w run k stepped new.moved (stepped_as c opening calls w run k stepped (subst (λ s. SectionAs s k stepped) state how))
           (λ e. one e ∙ ap (λ xs. xs ++ k ∷ []) st.moved) (λ e. none e ∙ st.moved);
     }
 
 pub stepped_in : (c : Setup) (opening : List Call) (calls : List (List Call)) (w : World) (old : KernelState) (k : ℕ) (stepped : Stepped) → IsStanding c opening calls w old
     → SectionAs (old.regions, old.locals) k stepped → IsSteppedAs w k stepped
-stepped_in c opening calls w old k stepped st as =
+stepped_in c opening calls w old k stepped st how =
     let state : (old.regions, old.locals) ≡ state_of c w = ap (λ rs. (rs, old.locals)) st.regions ∙ ap (λ ls. (regions_of c w.map, ls)) st.locals in
-    stepped_as c opening calls w st.running k stepped (subst (λ s. SectionAs s k stepped) state as)
+    stepped_as c opening calls w st.running k stepped (subst (λ s. SectionAs s k stepped) state how)
+
+-- the lists of the kernel, written over by a section
+module _ (regions : Vec Region Global) (locals : Vec Local Global) (moved moved' : Vec ℕ Global) (k : ℕ) (stepped : Stepped) (rs rs' : List Region) (ls ls' : List Local)
+    (regions_were : rs ≡ regions.items) (locals_were : ls ≡ locals.items) (made : (rs', ls') ≡ section_by wants moves after (rs, ls) k (slice_get ls k)) where
+  regions_made : (with_items regions rs').items ≡ rs'
+  regions_made = with_items_is regions rs' (ap (λ (s : List Region × List Local). length s.0) made ∙ (run_of_sections wants moves after).as_many_regions (rs, ls) (k ∷ []) ∙ ap length regions_were ∙ sym regions.ok.0)
+
+  locals_made : (with_items locals ls').items ≡ ls'
+  locals_made = with_items_is locals ls' (ap (λ (s : List Region × List Local). length s.1) made ∙ (run_of_sections wants moves after).as_many_locals (rs, ls) (k ∷ []) ∙ ap length locals_were ∙ sym locals.ok.0)
+
+  abbrev old_state : KernelState
+  old_state = record { regions = regions.items; locals = locals.items; moved = moved.items }
+
+  pub stands_after : (c : Setup) (opening : List Call) (calls : List (List Call)) (w : World) → IsStanding c opening calls w (record { regions = regions.items; locals = locals.items; moved = moved.items }) → SectionAs (rs, ls) k stepped
+      → (stepped ≡ Moved → moved'.items ≡ moved.items ++ k ∷ []) → (stepped ≢ Moved → moved'.items ≡ moved.items)
+      → IsStanding c opening calls (step w k) (record { regions = (with_items regions rs').items; locals = (with_items locals ls').items; moved = moved'.items })
+  stands_after c opening calls w st how one none =
+      let were : (rs, ls) ≡ (regions.items, locals.items) = ap (λ x. (x, ls)) regions_were ∙ ap (λ x. (regions.items, x)) locals_were in
+      stands_next c opening calls w old_state (record { regions = (with_items regions rs').items; locals = (with_items locals ls').items; moved = moved'.items }) k stepped st
+      (ap (λ x. (x, (with_items locals ls').items)) regions_made ∙ ap (λ x. (rs', x)) locals_made ∙ made ∙ ap (λ (s : List Region × List Local). section_by wants moves after s k (slice_get s.1 k)) were)
+      (subst (λ s. SectionAs s k stepped) were how) one none
+
+  pub stepped_there : (c : Setup) (opening : List Call) (calls : List (List Call)) (w : World) → IsStanding c opening calls w (record { regions = regions.items; locals = locals.items; moved = moved.items }) → SectionAs (rs, ls) k stepped
+      → IsSteppedAs w k stepped
+  stepped_there c opening calls w st how =
+      let were : (rs, ls) ≡ (regions.items, locals.items) = ap (λ x. (x, ls)) regions_were ∙ ap (λ x. (regions.items, x)) locals_were in
+      stepped_in c opening calls w old_state k stepped st (subst (λ s. SectionAs s k stepped) were how)
+
+  pub as_many : length (with_items locals ls').items ≡ length locals.items
+  as_many = ap length locals_made ∙ ap (λ (s : List Region × List Local). length s.1) made ∙ (run_of_sections wants moves after).as_many_locals (rs, ls) (k ∷ []) ∙ ap length locals_were
+
+-- whether a caller of the kernel can move
+pub moves_there : (c : Setup) (opening : List Call) (calls : List (List Call)) (w : World) (k : KernelState) (caller n : ℕ) (l : Local) (r : Region) → IsStanding c opening calls w k
+    → slice_get k.locals caller ≡ Some l → wants l ≡ Some n → slice_get k.regions n ≡ Some r → moves l r ≡ moves_in w (slice_get w.locals caller)
+moves_there c opening calls w k caller n l r st here wanted there =
+    let at : slice_get w.locals caller ≡ Some l = ap (λ ls. slice_get ls caller) (sym st.locals) ∙ here in
+    moves_alike c opening calls w st.running caller l at n r wanted (ap (λ rs. slice_get rs n) (sym st.regions) ∙ there) ∙ sym (ap (moves_in w) at)
+
+pub nothing_there : (c : Setup) (opening : List Call) (calls : List (List Call)) (w : World) (k : KernelState) (caller : ℕ) (l : Local) → IsStanding c opening calls w k
+    → slice_get k.locals caller ≡ Some l → wants l ≡ None → false ≡ moves_in w (slice_get w.locals caller)
+nothing_there c opening calls w k caller l st here none =
+    let at : slice_get w.locals caller ≡ Some l = ap (λ ls. slice_get ls caller) (sym st.locals) ∙ here in
+    sym (ap (moves_in w) at ∙ ap (can_move w.map) (asks_nothing (ask l.setup l.place) none))
+
+pub within_there : (k : KernelState) (caller n : ℕ) (l : Local) → IsSomewhere k → slice_get k.locals caller ≡ Some l → wants l ≡ Some n → n < length k.regions
+within_there k caller n l is here wanted =
+    let st = is.4 in
+    subst (λ rs. n < length rs) (sym st.regions) (wanted_there is.0 is.1 is.2 is.3 st.running caller l (ap (λ ls. slice_get ls caller) (sym st.locals) ∙ here) n wanted)

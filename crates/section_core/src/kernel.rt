@@ -1,8 +1,8 @@
 //! The kernel: all regions and all callers, one step after another.
-ghost use Rattle.std.specs.Prelude.{◌≡◌, ◌≢◌, ◌<◌, ◌≤◌, ℕ, List, All, Some, length, take, slice_get, IfOk, OnOk, OnErr};
+ghost use Rattle.std.specs.Prelude.{◌≡◌, ◌≢◌, ◌<◌, ◌≤◌, ℕ, List, All, Some, length, take, slice_get, IfOk, IfSome, OnOk, OnErr};
 ghost use Rattle.vm_model.specs.declared.calls.Call.{Call};
 ghost use Rattle.vm_model.specs.Setup.{Setup};
-ghost use Rattle.vm_model.specs.History.{World, step, pick_all, first_mover, finish, most_events};
+ghost use Rattle.vm_model.specs.History.{World, step, pick_all, moves_in, first_mover, finish, most_events};
 ghost use Rattle.vm_model.specs.LegalHistory.{AllOver};
 ghost use Rattle.vm_model.specs.Parts.{wants, moves, after};
 ghost use Rattle.vm_model.specs.Run.{section_by};
@@ -11,7 +11,7 @@ ghost use Rattle.section_core.specs.Kernels.{KernelState, IsStanding, IsSteppedA
 
 use crate::local::Local;
 use crate::region::{Region, Stepped};
-use crate::sections::section;
+use crate::sections::{moves, section};
 use std::alloc::AllocError;
 use std::marker::Model;
 
@@ -67,10 +67,23 @@ impl Kernel {
     {
         self.moved.reserve(1)?;
         let stepped = section_of(&mut self.regions, &mut self.locals, caller as usize)?;
-        if stepped == Stepped::Moved {
-            self.moved.push_reserved(caller);
+        match stepped {
+            Stepped::Moved => self.moved.push_reserved(caller),
+            Stepped::Stays | Stepped::Ended => {}
         }
         Ok(stepped)
+    }
+
+    /// Whether a caller's next section would move now.
+    fn can_move(&self, caller: u16) -> bool
+        requires { caller < length self.now.locals }
+        ensures { (c : Setup) (opening : List Call) (calls : List (List Call)) (w : World) → IsStanding c opening calls w self.now → result ≡ moves_in w (slice_get w.locals caller) }
+    {
+        let local = &self.locals[caller as usize];
+        match local.wants() {
+            Some(number) => moves(local, &self.regions[number as usize]),
+            None => false,
+        }
     }
 
     /// One step for each pick, in their order. After an error the kernel stands where the picks before it led.
@@ -82,6 +95,35 @@ impl Kernel {
     {
         for pick in picks {
             self.step(*pick)?;
+        }
+        Ok(())
+    }
+
+    /// The lowest caller that can move.
+    fn first_mover(&self) -> Option<u16>
+        ensures first { (c : Setup) (opening : List Call) (calls : List (List Call)) (w : World) → IsStanding c opening calls w self.now → result ≡ first_mover w }
+        ensures within { IfSome result (λ caller. caller < length self.now.locals) }
+    {
+        for caller in 0..self.locals.len() as u16 {
+            if self.can_move(caller) {
+                return Some(caller);
+            }
+        }
+        None
+    }
+
+    /// The lowest caller that can move, again and again, until all have ended. After an error the kernel stands where
+    /// the steps before it led.
+    pub fn finish(&mut self) -> Result<(), AllocError>
+        ensures ok { OnOk result ((c : Setup) (opening : List Call) (calls : List (List Call)) (w : World) → IsStanding c opening calls w self.old → IsStanding c opening calls (finish most_events w) self.new) }
+        ensures over { OnOk result ((c : Setup) (opening : List Call) (calls : List (List Call)) (w : World) → IsStanding c opening calls w self.old → AllOver self.new.locals) }
+        ensures callers { length self.new.locals ≡ length self.old.locals }
+    {
+        for _ in 0..MOST_EVENTS {
+            let Some(caller) = self.first_mover() else {
+                break;
+            };
+            self.step(caller)?;
         }
         Ok(())
     }

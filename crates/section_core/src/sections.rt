@@ -2,13 +2,14 @@
 ghost use Rattle.std.specs.Prelude.{◌≡◌, IfOk, OnErr};
 ghost use Rattle.vm_model.specs.Places.{ask};
 ghost use Rattle.vm_model.specs.Run.{StandTogether};
-ghost use Rattle.vm_model.specs.Parts.{wants};
+ghost use Rattle.vm_model.specs.Parts.{wants, moves};
 ghost use Rattle.section_core.specs.Lawful.{IsLawful};
 ghost use Rattle.section_core.specs.Sections.{Answers, TakesMemory};
 
 use crate::busy_sections::at_busy;
 use crate::free_sections::at_free;
 use crate::local::Local;
+use crate::place::Place;
 use crate::region::{Region, Side, Stepped};
 use crate::turn_sections::{at_blocks, at_desk, at_lazy, at_purge};
 use std::alloc::AllocError;
@@ -32,4 +33,14 @@ pub fn section(local: &mut Local, region: &mut Region) -> Result<Stepped, AllocE
         Side::Alloc(_) | Side::Percpu(_) => unreachable!(),
     }
     Ok(Stepped::Moved)
+}
+
+/// Whether the caller's next section would move over this region.
+pub(crate) fn moves(local: &Local, region: &Region) -> bool
+    ensures { result ≡ moves local.now region.now }
+{
+    match (local.place(), &region.side) {
+        (Place::Over, _) | (Place::PurgeTaking(_), Side::Purge(Some(_))) => false,
+        _ => true,
+    }
 }
