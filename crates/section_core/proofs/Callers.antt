@@ -1,15 +1,14 @@
 -- How many callers a world of a run has, and which of them moves first.
-use Rattle.std.proofs.Common.{◌≡◌, ℕ, suc, ◌+◌, ◌-◌, ◌<◌, ◌≤◌, ◌^◌, inl, inr, Bool, true, false, cond, List, [], ◌∷◌, length, find, slice_get, Option, Some, None, refl, ap, sym, ◌∙◌, subst, arith, length-append, length-set}
+use Rattle.std.proofs.Common.{◌≡◌, ℕ, suc, ◌+◌, ◌-◌, ◌<◌, ◌≤◌, inl, inr, Bool, true, false, cond, List, [], ◌∷◌, length, find, slice_get, Option, Some, None, refl, ap, sym, ◌∙◌, subst, arith, length-append, length-set}
 use Rattle.vm_model.specs.declared.calls.Call.{Call}
 use Rattle.vm_model.specs.Space.{count_from}
 use Rattle.vm_model.specs.Setup.{Setup}
 use Rattle.vm_model.specs.Calls.{Answered}
-use Rattle.vm_model.specs.History.{World, Local, moves_in, first_mover, finish, most_events, moved_to, opening_world, opening_answers, callers_from, with_callers}
+use Rattle.vm_model.specs.History.{World, moves_in, finish, most_events, moved_to, opening_answers, callers_from}
 use Rattle.vm_model.specs.Next.{next}
 use Rattle.vm_model.specs.LegalHistory.{IsReached, AllOver}
 use Rattle.map_laws.proofs.EndProofs.{every_run_ends}
 use Rattle.map_laws.proofs.Frames.{reached_have}
-use Rattle.section_core.specs.Lawful.{IsRunning}
 use Rattle.section_core.specs.Kernels.{KernelState, IsStanding, IsSomewhere}
 
 length-callers_from : (c : Setup) (answers : List Answered) (k : ℕ) (calls : List (List Call)) → length (callers_from c answers k calls) ≡ length calls

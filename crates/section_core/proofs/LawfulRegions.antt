@@ -1,18 +1,18 @@
 -- What a caller and the region that it wants are, in a world of a run.
-use Rattle.std.proofs.Common.{option_map, ◌≡◌, ℕ, zero, suc, ◌+◌, ◌-◌, ◌<◌, ◌≤◌, ◌^◌, true, false, not, List, length, map, slice_get, Some, refl, ap, sym, ◌∙◌, subst, arith}
+use Rattle.std.proofs.Common.{None, [], ◌*◌, option_map, ◌≡◌, ℕ, zero, suc, ◌+◌, ◌-◌, ◌<◌, ◌≤◌, ◌^◌, true, false, not, List, length, map, slice_get, Some, refl, ap, sym, ◌∙◌, subst, arith}
 use Rattle.std.proofs.lemmas.List.{length-map}
 use Rattle.std.proofs.lemmas.Bool.Decides.{nat_tests}
-use Rattle.vm_model.specs.Carried.{held}
+use Rattle.vm_model.specs.Carried.{held, fresh}
 use Rattle.vm_model.specs.Legal.{OnEach}
 use Rattle.std.proofs.lemmas.Option.{slice_get-map, slice_get_within}
 use Rattle.vm_model.specs.declared.calls.Call.{Call}
 use Rattle.vm_model.specs.declared.calls.Call.TheVariants.{Vmalloc}
 use Rattle.vm_model.specs.declared.areas.Span.{Span}
-use Rattle.vm_model.specs.Space.{holds, covers, runs, end_of, is_open, count_from}
+use Rattle.vm_model.specs.Space.{span, holds, covers, runs, end_of, is_open, count_from}
 use Rattle.vm_model.specs.Setup.{Setup, cpus}
 use Rattle.vm_model.specs.PlainMap.{PlainMap, Mark, Held, is_free, taken, free_runs}
 use Rattle.vm_model.specs.Legal.{IsMarked}
-use Rattle.vm_model.specs.Places.{Place, Dropping}
+use Rattle.vm_model.specs.Places.{Place, Dropping, MappingArea}
 use Rattle.vm_model.specs.History.{World, Local, most_events}
 use Rattle.vm_model.specs.Rules.{IsVmallocCall}
 use Rattle.vm_model.specs.Carried.{IsKept}
@@ -28,7 +28,11 @@ use Rattle.section_core.specs.declared.place.Place.{Place as Code}
 use Rattle.section_core.specs.declared.place.Place.TheVariants as code
 use Rattle.map_laws.proofs.Spans.{covers_one}
 use Rattle.section_core.specs.Places.{place_of, IsSized}
-use Rattle.section_core.specs.Sections.{AreRunsOf, IsDroppable, IsDroppedWell}
+use Rattle.section_core.specs.Sections.{AreRunsOf, IsDroppable, IsDroppedWell, IsMappable, IsMappedWell}
+use Rattle.section_core.proofs.Memory.{memory_reached}
+use Rattle.page_pool.specs.Pages as page_pool
+use Rattle.vm_model.specs.Legal as map_bare
+use Rattle.vm_model.specs.declared.areas.AreaKind.TheVariants as kind
 use Rattle.section_core.specs.Lawful.{IsRunning, IsLawful}
 use Rattle.section_core.proofs.Counted.{reached_counted, events_of-le}
 
@@ -62,6 +66,9 @@ region_number c m (suc (suc (suc (suc (suc (suc (suc (suc i)))))))) r h = let e 
 
 holds_last : (s : Span) → 1 ≤ s.pages → holds s (end_of s - 1) ≡ true
 holds_last s some = grind (arith, nat_tests)
+
+holds_front : (s : Span) (page : ℕ) → holds (span s.start (s.pages - 1)) page ≡ true → holds s page ≡ true
+holds_front s page h = grind (arith, nat_tests)
 
 -- calls of the built words use no object
 map_call : (call : Call) → IsVmallocCall (Some call) → IsMapCall call
@@ -130,6 +137,37 @@ module _ (c : Setup) (opening : List Call) (calls : List (List Call)) (w : World
       by_place (code.PurgeCollecting s) sized at = tt
       by_place (code.PurgeGiving s) sized at = tt
 
+  -- what is mapped for an area is bare
+  mappable : (s : Span) → 1 ≤ s.pages → l.place ≡ MappingArea s kind.Vmalloc → IsMappable s (record { frames = w.map.frames; stale = w.map.stale; cells = w.map.cells })
+  mappable s some at =
+      let bare : (page : ℕ) → holds s page ≡ true → map_bare.IsBare w.map page
+      = λ page h. subst (λ (p : Place). OnEach (fresh l.setup p) (map_bare.IsBare w.map)) at (kept.carried k l here).fresh_bare page (covers_one s page ∙ h) in
+      record {
+        inside =
+            let last = slice_get_within w.map.frames (end_of s - 1) None (bare (end_of s - 1) (holds_last s some)).unmapped in
+            omega arith;
+        bare = λ page h. let is = bare page (holds_front s page h) in record { unmapped = is.unmapped; not_stale = is.not_stale };
+      }
+
+  pub mapped_well : (p : Code) → IsSized p → l.place ≡ place_of p → IsMappedWell l.place (record { frames = w.map.frames; stale = w.map.stale; cells = w.map.cells })
+  mapped_well p sized at = subst (λ q. IsMappedWell q (record { frames = w.map.frames; stale = w.map.stale; cells = w.map.cells })) (sym at) (by_place p sized at)
+    where
+      by_place : (p : Code) → IsSized p → l.place ≡ place_of p → IsMappedWell (place_of p) (record { frames = w.map.frames; stale = w.map.stale; cells = w.map.cells })
+      by_place (code.MappingArea s) sized at = mappable s sized.0 at
+      by_place code.Over sized at = tt
+      by_place (code.Refusing r) sized at = tt
+      by_place (code.Finding s) sized at = tt
+      by_place (code.FindingAgain s) sized at = tt
+      by_place (code.Dropping s) sized at = tt
+      by_place (code.SettlingArea s) sized at = tt
+      by_place (code.PurgeTaking s) sized at = tt
+      by_place (code.PurgeFragmenting s) sized at = tt
+      by_place (code.PurgeCollecting s) sized at = tt
+      by_place (code.PurgeGiving s) sized at = tt
+
+  pub memory_here : length w.map.cells ≡ 1024 * l.setup.frames
+  memory_here = memory_reached c opening calls w is.reached ∙ ap (λ (d : Setup). 1024 * d.frames) (sym sound.setup)
+
 -- a caller and its region in one state of a run
 pub record AreInOneState (l : Local) (r : Region) : Type 0 where
   pub c : Setup
@@ -174,3 +212,23 @@ runs_there l blocks st = let s = in_one_state l (FreeRuns blocks) st in
 pub dropped_there : (l : Local) (blocks : List Span) (p : Code) → StandTogether wants IsLawful l (FreeRuns blocks) → IsSized p → l.place ≡ place_of p → IsDroppedWell l.setup l.place blocks
 dropped_there l blocks p st sized at = let s = in_one_state l (FreeRuns blocks) st in
     subst (IsDroppedWell l.setup l.place) (free_there s.c s.w.map s.number blocks s.there) (dropped_well s.c s.opening s.calls s.w s.running s.k l s.here p sized at)
+
+abbrev pages_held : Region → page_pool.Pages
+pages_held (Pages frames stale cells) = record { frames = frames; stale = stale; cells = cells }
+pages_held _ = record { frames = []; stale = []; cells = [] }
+
+-- the region that has the page map has that of the world
+pub pages_there : (c : Setup) (m : PlainMap) (n : ℕ) (p : page_pool.Pages) → slice_get (regions_of c m) n ≡ Some (Pages p.frames p.stale p.cells) → record { frames = m.frames; stale = m.stale; cells = m.cells } ≡ p
+pages_there c m n p h =
+    let e = region_number c m n (Pages p.frames p.stale p.cells) h in
+    let at : Some (Pages m.frames m.stale m.cells) ≡ Some (Pages p.frames p.stale p.cells) = sym (ap (slice_get (regions_of c m)) e) ∙ h in
+    let same : Pages m.frames m.stale m.cells ≡ Pages p.frames p.stale p.cells = cc in
+    ap pages_held same
+
+pub mapped_there : (l : Local) (pages : page_pool.Pages) (p : Code) → StandTogether wants IsLawful l (Pages pages.frames pages.stale pages.cells) → IsSized p → l.place ≡ place_of p → IsMappedWell l.place pages
+mapped_there l pages p st sized at = let s = in_one_state l (Pages pages.frames pages.stale pages.cells) st in
+    subst (IsMappedWell l.place) (pages_there s.c s.w.map s.number pages s.there) (mapped_well s.c s.opening s.calls s.w s.running s.k l s.here p sized at)
+
+pub memory_there : (l : Local) (pages : page_pool.Pages) → StandTogether wants IsLawful l (Pages pages.frames pages.stale pages.cells) → length pages.cells ≡ 1024 * l.setup.frames
+memory_there l pages st = let s = in_one_state l (Pages pages.frames pages.stale pages.cells) st in
+    ap (λ (p : page_pool.Pages). length p.cells) (sym (pages_there s.c s.w.map s.number pages s.there)) ∙ memory_here s.c s.opening s.calls s.w s.running s.k l s.here

@@ -7,3 +7,4 @@ pub mod LawfulRegions
 pub mod SectionsMade
 pub mod Picks
 pub mod Callers
+pub mod Memory

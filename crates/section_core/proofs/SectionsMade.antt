@@ -1,5 +1,5 @@
 -- A section over a list of regions and a list of callers, and the step of a world that it is.
-use Rattle.std.proofs.Common.{Vec, Global, Result, Ok, Err, IfOk, OnOk, ◌<◌, zero, suc, ◌≡◌, ◌≢◌, ℕ, Bool, true, false, inl, inr, List, [], ◌∷◌, ◌++◌, length, map, slice_get, slice_set, Option, Some, None, is_some, refl, ap, sym, ◌∙◌, subst}
+use Rattle.std.proofs.Common.{Vec, Global, Result, Ok, Err, IfOk, OnOk, ◌<◌, zero, suc, ◌≡◌, ◌≢◌, ℕ, true, false, List, [], ◌∷◌, ◌++◌, length, slice_get, slice_set, Option, Some, None, is_some, refl, ap, sym, ◌∙◌, subst}
 use Rattle.std.proofs.lemmas.List.{map-append, with_items_is}
 use Rattle.std.specs.Vec.{with_items}
 use Rattle.std.proofs.lemmas.Option.{slice_get_within}
@@ -8,7 +8,7 @@ use Rattle.vm_model.specs.declared.calls.Call.{Call}
 use Rattle.vm_model.specs.Setup.{Setup}
 use Rattle.vm_model.specs.Events.{Section, Event}
 use Rattle.vm_model.specs.Places.{Ask, AskNothing, ask}
-use Rattle.vm_model.specs.Given.{given, can_move}
+use Rattle.vm_model.specs.Given.{can_move}
 use Rattle.vm_model.specs.History.{World, Local, moves_in, section_of, event_of, made_if, step, step_of}
 use Rattle.vm_model.specs.Parts.{Region, regions_of, number_of, wants, moves, after, state_of}
 use Rattle.vm_model.specs.Run.{section_by}
@@ -26,8 +26,8 @@ use Rattle.section_core.specs.declared.region.Stepped.{Stepped}
 use Rattle.section_core.specs.declared.region.Stepped.TheVariants.{Moved, Stays, Ended}
 use Rattle.section_core.specs.Sections.{IsMoved, HasStayed, Answers}
 use Rattle.section_core.specs.Lawful.{IsRunning, IsLawful}
-use Rattle.section_core.specs.Kernels.{KernelState, IsStanding, IsSomewhere, IsSteppedAs, StepsAs, SectionAs, movers}
-use Rattle.section_core.proofs.LawfulRegions.{without_objects, sound}
+use Rattle.section_core.specs.Kernels.{KernelState, IsStanding, IsSomewhere, IsSteppedAs, SectionAs, movers}
+use Rattle.section_core.proofs.LawfulRegions.{without_objects}
 
 set_there : {X : Type 0} (xs : List X) (i : ℕ) (x : X) → slice_get xs i ≡ Some x → slice_set xs i x ≡ xs
 set_there [] i x at = cc

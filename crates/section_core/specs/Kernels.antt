@@ -1,13 +1,12 @@
 -- Where a kernel stands: its regions and callers are the parts of a world, after the world's own events.
-use Rattle.std.specs.Prelude.{◌≡◌, ◌≢◌, ℕ, ◌<◌, Bool, true, false, List, map, length, slice_get, Option, Some, None}
+use Rattle.std.specs.Prelude.{◌≡◌, ◌≢◌, ℕ, true, false, List, map, slice_get, Some, None}
 use Rattle.vm_model.specs.declared.calls.Call.{Call}
 use Rattle.vm_model.specs.Setup.{Setup}
 use Rattle.vm_model.specs.Events.{Event}
 use Rattle.vm_model.specs.Places.{ask, AskNothing}
 use Rattle.vm_model.specs.Given.{can_move}
 use Rattle.vm_model.specs.History.{World, Local}
-use Rattle.vm_model.specs.Parts.{Region, regions_of, wants, moves, after}
-use Rattle.vm_model.specs.Run.{section_by}
+use Rattle.vm_model.specs.Parts.{Region, regions_of, wants, moves}
 use Rattle.section_core.specs.declared.region.Stepped.{Stepped}
 use Rattle.section_core.specs.declared.region.Stepped.TheVariants.{Moved, Stays, Ended}
 use Rattle.section_core.specs.Lawful.{IsRunning}

@@ -1,11 +1,12 @@
 -- What a section over one region answers and leaves.
-use Rattle.std.specs.Prelude.{◌≤◌, ◌≡◌, ℕ, Bool, true, false, List, length}
+use Rattle.std.specs.Prelude.{◌+◌, ◌-◌, ◌≤◌, ◌≡◌, ℕ, Bool, true, false, List, length}
 use Rattle.vm_model.specs.declared.areas.Span.{Span}
-use Rattle.vm_model.specs.Space.{end_of, holds, covers, runs}
+use Rattle.vm_model.specs.Space.{span, end_of, holds, covers, runs}
 use Rattle.vm_model.specs.Setup.{Setup}
-use Rattle.vm_model.specs.Places.{Place, Dropping, Ask, AskSearch, AskDrop, AskReturn, AskSettle, AskWait, AskAddChunk, AskAddBlock, AskFragment}
+use Rattle.vm_model.specs.Places.{Place, MappingArea, Dropping, Ask, AskSearch, AskDrop, AskReturn, AskSettle, AskWait, AskAddChunk, AskAddBlock, AskFragment}
 use Rattle.vm_model.specs.History.{Local}
 use Rattle.vm_model.specs.Parts.{Region, moves, after}
+use Rattle.page_pool.specs.Pages.{Pages, IsBare}
 use Rattle.section_core.specs.declared.region.Stepped.{Stepped}
 use Rattle.section_core.specs.declared.region.Stepped.TheVariants.{Moved, Stays, Ended}
 
@@ -49,3 +50,12 @@ pub record IsDroppable (c : Setup) (s : Span) (blocks : List Span) : Type 0 wher
 abbrev pub IsDroppedWell : Setup → Place → List Span → Type 0
 IsDroppedWell c (Dropping s) blocks = IsDroppable c s blocks
 IsDroppedWell c _ blocks = Unit {0}
+
+-- the pages of a carved span but for its guard are in the space, and bare
+pub record IsMappable (s : Span) (p : Pages) : Type 0 where
+  pub inside : s.start + (s.pages - 1) ≤ length p.frames
+  pub bare : (page : ℕ) → holds (span s.start (s.pages - 1)) page ≡ true → IsBare p page
+
+abbrev pub IsMappedWell : Place → Pages → Type 0
+IsMappedWell (MappingArea s k) p = IsMappable s p
+IsMappedWell _ p = Unit {0}

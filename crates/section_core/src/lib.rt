@@ -8,6 +8,7 @@ mod busy_side;
 mod free_sections;
 pub mod kernel;
 pub mod local;
+mod page_sections;
 mod place;
 pub mod region;
 mod sections;

@@ -1,6 +1,7 @@
 //! The regions of an allocator, each of which one lock guards.
 use crate::busy_side::BusySide;
 use augmented_tree::FreeSide;
+use page_pool::PageSide;
 use std::marker::Model;
 
 /// What a region holds.
@@ -18,6 +19,8 @@ pub(crate) enum Side {
     Busy(BusySide),
     /// The spans that wait for a purge: none, as no built call frees.
     Lazy,
+    /// The page map.
+    Pages(PageSide),
     /// No chunk is made by a built call; so many objects may be placed.
     Percpu(u32),
     /// The blocks of the one processor: none, as no built call makes one.

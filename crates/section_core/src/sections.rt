@@ -9,6 +9,7 @@ ghost use Rattle.section_core.specs.Sections.{Answers, TakesMemory};
 use crate::busy_sections::at_busy;
 use crate::free_sections::at_free;
 use crate::local::Local;
+use crate::page_sections::at_pages;
 use crate::place::Place;
 use crate::region::{Region, Side, Stepped};
 use crate::turn_sections::{at_blocks, at_desk, at_lazy, at_purge};
@@ -29,6 +30,7 @@ pub fn section(local: &mut Local, region: &mut Region) -> Result<Stepped, AllocE
         Side::Free(free) => at_free(local, free)?,
         Side::Busy(busy) => at_busy(local, busy)?,
         Side::Lazy => at_lazy(local),
+        Side::Pages(pages) => at_pages(local, pages),
         Side::Blocks => at_blocks(local),
         Side::Alloc(_) | Side::Percpu(_) => unreachable!(),
     }

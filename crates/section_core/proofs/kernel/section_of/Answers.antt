@@ -1,9 +1,6 @@
-use Rattle.std.proofs.Common.{◌≡◌, ◌<◌, ℕ, List, length, Some, None, sym, ◌∙◌, ap, subst, refl, slice_get, slice_set, slice_index_or}
+use Rattle.std.proofs.Common.{◌≡◌, Some, sym, ◌∙◌, ap, slice_get, slice_index_or}
 use Rattle.std.proofs.lemmas.List.{set-get_or}
 use Rattle.std.proofs.lemmas.Option.{slice_get-get_or}
-use Rattle.vm_model.specs.History.{Local}
-use Rattle.vm_model.specs.Parts.{Region, wants, moves, after}
-use Rattle.vm_model.specs.Run.{section_by}
 use Rattle.section_core.proofs.SectionsMade.{put_ended, made_ok, made_as, wanted_within}
 use Rattle.section_core.proofs.kernel.section_of.Goals as goal
 
@@ -21,7 +18,7 @@ returns-in_default-clause-ended c = (slice_index_or c.args.locals.now c.args.cal
 pub bounds-regions-number : goal.bounds-regions-number
 bounds-regions-number c =
     wanted_within c.args.regions.now c.args.locals.now c.args.caller c.in-Some.number (slice_index_or c.args.locals.now c.args.caller c.index-locals-caller.result) c.requires.lawful
-        (slice_get-get_or c.args.locals.now c.args.caller c.index-locals-caller.result c.requires.caller) (sym c.wants.ensures ∙ c.in-Some.is)
+    (slice_get-get_or c.args.locals.now c.args.caller c.index-locals-caller.result c.requires.caller) (sym c.wants.ensures ∙ c.in-Some.is)
 
 pub section-requires : goal.section-requires
 section-requires c =

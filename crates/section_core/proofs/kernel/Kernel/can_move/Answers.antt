@@ -1,6 +1,5 @@
-use Rattle.std.proofs.Common.{◌≡◌, ◌<◌, ◌≤◌, ◌-◌, ◌+◌, ℕ, suc, List, length, Some, None, sym, ◌∙◌, ap, subst, slice_get, arith}
-use Rattle.vm_model.specs.History.{World, Local, step, finish, first_mover, moves_in, most_events}
-use Rattle.section_core.specs.Kernels.{KernelState, IsStanding, IsSomewhere}
+use Rattle.std.proofs.Common.{◌≡◌, ◌<◌, ℕ, List, length, Some, sym, ◌∙◌, subst, slice_get, arith}
+use Rattle.section_core.specs.Kernels.{KernelState, IsStanding}
 use Rattle.std.proofs.Common.{slice_index_or, refl}
 use Rattle.std.proofs.lemmas.Option.{slice_get_read}
 use Rattle.section_core.proofs.SectionsMade.{moves_there, nothing_there, within_there}
@@ -15,7 +14,7 @@ index-requires c =
     let low : c.args.caller < length c.self.inside.locals.items = subst (λ (k : KernelState). c.args.caller < length k.locals) (sym c.self.view_is) c.requires in
     let here = there c.self.inside.locals.items c.args.caller (length c.self.inside.locals.items) c.index-local.result.now c.index-local.ensures low refl in
     let within = within_there (record { regions = c.self.inside.regions.items; locals = c.self.inside.locals.items; moved = c.self.inside.moved.items }) c.args.caller c.in-Some.number c.index-local.result.now
-        c.self.invariant here (sym c.wants.ensures ∙ c.in-Some.is) in
+    c.self.invariant here (sym c.wants.ensures ∙ c.in-Some.is) in
     let wide = c.self.inside.regions.ok.0 in
     omega arith
 
@@ -27,11 +26,11 @@ returns-in-Some c = λ setup opening calls w st.
     let within = within_there state c.args.caller c.in-Some.number c.index-local.result.now c.self.invariant here (sym c.wants.ensures ∙ c.in-Some.is) in
     c.moves.ensures
     ∙ moves_there setup opening calls w state c.args.caller c.in-Some.number c.index-local.result.now c.index.result.now (subst (IsStanding setup opening calls w) (sym c.self.view_is) st)
-        here (sym c.wants.ensures ∙ c.in-Some.is) (there c.self.inside.regions.items c.in-Some.number (length c.self.inside.regions.items) c.index.result.now c.index.ensures within refl)
+    here (sym c.wants.ensures ∙ c.in-Some.is) (there c.self.inside.regions.items c.in-Some.number (length c.self.inside.regions.items) c.index.result.now c.index.ensures within refl)
 
 pub returns-in-None : goal.returns-in-None
 returns-in-None c = λ setup opening calls w st.
     let low : c.args.caller < length c.self.inside.locals.items = subst (λ (k : KernelState). c.args.caller < length k.locals) (sym c.self.view_is) c.requires in
     let here = there c.self.inside.locals.items c.args.caller (length c.self.inside.locals.items) c.index-local.result.now c.index-local.ensures low refl in
     nothing_there setup opening calls w (record { regions = c.self.inside.regions.items; locals = c.self.inside.locals.items; moved = c.self.inside.moved.items }) c.args.caller c.index-local.result.now
-        (subst (IsStanding setup opening calls w) (sym c.self.view_is) st) here (sym c.wants.ensures ∙ c.in-None.is)
+    (subst (IsStanding setup opening calls w) (sym c.self.view_is) st) here (sym c.wants.ensures ∙ c.in-None.is)

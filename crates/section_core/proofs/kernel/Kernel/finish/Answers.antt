@@ -1,7 +1,7 @@
-use Rattle.std.proofs.Common.{IfSome, ◌≡◌, ◌<◌, ◌≤◌, ◌-◌, ◌+◌, ℕ, suc, List, length, Some, None, sym, ◌∙◌, ap, subst, slice_get, arith}
-use Rattle.vm_model.specs.History.{World, Local, step, finish, first_mover, moves_in, most_events}
-use Rattle.section_core.specs.Kernels.{KernelState, IsStanding, IsSomewhere}
-use Rattle.map_laws.proofs.EndProofs.{finish_zero, finish_none, finish_some, finish_stays}
+use Rattle.std.proofs.Common.{IfSome, ◌≡◌, ◌<◌, ◌-◌, ◌+◌, suc, length, Some, None, sym, ◌∙◌, ap, subst, arith}
+use Rattle.vm_model.specs.History.{step, finish, first_mover, most_events}
+use Rattle.section_core.specs.Kernels.{IsStanding}
+use Rattle.map_laws.proofs.EndProofs.{finish_zero, finish_some, finish_stays}
 use Rattle.section_core.proofs.Callers.{over_there}
 use Rattle.section_core.proofs.kernel.Kernel.finish.Goals as goal
 
@@ -14,9 +14,11 @@ loop-preserved c = record {
   stands = λ setup opening calls w st.
       let is = c.loop.invariant.stands setup opening calls w st in
       let first : first_mover is.0 ≡ Some c.in-Some.caller = sym (c.first_mover.ensures.first setup opening calls is.0 is.1) ∙ c.in-Some.is in
-      let left : 100000000 - c.loop.counter ≡ suc (100000000 - (c.loop.counter + 1)) = (let low = c.loop-test.true in omega arith) in
-      (step is.0 c.in-Some.caller, c.in_ok-step.ensures.ok setup opening calls is.0 is.1,
-      sym (finish_some (100000000 - (c.loop.counter + 1)) is.0 c.in-Some.caller first) ∙ ap (λ n. finish n is.0) (sym left) ∙ is.2);
+      let left : 100000000 - c.loop.counter ≡ suc (100000000 - (c.loop.counter + 1)) = (let low = c.loop-test.true in omega arith) in (
+        step is.0 c.in-Some.caller,
+        c.in_ok-step.ensures.ok setup opening calls is.0 is.1,
+        sym (finish_some (100000000 - (c.loop.counter + 1)) is.0 c.in-Some.caller first) ∙ ap (λ n. finish n is.0) (sym left) ∙ is.2,
+      );
 }
 
 pub returns-after-loop-clause-ok : goal.returns-after-loop-clause-ok

@@ -1,6 +1,5 @@
-use Rattle.std.proofs.Common.{add-one, ◌≡◌, ◌<◌, ◌≤◌, ◌-◌, ◌+◌, ℕ, suc, List, length, Some, None, sym, ◌∙◌, ap, subst, slice_get, arith}
-use Rattle.vm_model.specs.History.{World, Local, step, finish, first_mover, moves_in, most_events}
-use Rattle.section_core.specs.Kernels.{KernelState, IsStanding, IsSomewhere}
+use Rattle.std.proofs.Common.{add-one, ◌≡◌, length, sym, ◌∙◌, ap, arith}
+use Rattle.section_core.specs.Kernels.{KernelState}
 use Rattle.section_core.proofs.Callers.{few_callers, mover_from, mover_here, mover_later, mover_none}
 use Rattle.section_core.proofs.kernel.Kernel.first_mover.Goals as goal
 

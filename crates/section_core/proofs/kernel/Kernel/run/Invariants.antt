@@ -1,4 +1,4 @@
-use Rattle.std.proofs.Common.{◌≡◌, ℕ, List, length, take}
+use Rattle.std.proofs.Common.{◌≡◌, List, length, take}
 use Rattle.vm_model.specs.declared.calls.Call.{Call}
 use Rattle.vm_model.specs.Setup.{Setup}
 use Rattle.vm_model.specs.History.{World, pick_all}
