@@ -1,5 +1,6 @@
 -- A caller's answers, as its book and what its calls made tell them.
-use Rattle.std.proofs.Common.{map, ◌-◌, Vec, Global, add-one, ◌≡◌, ℕ, zero, suc, ◌+◌, ◌<◌, ◌≤◌, All, List, [], ◌∷◌, ◌++◌, length, slice_get, Some, refl, ap, sym, ◌∙◌, subst, arith, length-append}
+use Rattle.std.proofs.Common.{None, Option, take, option_map, map, ◌-◌, Vec, Global, add-one, ◌≡◌, ℕ, zero, suc, ◌+◌, ◌<◌, ◌≤◌, All, List, [], ◌∷◌, ◌++◌, length, slice_get, Some, refl, ap, sym, ◌∙◌, subst, arith, length-append}
+use Rattle.std.proofs.lemmas.List.{map-append}
 use Rattle.std.proofs.lemmas.List.Elements.{All-weaker, All-push}
 use Rattle.std.specs.Vec.{vec_capacity}
 use Rattle.vm_model.specs.Config.{setup_of}
@@ -11,6 +12,7 @@ use Rattle.section_core.specs.Locals.{answer_of}
 use Rattle.vm_model.specs.declared.config.Config.{Config}
 use Rattle.vm_model.specs.History.{started, Local, answered_of, moved_to}
 use Rattle.history_book.specs.BookRows.{BookRows}
+use Rattle.history_book.specs.Entries.{note_of}
 use Rattle.vm_model.specs.declared.calls.Call.{Call}
 use Rattle.vm_model.specs.declared.calls.Reply.{Reply}
 use Rattle.vm_model.specs.declared.calls.Call.TheVariants.{Vmalloc}
@@ -145,3 +147,38 @@ started_view config caller opening calls book made p new place =
     ap (λ (b : BookRows). local_of (record { config = config; caller = caller; opening = opening; calls = calls; book = b; made = made; events = 0; place = p })) new
     ∙ ap (λ answers. record (started (setup_of config) (map answer_of (arc_value opening)) caller calls) { answers = answers; place = place_of p }) (no_answers calls made.items)
     ∙ ap (λ q. record (started (setup_of config) (map answer_of (arc_value opening)) caller calls) { place = q }) (place (map answer_of (arc_value opening)) [])
+
+-- what was noted of the answers is the book
+pub noted_again : (calls : List Call) (rows : List Noted) (made : List Made) → length made ≡ length rows → length rows ≤ length calls → map note_of (answers_with calls rows made) ≡ rows
+noted_again [] [] made h low = refl
+noted_again [] (n ∷ rows) made h low = absurd (omega arith)
+noted_again (call ∷ calls) [] made h low = refl
+noted_again (call ∷ calls) (n ∷ rows) [] h low = absurd (omega arith)
+noted_again (call ∷ calls) (n ∷ rows) (m ∷ made) h low = ap (λ rows. n ∷ rows) (noted_again calls rows made (omega arith) (omega arith))
+
+pub answers_at : (calls : List Call) (rows : List Noted) (made : List Made) (i : ℕ) (call : Call) (n : Noted) (m : Made) → slice_get calls i ≡ Some call → slice_get rows i ≡ Some n → slice_get made i ≡ Some m
+    → slice_get (answers_with calls rows made) i ≡ Some (answer_with call n m)
+answers_at [] rows made i call n m c r d = cc
+answers_at (x ∷ calls) [] made i call n m c r d = cc
+answers_at (x ∷ calls) (y ∷ rows) [] i call n m c r d = cc
+answers_at (x ∷ calls) (y ∷ rows) (z ∷ made) zero call n m c r d =
+    let a : x ≡ call = cc in let b : y ≡ n = cc in let e : z ≡ m = cc in
+    ap (λ call. Some (answer_with call y z)) a ∙ ap (λ n. Some (answer_with call n z)) b ∙ ap (λ m. Some (answer_with call n m)) e
+answers_at (x ∷ calls) (y ∷ rows) (z ∷ made) (suc i) call n m c r d = answers_at calls rows made i call n m c r d
+
+pub take_one : {X : Type 0} (xs : List X) (i : ℕ) (x : X) → slice_get xs i ≡ Some x → take (suc i) xs ≡ take i xs ++ x ∷ []
+take_one [] i x h = cc
+take_one (y ∷ xs) zero x h = let same : y ≡ x = cc in ap (λ z. z ∷ []) same
+take_one (y ∷ xs) (suc i) x h = ap (λ zs. y ∷ zs) (take_one xs i x h)
+
+-- a row by its two numbers
+pub row_by : (o : Option Noted) (reply : Reply) (own : ℕ) → option_map (λ (n : Noted). n.reply) o ≡ Some reply → option_map (λ (n : Noted). n.own_event) o ≡ Some own → o ≡ Some (record { reply = reply; own_event = own })
+row_by None reply own a b = cc
+row_by (Some n) reply own a b = let x : n.reply ≡ reply = cc in let y : n.own_event ≡ own = cc in
+    ap (λ r. Some (record { reply = r; own_event = n.own_event })) x ∙ ap (λ e. Some (record { reply = reply; own_event = e })) y
+
+-- one answer more is told
+pub told_more : (items : List Code) (x : Code) (items' : List Code) (answers : List Answered) (i : ℕ) → items' ≡ items ++ x ∷ [] → map answer_of items ≡ take i answers → slice_get answers i ≡ Some (answer_of x)
+    → map answer_of items' ≡ take (i + 1) answers
+told_more items x items' answers i pushed told at =
+    ap (map answer_of) pushed ∙ map-append answer_of items (x ∷ []) ∙ ap (λ xs. xs ++ answer_of x ∷ []) told ∙ sym (take_one answers i (answer_of x) at) ∙ ap (λ n. take n answers) (sym (add-one i))

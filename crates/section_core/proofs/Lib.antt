@@ -8,3 +8,4 @@ pub mod SectionsMade
 pub mod Picks
 pub mod Callers
 pub mod Memory
+pub mod PlainWorlds

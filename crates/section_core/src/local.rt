@@ -1,21 +1,23 @@
 //! A caller: its calls, how they were answered, and where it stands.
-ghost use Rattle.std.specs.Prelude.{◌≡◌, ◌≤◌, ◌<◌, ◌+◌, ◌^◌, List, length, map, IfOk};
+ghost use Rattle.std.specs.Prelude.{◌≡◌, ◌≤◌, ◌<◌, ◌+◌, ◌^◌, List, All, length, map, IfOk};
 ghost use Rattle.std.specs.Arc.{arc_value};
 ghost use Rattle.vm_model.specs.Config.{setup_of};
 ghost use Rattle.vm_model.specs.Next.{Go, Answer};
 ghost use Rattle.vm_model.specs.History.{started, moved_to};
 ghost use Rattle.vm_model.specs.Parts.{wants};
+ghost use Rattle.history_book.specs.declared.noted.Noted.{Noted};
+ghost use Rattle.history_book.specs.Entries.{note_of};
 ghost use Rattle.section_core.specs.Places.{place_of, made_of, IsSized};
-ghost use Rattle.section_core.specs.Locals.{answer_of, AreVmalloc, HasCall, IsPlain};
+ghost use Rattle.section_core.specs.Locals.{answer_of, answers_with, AreVmalloc, HasCall, IsPlain};
 
-use crate::answers::{AnswerList, Made};
+use crate::answers::{AnswerList, Answered, Made};
 use crate::begin::place_before;
 use crate::place::Place;
 use history_book::Book;
 use std::alloc::{AllocError, Global};
 use std::marker::Model;
 use std::sync::Arc;
-use vm_model::{CallerCalls, Config, Reply};
+use vm_model::{Call, CallerCalls, Config, Reply};
 
 /// A caller between two of its sections: all that its next one needs beside its region.
 #[derive(Drop)]
@@ -132,4 +134,45 @@ impl Local {
     {
         self.book.len()
     }
+
+    /// Its book of replies.
+    pub(crate) fn book(&self) -> &Book
+        ensures caller { result.now.caller ≡ self.now.caller }
+        ensures rows { result.now.rows ≡ map note_of self.now.answers }
+        ensures noted { All (λ (n : Noted). n.own_event ≤ self.now.events) result.now.rows }
+    {
+        &self.book
+    }
+
+    /// Its answers, for others to share.
+    pub(crate) fn answers(&self, alloc: Global) -> Result<AnswerList, AllocError>
+        ensures { IfOk result (λ answers. map answer_of answers ≡ self.now.answers) }
+    {
+        answers_noted(alloc, self.calls.as_slice(), &self.book, &self.made)
+    }
+}
+
+/// The answered calls, with what was noted of each and what each made.
+fn answers_noted(
+    alloc: Global,
+    calls: &[Call],
+    book: &Book,
+    made: &[Made],
+) -> Result<AnswerList, AllocError>
+    requires few { length calls.now ≤ 100000 }
+    requires calls { length book.now.rows ≤ length calls.now }
+    requires made { length made.now ≡ length book.now.rows }
+    ensures { IfOk result (λ answers. map answer_of answers ≡ answers_with calls.now book.now.rows made.now) }
+{
+    let mut answers = Vec::with_capacity(alloc, made.len())?;
+    for (index, made) in made.iter().enumerate() {
+        let number = index as u32 + 1;
+        answers.push_reserved(Answered {
+            call: calls[index],
+            reply: book.reply_at(number),
+            made: *made,
+            own_event: book.own_event_at(number),
+        });
+    }
+    Ok(AnswerList::of(answers))
 }
