@@ -9,3 +9,4 @@ pub mod Picks
 pub mod Callers
 pub mod Memory
 pub mod PlainWorlds
+pub mod Starts

@@ -1,19 +1,23 @@
 //! The kernel: all regions and all callers, one step after another.
-ghost use Rattle.std.specs.Prelude.{◌≡◌, ◌≢◌, ◌<◌, ◌≤◌, ℕ, List, All, Some, length, take, slice_get, IfOk, IfSome, OnOk, OnErr};
+ghost use Rattle.std.specs.Prelude.{◌∷◌, ◌≡◌, ◌≢◌, ◌<◌, ◌≤◌, ℕ, List, All, Some, length, take, slice_get, IfOk, IfSome, OnOk, OnErr};
 ghost use Rattle.vm_model.specs.declared.calls.Call.{Call};
 ghost use Rattle.vm_model.specs.Setup.{Setup};
-ghost use Rattle.vm_model.specs.History.{World, step, pick_all, moves_in, first_mover, finish, most_events};
+ghost use Rattle.vm_model.specs.Config.{setup_of};
+ghost use Rattle.vm_model.specs.History.{World, opening_world, step, pick_all, moves_in, first_mover, finish, most_events};
 ghost use Rattle.vm_model.specs.LegalHistory.{AllOver};
 ghost use Rattle.vm_model.specs.Parts.{wants, moves, after};
 ghost use Rattle.vm_model.specs.Run.{section_by};
 ghost use Rattle.section_core.specs.Lawful.{IsLawful};
-ghost use Rattle.section_core.specs.Kernels.{KernelState, IsStanding, IsSteppedAs, SectionAs};
+ghost use Rattle.section_core.specs.Kernels.{KernelState, IsStanding, IsSteppedAs, SectionAs, CanStart, CanJoin, start_of, opening_of, callers_of};
 
-use crate::local::Local;
-use crate::region::{Region, Stepped};
+use crate::answers::AnswerList;
+use crate::local::{Local, first_callers};
+use crate::region::{Region, Stepped, first_regions};
 use crate::sections::{moves, section};
-use std::alloc::AllocError;
+use std::alloc::{AllocError, Global};
 use std::marker::Model;
+use std::sync::Arc;
+use vm_model::{CallerCalls, CallsList, Config};
 
 /// More events than any trace makes.
 const MOST_EVENTS: u32 = 100_000_000;
@@ -56,6 +60,45 @@ fn section_of(
 }
 
 impl Kernel {
+    /// Starts an allocator on the numbers of a header, and makes the calls of the opening, the first section, to their
+    /// end. The callers of the further sections stand before their first calls then.
+    pub fn start(alloc: Global, config: &Config, sections: CallsList) -> Result<Kernel, AllocError>
+        requires { CanStart (setup_of config.now) sections }
+        ensures { IfOk result (λ kernel. IsStanding (setup_of config.now) (opening_of sections) (callers_of sections) (start_of (setup_of config.now) sections) kernel) }
+    {
+        let mut sections = sections.into_vec();
+        let opening = sections.remove(0);
+        let mut kernel = Kernel::before(alloc, config, opening)?;
+        kernel.finish()?;
+        let answers = Arc::new(alloc, kernel.locals[0].answers(alloc)?)?;
+        kernel.join(first_callers(alloc, config, &answers, sections)?)?;
+        Ok(kernel)
+    }
+
+    /// The opening before its first call.
+    fn before(alloc: Global, config: &Config, opening: CallerCalls) -> Result<Kernel, AllocError>
+        requires { (calls : List (List Call)) × CanStart (setup_of config.now) (opening ∷ calls) }
+        ensures { IfOk result (λ kernel. (calls : List (List Call)) → CanStart (setup_of config.now) (opening ∷ calls) → IsStanding (setup_of config.now) opening calls (opening_world (setup_of config.now) opening calls) kernel) }
+    {
+        let none = Arc::new(alloc, AnswerList::of(Vec::new(alloc)))?;
+        let first = Local::start(alloc, config, 0, none, opening)?;
+        Ok(Kernel {
+            regions: first_regions(alloc, config)?,
+            locals: vec![in alloc; first]?,
+            moved: Vec::new(alloc),
+        })
+    }
+
+    /// Callers beside the opening, which has ended.
+    fn join(&mut self, callers: Vec<Local>) -> Result<(), AllocError>
+        requires { (c : Setup) × (sections : List (List Call)) × CanJoin c sections self.old callers.items }
+        ensures { OnOk result ((c : Setup) (sections : List (List Call)) → CanJoin c sections self.old callers.items → IsStanding c (opening_of sections) (callers_of sections) (start_of c sections) self.new) }
+    {
+        let mut callers = callers;
+        self.locals.append(&mut callers)?;
+        Ok(())
+    }
+
     /// One event of a caller, by its number. It stays where its next section takes a turn that another has, and it has
     /// ended where all its calls are answered; then nothing changes. An error changes nothing either.
     pub fn step(&mut self, caller: u16) -> Result<Stepped, AllocError>

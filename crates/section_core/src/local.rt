@@ -1,9 +1,10 @@
 //! A caller: its calls, how they were answered, and where it stands.
-ghost use Rattle.std.specs.Prelude.{◌≡◌, ◌≤◌, ◌<◌, ◌+◌, ◌^◌, List, All, length, map, IfOk};
+ghost use Rattle.std.specs.Prelude.{◌≡◌, ◌≤◌, ◌<◌, ◌+◌, ◌^◌, ℕ, List, All, Some, slice_get, length, map, IfOk};
 ghost use Rattle.std.specs.Arc.{arc_value};
 ghost use Rattle.vm_model.specs.Config.{setup_of};
 ghost use Rattle.vm_model.specs.Next.{Go, Answer};
-ghost use Rattle.vm_model.specs.History.{started, moved_to};
+ghost use Rattle.vm_model.specs.History.{started, moved_to, callers_from};
+ghost use Rattle.vm_model.specs.declared.calls.Call.{Call};
 ghost use Rattle.vm_model.specs.Parts.{wants};
 ghost use Rattle.history_book.specs.declared.noted.Noted.{Noted};
 ghost use Rattle.history_book.specs.Entries.{note_of};
@@ -175,4 +176,27 @@ fn answers_noted(
         });
     }
     Ok(AnswerList::of(answers))
+}
+
+/// The callers from 1 on before their first calls, once the opening has these answers.
+pub(crate) fn first_callers(
+    alloc: Global,
+    config: &Config,
+    opening: &Arc<AnswerList, Global>,
+    sections: Vec<CallerCalls>,
+) -> Result<Vec<Local>, AllocError>
+    requires space { config.now.space ≤ 1048576 }
+    requires built { (k : ℕ) (own : List Call) → slice_get sections.items k ≡ Some own → AreVmalloc own }
+    requires few { (k : ℕ) (own : List Call) → slice_get sections.items k ≡ Some own → length own ≤ 100000 }
+    requires callers { length sections.items ≤ 16 }
+    ensures { IfOk result (λ locals. locals.items ≡ callers_from (setup_of config.now) (map answer_of (arc_value opening.now)) 1 sections.items) }
+{
+    let mut callers = Vec::with_capacity(alloc, sections.len())?;
+    let mut rest = sections;
+    while !rest.is_empty() {
+        let caller = callers.len() as u16 + 1;
+        let calls = rest.remove(0);
+        callers.push(Local::start(alloc, config, caller, Arc::try_clone(opening)?, calls)?)?;
+    }
+    Ok(callers)
 }

@@ -1,8 +1,16 @@
 //! The regions of an allocator, each of which one lock guards.
+ghost use Rattle.std.specs.Prelude.{◌≡◌, ◌≤◌, IfOk};
+ghost use Rattle.vm_model.specs.PlainMap.{at_first};
+ghost use Rattle.vm_model.specs.Parts.{regions_of};
+ghost use Rattle.vm_model.specs.Config.{setup_of};
+ghost use Rattle.section_core.specs.Regions.{region_of};
+
 use crate::busy_side::BusySide;
 use augmented_tree::FreeSide;
 use page_pool::PageSide;
+use std::alloc::{AllocError, Global};
 use std::marker::Model;
+use vm_model::Config;
 
 /// What a region holds.
 #[derive(Drop)]
@@ -41,6 +49,36 @@ impl Model for Region {
     ghost use Rattle.section_core.specs.Regions.{region_of};
 
     ghost view = { λ r. region_of r.side };
+}
+
+impl Region {
+    fn of(side: Side) -> Region
+        ensures { result ≡ region_of side }
+    {
+        Region { side }
+    }
+}
+
+/// The regions of a space where nothing has happened: every page is free, and nothing is mapped.
+pub(crate) fn first_regions(alloc: Global, config: &Config) -> Result<Vec<Region>, AllocError>
+    requires low { 1 ≤ config.now.space }
+    requires high { config.now.space ≤ 1048576 }
+    ensures { IfOk result (λ regions. regions.items ≡ regions_of (setup_of config.now) (at_first (setup_of config.now) 0)) }
+{
+    let free = FreeSide::whole(alloc, config.space)?;
+    let pages = PageSide::new(alloc, config.space, config.frames)?;
+    let regions = vec![in alloc;
+        Region::of(Side::Desk),
+        Region::of(Side::Purge(None)),
+        Region::of(Side::Alloc(None)),
+        Region::of(Side::Free(free)),
+        Region::of(Side::Busy(BusySide::new(alloc))),
+        Region::of(Side::Lazy),
+        Region::of(Side::Pages(pages)),
+        Region::of(Side::Percpu(0)),
+        Region::of(Side::Blocks),
+    ]?;
+    Ok(regions)
 }
 
 /// How a step ended.
