@@ -5,7 +5,7 @@ ghost use Rattle.vm_model.specs.Space.{put_by};
 
 use std::alloc::{AllocError, Global};
 use std::marker::Model;
-use vm_model::{Area, AreaKind, Span};
+use vm_model::{Area, AreaKind, AreaList, Span};
 
 /// The live areas of a space, and the serial of the next.
 #[derive(Drop)]
@@ -78,9 +78,20 @@ impl BusySide {
     }
 
     /// The areas by rising start.
-    pub(crate) fn areas(&self) -> &[Area]
-        ensures { result.now ≡ self.now.areas }
+    pub(crate) fn areas(&self, alloc: Global) -> Result<AreaList, AllocError>
+        ensures { IfOk result (λ areas. areas ≡ self.now.areas) }
     {
-        self.areas.as_slice()
+        Ok(AreaList::of(copies(alloc, &self.areas)?))
     }
+}
+
+/// Copies of areas, in their order.
+fn copies(alloc: Global, areas: &[Area]) -> Result<Vec<Area>, AllocError>
+    ensures { IfOk result (λ copies. copies.items ≡ areas.now) }
+{
+    let mut copies = Vec::with_capacity(alloc, areas.len())?;
+    for area in areas {
+        copies.push(*area)?;
+    }
+    Ok(copies)
 }

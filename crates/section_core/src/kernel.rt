@@ -4,6 +4,8 @@ ghost use Rattle.vm_model.specs.declared.calls.Call.{Call};
 ghost use Rattle.vm_model.specs.Setup.{Setup};
 ghost use Rattle.vm_model.specs.Config.{setup_of};
 ghost use Rattle.vm_model.specs.History.{World, opening_world, step, pick_all, moves_in, first_mover, finish, most_events};
+ghost use Rattle.vm_model.specs.declared.config.Config.{Config};
+ghost use Rattle.vm_model.specs.Tables.{entries_of, tables_of};
 ghost use Rattle.vm_model.specs.LegalHistory.{AllOver};
 ghost use Rattle.vm_model.specs.Parts.{wants, moves, after};
 ghost use Rattle.vm_model.specs.Run.{section_by};
@@ -14,10 +16,15 @@ use crate::answers::AnswerList;
 use crate::local::{Local, first_callers};
 use crate::region::{Region, Stepped, first_regions};
 use crate::sections::{moves, section};
+use augmented_tree::FreeSide;
+use history_book::number;
 use std::alloc::{AllocError, Global};
 use std::marker::Model;
 use std::sync::Arc;
-use vm_model::{CallerCalls, CallsList, Config};
+use vm_model::{
+    BlockList, CallerCalls, CallsList, ChunkAuditList, ChunkList, Config, Entry, EntryList, HintList,
+    ObjectList, PartList, Span, SpanList, Tables,
+};
 
 /// More events than any trace makes.
 const MOST_EVENTS: u32 = 100_000_000;
@@ -170,4 +177,61 @@ impl Kernel {
         }
         Ok(())
     }
+
+    /// The entry of each call that was answered, by caller and call.
+    fn entries(&self, alloc: Global) -> Result<Vec<Entry>, AllocError>
+        ensures { IfOk result (λ entries. (c : Setup) (opening : List Call) (calls : List (List Call)) (w : World) → IsStanding c opening calls w self.now → entries.items ≡ entries_of w.events w.locals) }
+    {
+        let mut entries = Vec::new(alloc);
+        for local in &self.locals {
+            number(local.book(), &self.moved, &mut entries)?;
+        }
+        Ok(entries)
+    }
+
+    /// The replies so far, and the tables of what there is now.
+    pub fn tables(&self, alloc: Global) -> Result<Tables, AllocError>
+        ensures { IfOk result (λ tables. (config : Config) (opening : List Call) (calls : List (List Call)) (w : World) → IsStanding (setup_of config) opening calls w self.now → tables ≡ tables_of (setup_of config) w) }
+    {
+        let free = self.regions[3].free();
+        let pages = self.regions[6].pages();
+        let largest = free.largest();
+        Ok(Tables {
+            entries: EntryList::of(self.entries(alloc)?),
+            events: self.moved.len() as u64,
+            frames: pages.free_frames(),
+            mapped: pages.mapped(),
+            stale: pages.stale(),
+            free: SpanList::of(free_blocks(alloc, free)?),
+            areas: self.regions[4].busy().areas(alloc)?,
+            waiting: SpanList::of(Vec::new(alloc)),
+            blocks: BlockList::of(Vec::new(alloc)),
+            parts: PartList::of(Vec::new(alloc)),
+            chunks: ChunkList::of(Vec::new(alloc)),
+            objects: ObjectList::of(Vec::new(alloc)),
+            tree_blocks: free.len(),
+            tree_largest: largest,
+            plain_largest: largest,
+            chunk_audit: ChunkAuditList::of(Vec::new(alloc)),
+            hints: HintList::of(Vec::new(alloc)),
+        })
+    }
+
+    /// The caller of each event, in the order of the events.
+    pub fn moved(&self) -> &[u16]
+        ensures { result.now ≡ self.now.moved }
+    {
+        self.moved.as_slice()
+    }
+}
+
+/// The free blocks by rising start.
+fn free_blocks(alloc: Global, free: &FreeSide) -> Result<Vec<Span>, AllocError>
+    ensures { IfOk result (λ spans. spans.items ≡ free.now.blocks) }
+{
+    let mut spans = Vec::new(alloc);
+    for index in 0..free.len() {
+        spans.push(free.block_at(index))?;
+    }
+    Ok(spans)
 }

@@ -1,7 +1,10 @@
 //! The regions of an allocator, each of which one lock guards.
-ghost use Rattle.std.specs.Prelude.{◌≡◌, ◌≤◌, IfOk};
+ghost use Rattle.std.specs.Prelude.{◌≡◌, ◌≤◌, ℕ, ℤ, Bool, List, Option, IfOk};
+ghost use Rattle.vm_model.specs.declared.areas.Span.{Span};
+ghost use Rattle.vm_model.specs.declared.areas.Area.{Area};
+ghost use Rattle.vm_model.specs.Parts as parts;
 ghost use Rattle.vm_model.specs.PlainMap.{at_first};
-ghost use Rattle.vm_model.specs.Parts.{regions_of};
+ghost use Rattle.vm_model.specs.Parts.{regions_of, FreeRuns, LiveAreas};
 ghost use Rattle.vm_model.specs.Config.{setup_of};
 ghost use Rattle.section_core.specs.Regions.{region_of};
 
@@ -56,6 +59,41 @@ impl Region {
         ensures { result ≡ region_of side }
     {
         Region { side }
+    }
+}
+
+impl Region {
+    /// The free blocks, of the region that has them.
+    pub(crate) fn free(&self) -> &FreeSide
+        requires { (blocks : List Span) × (self.now ≡ FreeRuns blocks) }
+        ensures { self.now ≡ FreeRuns result.now.blocks }
+    {
+        match &self.side {
+            Side::Free(free) => free,
+            _ => unreachable!(),
+        }
+    }
+
+    /// The live areas, of the region that has them.
+    pub(crate) fn busy(&self) -> &BusySide
+        requires { (areas : List Area) × (next : ℕ) × (self.now ≡ LiveAreas areas next) }
+        ensures { self.now ≡ LiveAreas result.now.areas result.now.next }
+    {
+        match &self.side {
+            Side::Busy(busy) => busy,
+            _ => unreachable!(),
+        }
+    }
+
+    /// The page map, of the region that has it.
+    pub(crate) fn pages(&self) -> &PageSide
+        requires { (frames : List (Option ℕ)) × (stale : List Bool) × (cells : List ℤ) × (self.now ≡ parts.Pages frames stale cells) }
+        ensures { self.now ≡ parts.Pages result.now.frames result.now.stale result.now.cells }
+    {
+        match &self.side {
+            Side::Pages(pages) => pages,
+            _ => unreachable!(),
+        }
     }
 }
 
