@@ -7,7 +7,7 @@ use Rattle.vm_model.specs.Rules.{IsVmallocCall}
 use Rattle.trace_text.specs.Lines.{Line, Version, Space, Frames, Lazy, Blocks, Units, GroupOf, Callers, Counters, Caller, Vmalloc, Vfree, MapRam, UnmapRam, UnmapAliases, AllocPercpu, AllocAtomic, FreePercpu, Add, Sum, Balance, Count, Order, End, is_spelt}
 use Rattle.trace_text.specs.Reading.{Reading, Made, Header, unread, calls_of}
 use Rattle.trace_text.specs.Grammar.{IsTraceOf, stands, all_stand, read, read_all, follows, repeats, is_new, has_room, is_allowed}
-use Rattle.trace_text.specs.Built.{built_for_vmalloc}
+use Rattle.trace_text.specs.Built.{built_for_callers}
 use Rattle.trace_text.specs.Held.{header_of}
 use Rattle.trace_replay.specs.OneCaller.{AreVmalloc}
 use Rattle.trace_replay.specs.Thin.{IsThin}
@@ -57,7 +57,7 @@ in_range pages h =
 room_left : (calls counts : ℕ) → nat_lt (calls + counts) 100000 ≡ true → calls + 1 ≤ 100000
 room_left calls counts h = let low : calls + counts < 100000 = grind (arith, nat_tests) in omega arith
 
-line_read : (r : Reading) (l : Line) → stands built_for_vmalloc r l ≡ true → IsSoFar r → IsSoFar (read r l)
+line_read : (r : Reading) (l : Line) → stands built_for_callers r l ≡ true → IsSoFar r → IsSoFar (read r l)
 line_read r Version h s = record { header = s.header; space = λ low. absurd (omega arith); caller = s.caller; opening = s.opening; few = s.few; picks = s.picks; counts = s.counts }
 line_read r (Space pages) h s = record {
   header = ap (λ (h : Header). record h { space = pages }) s.header;
@@ -107,10 +107,10 @@ line_read r Balance h s = cc
 line_read r (Count counter cpu amount) h s = cc
 line_read r (Order picks) h s = cc
 
-lines_read : (lines : List Line) (r : Reading) → all_stand built_for_vmalloc r lines ≡ true → IsSoFar r → IsSoFar (read_all r lines)
+lines_read : (lines : List Line) (r : Reading) → all_stand built_for_callers r lines ≡ true → IsSoFar r → IsSoFar (read_all r lines)
 lines_read [] r h s = s
-lines_read (l ∷ lines) r h s = let first : stands built_for_vmalloc r l ≡ true = both_first (stands built_for_vmalloc r l) (all_stand built_for_vmalloc (read r l) lines) h in
-    let rest : all_stand built_for_vmalloc (read r l) lines ≡ true = both_second (stands built_for_vmalloc r l) (all_stand built_for_vmalloc (read r l) lines) h in
+lines_read (l ∷ lines) r h s = let first : stands built_for_callers r l ≡ true = both_first (stands built_for_callers r l) (all_stand built_for_callers (read r l) lines) h in
+    let rest : all_stand built_for_callers (read r l) lines ≡ true = both_second (stands built_for_callers r l) (all_stand built_for_callers (read r l) lines) h in
     lines_read lines (read r l) rest (line_read r l first s)
 
 -- The opening's calls are all there are.
@@ -138,7 +138,7 @@ at_first = record { header = refl; space = λ low. absurd (omega arith); caller 
 ended_rank : (rank : ℕ) → (rank == 12) ≡ true → 2 ≤ rank
 ended_rank rank h = grind (arith, nat_tests)
 
-pub thin_trace : (bytes : List ℕ) (r : Reading) → IsTraceOf built_for_vmalloc bytes r → IsThin r
+pub thin_trace : (bytes : List ℕ) (r : Reading) → IsTraceOf built_for_callers bytes r → IsThin r
 thin_trace bytes r trace =
     let s : IsSoFar r = subst IsSoFar (sym trace.tells) (lines_read trace.lines unread trace.stand at_first) in
     let space = s.space (ended_rank r.rank trace.ended) in
