@@ -1,20 +1,18 @@
 -- Where a kernel starts.
-use Rattle.std.proofs.Common.{slice_index_or, ◌≡◌, ℕ, zero, suc, ◌+◌, ◌<◌, ◌≤◌, inl, inr, Bool, true, false, not, List, [], ◌∷◌, ◌++◌, length, map, replicate, take, drop, remove, slice_get, sum_by, count_by, cond, Option, Some, None, refl, ap, sym, ◌∙◌, subst, arith, append_assoc, length-append, add-one}
+use Rattle.std.proofs.Common.{slice_index_or, ◌≡◌, ℕ, zero, suc, ◌+◌, ◌≤◌, inl, false, not, List, [], ◌∷◌, ◌++◌, length, map, replicate, remove, slice_get, sum_by, count_by, cond, Some, refl, ap, sym, ◌∙◌, arith, append_assoc, length-append, add-one}
 use Rattle.std.proofs.lemmas.Option.{slice_get_read}
 use Rattle.std.proofs.lemmas.List.Sums.{sum_by-cons}
 use Rattle.vm_model.specs.declared.calls.Call.{Call}
-use Rattle.vm_model.specs.declared.calls.Call.TheVariants.{Vmalloc, Vfree, MapRam, UnmapRam, UnmapAliases, AllocPercpu, AllocAtomic, FreePercpu, Add, Sum, Balance}
+use Rattle.vm_model.specs.declared.calls.Call.TheVariants.{Vmalloc}
 use Rattle.vm_model.specs.Space.{runs}
 use Rattle.vm_model.specs.Setup.{Setup}
-use Rattle.vm_model.specs.PlainMap.{PlainMap, Mark, Free, is_free, at_first}
+use Rattle.vm_model.specs.PlainMap.{Free, is_free, at_first}
 use Rattle.vm_model.specs.Calls.{Answered, can_place}
-use Rattle.vm_model.specs.History.{World, Local, started, placing_calls, opening_world, callers_from, opening_answers, with_callers, finish, most_events}
+use Rattle.vm_model.specs.History.{World, Local, started, placing_calls, opening_world, callers_from, opening_answers, finish, most_events}
 use Rattle.vm_model.specs.Parts.{Region, regions_of}
-use Rattle.vm_model.specs.Rules.{IsVmallocCall, IsTrace}
-use Rattle.map_laws.specs.MapTraces.{AreWithoutObjects}
+use Rattle.vm_model.specs.Rules.{IsVmallocCall}
 use Rattle.map_laws.proofs.ReachedSteps.{steps_reached}
 use Rattle.section_core.specs.Locals.{AreVmalloc}
-use Rattle.section_core.specs.Lawful.{IsRunning}
 use Rattle.section_core.specs.Kernels.{KernelState, IsStanding, CanStart, CanJoin, start_of, opening_of, callers_of}
 use Rattle.section_core.proofs.LawfulRegions.{without_objects}
 
