@@ -58,3 +58,7 @@ pub mod ChunkNoted
 pub mod ChunkLeft
 pub mod ChunkUnlinked
 pub mod ChunkPlaces
+pub mod Deeds
+pub mod Stories
+pub mod BarePages
+pub mod SitedChunks
