@@ -62,3 +62,4 @@ pub mod Deeds
 pub mod Stories
 pub mod BarePages
 pub mod SitedChunks
+pub mod MappedPages
