@@ -63,3 +63,5 @@ pub mod Stories
 pub mod BarePages
 pub mod SitedChunks
 pub mod MappedPages
+pub mod WaitStories
+pub mod WaitNext
