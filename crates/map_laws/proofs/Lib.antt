@@ -65,3 +65,4 @@ pub mod SitedChunks
 pub mod MappedPages
 pub mod WaitStories
 pub mod WaitNext
+pub mod WaitWorlds

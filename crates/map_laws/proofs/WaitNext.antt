@@ -89,7 +89,7 @@ module _ (c : Setup) (first m : PlainMap) (events : List Event) (story : m ≡ m
 
   -- A place that gets no frames.
 
-  still_unmapped : (place : Span) → IsCarvedBy c first events k place → (page : ℕ) → holds place page ≡ true → IsUnmapped m page
+  pub still_unmapped : (place : Span) → IsCarvedBy c first events k place → (page : ℕ) → holds place page ≡ true → IsUnmapped m page
   still_unmapped place is page on =
       let low = event_low events is.carve k is.section is.carves in
       subst (λ x. IsUnmapped x page) (map_at-end c first events (length events) (omega arith) ∙ sym story) (is.unmapped page (length events) on low (omega arith))

@@ -5,21 +5,13 @@ use Rattle.vm_model.specs.declared.areas.AreaKind.{AreaKind}
 use Rattle.vm_model.specs.Space.{holds, covers}
 use Rattle.vm_model.specs.Setup.{Setup}
 use Rattle.vm_model.specs.PlainMap.{PlainMap, Free}
-use Rattle.vm_model.specs.Events.{Section, Event, Wait, TakeWaiting, Flush, Return}
+use Rattle.vm_model.specs.Events.{Section, Event, TakeWaiting, Flush, Return}
 use Rattle.vm_model.specs.Legal.{IsMarked, IsUnmapped}
 use Rattle.vm_model.specs.Effects.{effect}
 use Rattle.vm_model.specs.Carried.{flushed}
 use Rattle.vm_model.specs.Places.{Place, MappingArea, Dropping, PurgeFlushing, PurgeReturning}
 use Rattle.vm_model.specs.Laws.{map_after, map_at, IsEvent, IsTakenFrom, IsFreedAt, IsReturned, IsDropped, Carves}
 use Rattle.map_laws.proofs.Stories.{map_at-before, map_at-more, event_first}
-
--- event i makes the page wait
-pub record IsWaitOf (events : List Event) (i page : ℕ) : Type 0 where
-  pub caller : ℕ
-  pub waiting : ℕ
-  pub spans : List Span
-  pub waits : IsEvent events i caller (Wait spans waiting)
-  pub waited : covers spans page ≡ true
 
 -- a caller took the page after event i, and flushed it since
 pub record IsTakenSince (events : List Event) (i k page : ℕ) : Type 0 where

@@ -2,3 +2,4 @@ pub mod Turns
 pub mod Ends
 pub mod MapTraces
 pub mod EveryTrace
+pub mod Waits
