@@ -66,3 +66,4 @@ pub mod MappedPages
 pub mod WaitStories
 pub mod WaitNext
 pub mod WaitWorlds
+pub mod WaitReached

@@ -25,7 +25,7 @@ use Rattle.vm_model.specs.History.{moved_to, World, Local, started, made_by, ope
 use Rattle.vm_model.specs.Carried.{count_of}
 use Rattle.vm_model.specs.LegalHistory.{Meets, IsReached}
 use Rattle.vm_model.specs.Rules.{IsTrace}
-use Rattle.map_laws.specs.MapTraces.{AreWithoutObjects, AreasWithoutObjectsAreDisjointAndAligned, TheGuardWithoutObjectsIsNeverMapped, FreePagesAreCleanWithoutObjects, PartsWithoutObjectsAreDisjoint}
+use Rattle.map_laws.specs.MapTraces.{AreWithoutObjects, AreasWithoutObjectsAreDisjointAndAligned, TheGuardWithoutObjectsIsNeverMapped, PartsWithoutObjectsAreDisjoint}
 use Rattle.map_laws.proofs.Lists.{append_cases}
 use Rattle.map_laws.proofs.Chosen.{IsIn, sum_has}
 use Rattle.map_laws.proofs.Frames.{IsFramed, not_over, has_call}
@@ -240,14 +240,6 @@ guard_unmapped c opening calls w trace areas reached i a h e =
     let plain : IsPlainKind a.kind = subst IsPlainKind (sym e) tt in
     let some = (is.made.each a (record { place = i; at = h })).wide plain in
     (is.area.fine.areas i a h).guard plain (end_of a.span - 1) (ap (λ k. covers (guard_part k a.span ∷ []) (end_of a.span - 1)) e ∙ guard_in a.span some)
-
-pub free_clean : FreePagesAreCleanWithoutObjects
-free_clean c opening calls w trace areas reached =
-    let is = map_reached c opening calls areas (has_parts c opening calls trace) w reached in record {
-      free = λ page h. (is.area.fine.pages page).free h;
-      stale = is.clean.stale.stale;
-      own = is.clean.own.own;
-    }
 
 -- Parts of a block, by their offsets.
 

@@ -12,7 +12,7 @@ use Rattle.vm_model.specs.History.{World, placing_calls}
 use Rattle.vm_model.specs.Rules.{IsTrace}
 use Rattle.vm_model.specs.Carried.{IsKept}
 use Rattle.vm_model.specs.LegalHistory.{IsReached}
-use Rattle.vm_model.specs.Laws.{AreAreasApart, AreFreePagesClean, ArePartsApart, IsOneLegalHistory}
+use Rattle.vm_model.specs.Laws.{AreAreasApart, ArePartsApart, IsOneLegalHistory}
 
 abbrev pub IsMapCall : Call → Type 0
 IsMapCall (Vmalloc bytes align) = Unit {0}
@@ -40,9 +40,6 @@ AreasWithoutObjectsAreDisjointAndAligned = AlwaysWithoutObjects (λ c m w. AreAr
 
 abbrev pub TheGuardWithoutObjectsIsNeverMapped : Type 0
 TheGuardWithoutObjectsIsNeverMapped = AlwaysWithoutObjects (λ c m w. (i : ℕ) (a : Area) → slice_get w.map.areas i ≡ Some a → a.kind ≡ kind.Vmalloc → IsUnmapped w.map (end_of a.span - 1))
-
-abbrev pub FreePagesAreCleanWithoutObjects : Type 0
-FreePagesAreCleanWithoutObjects = AlwaysWithoutObjects (λ c m w. AreFreePagesClean w.map)
 
 abbrev pub PartsWithoutObjectsAreDisjoint : Type 0
 PartsWithoutObjectsAreDisjoint = AlwaysWithoutObjects (λ c m w. (i : ℕ) (b : Block) → slice_get w.map.blocks i ≡ Some b → ArePartsApart c b)
