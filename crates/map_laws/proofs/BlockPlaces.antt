@@ -136,7 +136,7 @@ pub with_keeps : (xs areas : List Area) (a : Area) → IsIn a areas → IsIn a (
 with_keeps [] areas a h = h
 with_keeps (x ∷ xs) areas a h = with_keeps xs (put_by (λ (b : Area). b.span.start) x areas) a (put_keeps (λ (b : Area). b.span.start) x areas a h)
 
-put_new : (key : Area → ℕ) (x : Area) (ys : List Area) → IsIn x (put_by key x ys)
+pub put_new : (key : Area → ℕ) (x : Area) (ys : List Area) → IsIn x (put_by key x ys)
 put_new key x [] = record { place = 0; at = refl }
 put_new key x (y ∷ ys) = by_test (nat_lt (key x) (key y)) (put_new key x ys)
   where

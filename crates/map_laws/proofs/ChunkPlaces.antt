@@ -20,7 +20,7 @@ use Rattle.map_laws.proofs.ChunkPlaced.{object_low, placed_lacking, placement_is
 use Rattle.vm_model.specs.Areas.{spans_of}
 use Rattle.map_laws.proofs.BlockWorlds.{only_one}
 
-bits_long : (test : ℕ → Bool) (n first : ℕ) → length (map test (count_from n first)) ≡ n
+pub bits_long : (test : ℕ → Bool) (n first : ℕ) → length (map test (count_from n first)) ≡ n
 bits_long test zero first = refl
 bits_long test (suc n) first = ap suc (bits_long test n (suc first))
 

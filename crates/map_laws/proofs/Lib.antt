@@ -58,3 +58,6 @@ pub mod ChunkNoted
 pub mod ChunkLeft
 pub mod ChunkUnlinked
 pub mod ChunkPlaces
+pub mod ChunkAdded
+pub mod ChunkAtomic
+pub mod ChunkSettled

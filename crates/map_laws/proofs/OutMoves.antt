@@ -28,7 +28,7 @@ use Rattle.map_laws.proofs.MapMoves.{times_areas, times_both, page_by, live_fine
 
 -- Areas put among others.
 
-first_or : (a x : Area) (xs : List Area) → IsIn a (x ∷ xs) → (a ≡ x) ⊎ IsIn a xs
+pub first_or : (a x : Area) (xs : List Area) → IsIn a (x ∷ xs) → (a ≡ x) ⊎ IsIn a xs
 first_or a x xs h = by_place h.place h.at
   where
     by_place : (i : ℕ) → slice_get (x ∷ xs) i ≡ Some a → (a ≡ x) ⊎ IsIn a xs
