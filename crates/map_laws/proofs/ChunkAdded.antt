@@ -93,8 +93,8 @@ module _ (c : Setup) (units : AreUnits c) (m : PlainMap) (k : ℕ) (numbered : A
       placed_lacking c (plain_fit c at.bytes align) at.bytes grown_map.chunks added_map at missing is after.0 after.1
       (λ page h. (object_low c (bit_list c is.chunk) at at.bytes (bits_long _ (unit_bits c) 0) size refl (fitting at.bytes align at.off (bit_list c is.chunk) is.fits) page h).0)
 
-  pub add_moved : IsChunkMoved c m k busy (AddingChunk base chunk bytes align) (AddChunk chunk base at align missing) (Go (Populating at missing))
-  add_moved = record {
+  pub chunk_added : IsChunkMoved c m k busy (AddingChunk base chunk bytes align) (AddChunk chunk base at align missing) (Go (Populating at missing))
+  chunk_added = record {
     chunks = λ h there. (let was = object_rows.back h there in
         chunk_stays c units grown_map added_map _ _ was.0 h was.2 (record { areas = λ a group is e. is; still = λ page is e. record { frame = refl; clean = λ f. f } }) (λ page b. b) (all_grown was.0 was.1));
     numbered = rows_numbered grown_map added_map object_rows grown_numbered;

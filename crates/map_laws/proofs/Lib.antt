@@ -61,3 +61,5 @@ pub mod ChunkPlaces
 pub mod ChunkAdded
 pub mod ChunkAtomic
 pub mod ChunkSettled
+pub mod ChunkNext
+pub mod ChunkDispatch
