@@ -63,3 +63,4 @@ pub mod ChunkAtomic
 pub mod ChunkSettled
 pub mod ChunkNext
 pub mod ChunkDispatch
+pub mod ChunkWorlds
