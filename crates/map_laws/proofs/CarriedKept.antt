@@ -23,7 +23,8 @@ use Rattle.map_laws.proofs.MapPlaces.{IsMapPlace}
 use Rattle.map_laws.proofs.BlockFacts.{OnRow, IsPartFine, same_test, IsBlockFine, IsPartIn, IsOut, IsBlockAt, stacked_covers, stacked_at, block_out}
 use Rattle.map_laws.proofs.BlockWorlds.{out_area, only_one}
 use Rattle.map_laws.proofs.MapLegal.{held_life, block_at}
-use Rattle.map_laws.proofs.MapLaws.{IsMapTraceWorld, map_lasts, map_first, has_parts, areas_once, own_names}
+use Rattle.map_laws.proofs.ObjectlessWorlds.{IsMapTraceWorld, map_lasts, map_first}
+use Rattle.map_laws.proofs.TraceWorlds.{areas_once, own_names}
 use Rattle.map_laws.proofs.AreaWorlds.{legally_lasts}
 use Rattle.map_laws.proofs.Places.{IsPlainKind}
 use Rattle.std.proofs.lemmas.List.Sums.{sum_by-cons}
@@ -291,9 +292,9 @@ module _ (c : Setup) (w : World) (framed : IsFramed c w) (is : IsMapTraceWorld c
   caller_kept k l here =
       let own = framed.own k l here in
       let place = (is.only.each k l here).place in
-      let holding = is.area.each k l here in
-      let at : IsBlockAt l.setup w.map l.caller l.place = subst (λ d. IsBlockAt d w.map l.caller l.place) (sym own.setup) (is.blocks.each k l here) in
-      let life = held_life c w.map l.caller (areas_once c w framed is k l here) is.full is.blocks.blocks (λ start. (let n = own_names c w framed is k l here start in omega arith)) in record {
+      let holding = is.all.area.each k l here in
+      let at : IsBlockAt l.setup w.map l.caller l.place = subst (λ d. IsBlockAt d w.map l.caller l.place) (sym own.setup) (is.all.blocks.each k l here) in
+      let life = held_life c w.map l.caller (areas_once c w framed is.all k l here) is.all.full is.all.blocks.blocks (λ start. (let n = own_names c w framed is.all k l here start in omega arith)) in record {
         held_marked = holding.held;
         flushed_marked = holding.flushed;
         fresh_bare = fresh_bare l.setup w.map l.caller l.place place holding at;
@@ -302,8 +303,8 @@ module _ (c : Setup) (w : World) (framed : IsFramed c w) (is : IsMapTraceWorld c
         chunk_out = chunk_none l.setup w.map l.caller l.place place;
         part_held = part_held l.setup w.map l.caller life l.place place at;
         object_held = object_none l.setup w.map l.caller l.place place;
-        out_live = λ start h. (let area = out_area c w.map l.caller l.place start (is.blocks.each k l here) (ap (λ starts. is_among starts start) (sym (map_outs l.setup w.map l.caller l.place place)) ∙ h) in
-            (area.area, block_at c w.map l.caller (areas_once c w framed is k l here) is.full start area));
+        out_live = λ start h. (let area = out_area c w.map l.caller l.place start (is.all.blocks.each k l here) (ap (λ starts. is_among starts start) (sym (map_outs l.setup w.map l.caller l.place place)) ∙ h) in
+            (area.area, block_at c w.map l.caller (areas_once c w framed is.all k l here) is.all.full start area));
       }
 
   sum_outs : (start : ℕ) (locals : List Local) → ((k : ℕ) (l : Local) → slice_get locals k ≡ Some l → IsMapPlace l.place) → sum_by (λ (l : Local). count_of start (starts_out l.setup l.place)) locals ≡ sum_by (λ (l : Local). count_of start (block_out l.place)) locals
@@ -321,18 +322,17 @@ module _ (c : Setup) (w : World) (framed : IsFramed c w) (is : IsMapTraceWorld c
 
   pub world_kept : IsKept c w
   world_kept = record {
-    purge_turn = is.turns.turns.purge;
-    alloc_turn = is.turns.turns.alloc;
+    purge_turn = is.all.turns.turns.purge;
+    alloc_turn = is.all.turns.turns.alloc;
     carried = caller_kept;
-    named_once = λ start. (let n = is.blocks.named start in omega (arith, no_chunks start, sum_outs start w.locals (λ k l h. (is.only.each k l h).place)));
-    waiting_unmapped = λ page h. (is.area.fine.pages page).waiting h;
-    flushing_unmapped = λ page caller h. (is.area.fine.pages page).flushing caller h;
-    areas = λ i a h. area_kept w.map a (is.area.fine.areas i a h) a.kind refl;
-    blocks = λ i b h. block_kept c w.map b (is.blocks.blocks b (record { place = i; at = h }));
+    named_once = λ start. (let n = is.all.blocks.named start in omega (arith, no_chunks start, sum_outs start w.locals (λ k l h. (is.only.each k l h).place)));
+    waiting_unmapped = λ page h. (is.all.area.fine.pages page).waiting h;
+    flushing_unmapped = λ page caller h. (is.all.area.fine.pages page).flushing caller h;
+    areas = λ i a h. area_kept w.map a (is.all.area.fine.areas i a h) a.kind refl;
+    blocks = λ i b h. block_kept c w.map b (is.all.blocks.blocks b (record { place = i; at = h }));
     chunks = λ i h e. (let no = ap (λ l. slice_get l i) (sym is.chunks) ∙ e in cc);
   }
 
 pub carried_kept : WhatIsCarriedWithoutObjectsIsKept
 carried_kept c opening calls w trace areas reached =
-    let has = has_parts c opening calls trace in
-    let at = legally_lasts c calls (IsMapTraceWorld c) (map_lasts c opening calls areas has) opening (map_first c opening calls areas has) w reached in world_kept c w at.0 at.1
+    let at = legally_lasts c calls (IsMapTraceWorld c) (map_lasts c trace.setup opening calls areas) opening (map_first c trace.setup opening calls areas) w reached in world_kept c w at.0 at.1

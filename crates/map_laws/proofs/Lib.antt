@@ -43,10 +43,11 @@ pub mod FragmentMoves
 pub mod BlockPlaces
 pub mod BlockDispatch
 pub mod BlockWorlds
+pub mod TraceWorlds
 pub mod MapLaws
+pub mod ObjectlessWorlds
 pub mod MapLegal
 pub mod CarriedKept
-pub mod EveryTraceProofs
 pub mod GroupsFree
 pub mod ChunkFacts
 pub mod Changed

@@ -34,7 +34,8 @@ use Rattle.map_laws.proofs.BlockFacts.{IsBlockArea, IsBlockFine, IsPartIn, IsOut
 use Rattle.map_laws.proofs.BlockMoves.{part_within, row_of, same_start, area_start}
 use Rattle.map_laws.proofs.PartMoves.{own_is}
 use Rattle.map_laws.proofs.BlockWorlds.{times_count, row_covers, covered_start, only_one}
-use Rattle.map_laws.proofs.MapLaws.{IsMapTraceWorld, AreFull, own_names, areas_once, map_lasts, map_first, has_parts}
+use Rattle.map_laws.proofs.ObjectlessWorlds.{IsMapTraceWorld, map_lasts, map_first}
+use Rattle.map_laws.proofs.TraceWorlds.{AreFull, areas_once, own_names}
 use Rattle.map_laws.proofs.LegalRuns.{one_legal}
 use Rattle.map_laws.proofs.Powers.{rounded_some}
 
@@ -260,13 +261,13 @@ module _ (c : Setup) (m : PlainMap) (k : ℕ) (once : (page : ℕ) → times pag
 trace_legal : (c : Setup) (units : 8 ≤ c.unit_pages) (w : World) (k : ℕ) (l : Local) (s : Section) → IsFramed c w → IsMapTraceWorld c w → IsStep w k l s → IsLegalStep w k l s
 trace_legal c units w k l s framed is step =
     let own = framed.own k l step.here in
-    let proper = is.turns.proper.each k l step.here in
-    let named : (start : ℕ) → count_of start (block_starts w.map.blocks) + count_of start (block_out l.place) ≤ 1 = own_names c w framed is k l step.here in
+    let proper = is.all.turns.proper.each k l step.here in
+    let named : (start : ℕ) → count_of start (block_starts w.map.blocks) + count_of start (block_out l.place) ≤ 1 = own_names c w framed is.all k l step.here in
     let gives : given c w.map (ask c l.place) ≡ Some s = subst (λ d. given d w.map (ask d l.place) ≡ Some s) own.setup step.gives in
-    let holding : IsHolding c w.map k l.place = subst (λ d. IsHolding d w.map k l.place) own.setup (subst (λ i. IsHolding l.setup w.map i l.place) own.caller (is.area.each k l step.here)) in
-    let legal : IsLegalAs c w.map k s = legal_map c w.map k (areas_once c w framed is k l step.here) is.full is.blocks.blocks (λ start. (let n = named start in omega arith)) l.place s (is.only.each k l step.here).place
-    (subst (λ d. IsProper d l.place) own.setup proper) holding (subst (λ i. IsBlockAt c w.map i l.place) own.caller (is.blocks.each k l step.here)) (λ start. (let n = named start in omega arith))
-    (λ has. is.turns.turns.purge.mine k l step.here has) gives in record {
+    let holding : IsHolding c w.map k l.place = subst (λ d. IsHolding d w.map k l.place) own.setup (subst (λ i. IsHolding l.setup w.map i l.place) own.caller (is.all.area.each k l step.here)) in
+    let legal : IsLegalAs c w.map k s = legal_map c w.map k (areas_once c w framed is.all k l step.here) is.all.full is.all.blocks.blocks (λ start. (let n = named start in omega arith)) l.place s (is.only.each k l step.here).place
+    (subst (λ d. IsProper d l.place) own.setup proper) holding (subst (λ i. IsBlockAt c w.map i l.place) own.caller (is.all.blocks.each k l step.here)) (λ start. (let n = named start in omega arith))
+    (λ has. is.all.turns.turns.purge.mine k l step.here has) gives in record {
       step = step;
       meets = given_meets l.setup w.map s (ask l.setup l.place) (has_room l.setup w.map l.place (subst (λ d. 8 ≤ d.unit_pages) (sym own.setup) units) proper) step.gives;
       legal = subst (λ d. IsLegalAs d w.map k s) (sym own.setup) legal;
@@ -274,5 +275,4 @@ trace_legal c units w k l s framed is step =
 
 pub map_histories : HistoriesWithoutObjectsAreLegal
 map_histories c opening calls picks trace areas =
-    let has = has_parts c opening calls trace in
-    one_legal c calls (IsMapTraceWorld c) (map_lasts c opening calls areas has) (trace_legal c trace.setup.unit_low) opening trace (map_first c opening calls areas has) picks
+    one_legal c calls (IsMapTraceWorld c) (map_lasts c trace.setup opening calls areas) (trace_legal c trace.setup.unit_low) opening trace (map_first c trace.setup opening calls areas) picks

@@ -1,18 +1,14 @@
 -- Traces whose calls make and free areas and parts of blocks, and purge: all but those of per-CPU objects.
-use Rattle.std.specs.Prelude.{◌≡◌, ℕ, ◌-◌, List, ◌∷◌, slice_get, Some}
-use Rattle.vm_model.specs.declared.areas.Area.{Area}
-use Rattle.vm_model.specs.declared.areas.AreaKind.TheVariants as kind
+use Rattle.std.specs.Prelude.{◌≡◌, ℕ, List, ◌∷◌, slice_get, Some}
 use Rattle.vm_model.specs.declared.calls.Call.{Call}
 use Rattle.vm_model.specs.declared.calls.Call.TheVariants.{Vmalloc, Vfree, MapRam, UnmapRam, UnmapAliases}
-use Rattle.vm_model.specs.Space.{end_of}
 use Rattle.vm_model.specs.Setup.{Setup}
-use Rattle.vm_model.specs.PlainMap.{PlainMap, Block, at_first}
-use Rattle.vm_model.specs.Legal.{IsUnmapped}
+use Rattle.vm_model.specs.PlainMap.{PlainMap, at_first}
 use Rattle.vm_model.specs.History.{World, placing_calls}
 use Rattle.vm_model.specs.Rules.{IsTrace}
 use Rattle.vm_model.specs.Carried.{IsKept}
 use Rattle.vm_model.specs.LegalHistory.{IsReached}
-use Rattle.vm_model.specs.Laws.{AreAreasApart, AreFreePagesClean, ArePartsApart, IsOneLegalHistory}
+use Rattle.vm_model.specs.Laws.{IsOneLegalHistory}
 
 abbrev pub IsMapCall : Call → Type 0
 IsMapCall (Vmalloc bytes align) = Unit {0}
@@ -34,18 +30,6 @@ pub record AreWithoutObjects (opening : List Call) (calls : List (List Call)) : 
 abbrev pub AlwaysWithoutObjects : (Setup → PlainMap → World → Type 0) → Type 0
 AlwaysWithoutObjects P = (c : Setup) (opening : List Call) (calls : List (List Call)) (w : World) → IsTrace c opening calls → AreWithoutObjects opening calls → IsReached c opening calls w
     → P c (at_first c (placing_calls (opening ∷ calls))) w
-
-abbrev pub AreasWithoutObjectsAreDisjointAndAligned : Type 0
-AreasWithoutObjectsAreDisjointAndAligned = AlwaysWithoutObjects (λ c m w. AreAreasApart c w)
-
-abbrev pub TheGuardWithoutObjectsIsNeverMapped : Type 0
-TheGuardWithoutObjectsIsNeverMapped = AlwaysWithoutObjects (λ c m w. (i : ℕ) (a : Area) → slice_get w.map.areas i ≡ Some a → a.kind ≡ kind.Vmalloc → IsUnmapped w.map (end_of a.span - 1))
-
-abbrev pub FreePagesAreCleanWithoutObjects : Type 0
-FreePagesAreCleanWithoutObjects = AlwaysWithoutObjects (λ c m w. AreFreePagesClean w.map)
-
-abbrev pub PartsWithoutObjectsAreDisjoint : Type 0
-PartsWithoutObjectsAreDisjoint = AlwaysWithoutObjects (λ c m w. (i : ℕ) (b : Block) → slice_get w.map.blocks i ≡ Some b → ArePartsApart c b)
 
 abbrev pub HistoriesWithoutObjectsAreLegal : Type 0
 HistoriesWithoutObjectsAreLegal = (c : Setup) (opening : List Call) (calls : List (List Call)) (picks : List ℕ) → IsTrace c opening calls → AreWithoutObjects opening calls → IsOneLegalHistory c opening calls picks

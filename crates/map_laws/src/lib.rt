@@ -1,11 +1,10 @@
 //! Laws of the plain map: what holds after each event of every legal history.
 #![tactic(auto)]
 
-ghost use Rattle.vm_model.specs.Laws.{ThePurgeTurnIsTakenLast, MoreFuelChangesNothing};
+ghost use Rattle.vm_model.specs.Laws.{ThePurgeTurnIsTakenLast, MoreFuelChangesNothing, AreasAreDisjointAndAligned, TheGuardIsNeverMapped, FreePagesAreClean, PartsOfABlockAreDisjoint};
 ghost use Rattle.map_laws.specs.Turns.{TheTurnsAreKept};
 ghost use Rattle.map_laws.specs.Ends.{EveryRunEnds, HistoriesAreShort};
-ghost use Rattle.map_laws.specs.EveryTrace.{AreasAreAligned, FramesAreOwned};
-ghost use Rattle.map_laws.specs.MapTraces.{AreasWithoutObjectsAreDisjointAndAligned, TheGuardWithoutObjectsIsNeverMapped, FreePagesAreCleanWithoutObjects, PartsWithoutObjectsAreDisjoint, WhatIsCarriedWithoutObjectsIsKept, HistoriesWithoutObjectsAreLegal};
+ghost use Rattle.map_laws.specs.MapTraces.{WhatIsCarriedWithoutObjectsIsKept, HistoriesWithoutObjectsAreLegal};
 
 /// Each of the two turns is with the one caller whose place has it, and the purge turn is taken last.
 pub fn turns()
@@ -21,20 +20,18 @@ pub fn ends()
     ensures more_fuel { MoreFuelChangesNothing }
 {}
 
-/// In every trace areas start where their kind and their call want it, a frame is one page's, and a stale page has none.
+/// In every trace areas are disjoint and start where their kind and their call want it, a guard is never mapped, free pages
+/// are clean and a frame is one page's, and the parts of a block are disjoint.
 pub fn every_trace()
-    ensures aligned { AreasAreAligned }
-    ensures owned { FramesAreOwned }
+    ensures apart { AreasAreDisjointAndAligned }
+    ensures guard { TheGuardIsNeverMapped }
+    ensures clean { FreePagesAreClean }
+    ensures parts { PartsOfABlockAreDisjoint }
 {}
 
-/// In traces whose calls use no per-CPU object: areas are disjoint and aligned, a guard is never mapped, free pages are
-/// clean, the parts of a block are disjoint, what callers carry is kept, and the history is one legal history in which
+/// In traces whose calls use no per-CPU object what callers carry is kept, and the history is one legal history in which
 /// every caller ends.
 pub fn traces_without_objects()
-    ensures apart { AreasWithoutObjectsAreDisjointAndAligned }
-    ensures guard { TheGuardWithoutObjectsIsNeverMapped }
-    ensures clean { FreePagesAreCleanWithoutObjects }
-    ensures parts { PartsWithoutObjectsAreDisjoint }
     ensures carried { WhatIsCarriedWithoutObjectsIsKept }
     ensures legal { HistoriesWithoutObjectsAreLegal }
 {}

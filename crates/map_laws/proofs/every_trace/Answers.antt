@@ -1,5 +1,5 @@
-use Rattle.map_laws.proofs.EveryTraceProofs.{areas_aligned, frames_owned}
+use Rattle.map_laws.proofs.MapLaws.{areas_apart, guard_unmapped, free_clean, parts_disjoint}
 use Rattle.map_laws.proofs.every_trace.Goals as goal
 
 pub returns : goal.returns
-returns c = record { aligned = areas_aligned; owned = frames_owned }
+returns c = record { apart = areas_apart; guard = guard_unmapped; clean = free_clean; parts = parts_disjoint }
