@@ -90,7 +90,7 @@ module _ (c : Setup) (units : AreUnits c) (m : PlainMap) (k : ℕ) (numbered : A
       let is = placement_is c (plain_fit c at.bytes align) at.bytes grown_map.chunks at missing legal.2 in
       let of : IsChunkOf grown_map at.chunk at.base = record { chunk = is.chunk; there = is.there; numbered = sym is.numbered; based = sym is.based } in
       let after = of_stays grown_map added_map at.chunk at.base object_rows of in
-      placed_lacking c (plain_fit c at.bytes align) at.bytes grown_map.chunks added_map at missing is after.0 after.1
+      placed_lacking c (plain_fit c at.bytes align) at.bytes grown_map.chunks added_map at missing is (all_grown is.chunk is.there).long after.0 after.1
       (λ page h. (object_low c (bit_list c is.chunk) at at.bytes (bits_long _ (unit_bits c) 0) size refl (fitting at.bytes align at.off (bit_list c is.chunk) is.fits) page h).0)
 
   pub chunk_added : IsChunkMoved c m k busy (AddingChunk base chunk bytes align) (AddChunk chunk base at align missing) (Go (Populating at missing))

@@ -1,5 +1,4 @@
 -- A chunk's areas are settled, a page is chosen to be filled, and populated pages are noted.
--- Areas that are put among others are there.
 use Rattle.std.proofs.Common.{List, Option, Some, [], ap, arith, false, inl, inr, map, refl, slice_get, subst, suc, sym, zero, ℕ, ◌+◌, ◌==◌, ◌∙◌, ◌∷◌, ◌≡◌, ◌≤◌, ◌⊎◌}
 use Rattle.std.proofs.lemmas.Option.{slice_get_within}
 use Rattle.vm_model.specs.Areas.{areas_of, group_areas, group_kinds, spans_of, with_areas}
@@ -30,6 +29,8 @@ use Rattle.map_laws.proofs.Lists.{there}
 use Rattle.map_laws.proofs.OutMoves.{first_or}
 use Rattle.map_laws.proofs.Places.{OnNext}
 use Rattle.vm_model.specs.declared.areas.AreaKind.TheVariants as kind
+
+-- Areas that are put among others are there.
 
 pub with_new : (xs areas : List Area) (a : Area) → IsIn a xs → IsIn a (with_areas xs areas)
 with_new [] areas a there = (let no = there.at in cc)
@@ -77,7 +78,7 @@ module _ (c : Setup) (units : AreUnits c) (m : PlainMap) (k : ℕ) (numbered : A
         let of : IsChunkOf (effect_as c m k (NextPage chunk base page)) chunk base = record { chunk = legal.0; there = is.there; numbered = sym legal.2; based = sym legal.3 } in
         quiet_chunks c units m k numbered once busy (NextFill filled) all (NextPage chunk base page) (Go (Filling chunk base page filled)) (plain_rows c m k (NextPage chunk base page) refl)
         (λ number. plain_stays c m k (NextPage chunk base page) number refl) (λ number page mine. absurd mine)
-        (of, (let l = slice_get_within legal.0.populated page false is.unpopulated in omega (arith, (all legal.0 is.there).long)))
+        (record { of = of; low = (let l = slice_get_within legal.0.populated page false is.unpopulated in omega (arith, (all legal.0 is.there).long)); unpopulated = is.unpopulated })
 
   -- the pages of an object, or a filled page, are noted
   module _ (none : (number page : ℕ) → busy number page → ⊥) where
@@ -88,6 +89,6 @@ module _ (c : Setup) (units : AreUnits c) (m : PlainMap) (k : ℕ) (numbered : A
 
     pub filled_moved : (chunk page filled : ℕ) (n : Next) (all : (h : Chunk) → IsIn h m.chunks → IsChunkFine c m (λ number own. busy number own ⊎ IsBeingPopulated number own (NotingFilled chunk page filled)) h) → IsChunkAt c m (NotingFilled chunk page filled)
         → OnNext (IsChunkAt c (effect_as c m k (Filled chunk page))) n → IsChunkMoved c m k busy (NotingFilled chunk page filled) (Filled chunk page) n
-    filled_moved chunk page filled n all own next = noted c units m k numbered busy none (NotingFilled chunk page filled) refl all chunk own.0 own.1 (λ other. other == page) (λ other e. subst (λ i. OnUnits c own.0 i (IsMapped m)) (sym (to_same other page e)) own.3)
+    filled_moved chunk page filled n all own next = noted c units m k numbered busy none (NotingFilled chunk page filled) refl all chunk own.0 own.1.of (λ other. other == page) (λ other e. subst (λ i. OnUnits c own.0 i (IsMapped m)) (sym (to_same other page e)) own.2)
         (λ other mine. ap (λ i. i == page) (sym mine.1) ∙ same_test page) (λ other at mine. sym mine.0)
         (Filled chunk page) (with_page page) (λ h. refl) (λ h. refl) (λ h. refl) refl refl (λ number. record { areas = λ a group is e. is; still = λ page is e. record { frame = refl; clean = λ f. f } }) n next

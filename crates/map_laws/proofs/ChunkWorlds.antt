@@ -49,7 +49,7 @@ module _ (c : Setup) (units : AreUnits c) (groups : AreGroups c) (m : PlainMap) 
   chunk_sided (Finding search aim) at = searched search
   chunk_sided (FindingAgain search aim) at = searched search
   chunk_sided (Populating object missing) at = in_units at.here.chunk.number object.base missing (live_at object.chunk object.base at.here) (λ page h. at.low page (at.within page h))
-  chunk_sided (Filling chunk base page filled) at = in_units at.0.chunk.number base (page ∷ []) (live_at chunk base at.0) (λ own h. subst (λ i. i < c.unit_pages) (only_one page own h) at.1)
+  chunk_sided (Filling chunk base page filled) at = in_units at.of.chunk.number base (page ∷ []) (live_at chunk base at.of) (λ own h. subst (λ i. i < c.unit_pages) (only_one page own h) at.low)
   chunk_sided (Depopulating base populated) at = in_units at.0 base populated at.1.live (λ page h. (at.2 page h).0)
   chunk_sided (UnlinkingGroups base) at = ((λ a cpu there e. groups_no_block c m 0 once full some base at.0 at.1.live a cpu there e), groups_unlinked c m once groups at.0 base at.1.live at.2)
   chunk_sided _ at = tt
