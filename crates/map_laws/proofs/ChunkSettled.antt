@@ -18,7 +18,7 @@ use Rattle.vm_model.specs.declared.areas.Area.{Area}
 use Rattle.vm_model.specs.declared.areas.Span.{Span}
 use Rattle.map_laws.proofs.AreaFacts.{IsHolding}
 use Rattle.map_laws.proofs.BlockFacts.{same_test, to_same}
-use Rattle.map_laws.proofs.BlockPlaces.{put_new, with_keeps}
+use Rattle.map_laws.proofs.BlockPlaces.{with_keeps}
 use Rattle.map_laws.proofs.Chosen.{IsIn}
 use Rattle.map_laws.proofs.ChunkFacts.{AreGroupsLive, IsChunkAt, IsChunkFine, IsChunkOf, OnUnits}
 use Rattle.map_laws.proofs.ChunkMoves.{IsChunkMoved, quiet_chunks}
@@ -26,8 +26,8 @@ use Rattle.map_laws.proofs.ChunkNoted.{noted}
 use Rattle.map_laws.proofs.ChunkRoom.{page_fillable}
 use Rattle.map_laws.proofs.ChunkRows.{AreNumbered, plain_rows, plain_stays}
 use Rattle.map_laws.proofs.Lists.{there}
-use Rattle.map_laws.proofs.OutMoves.{first_or}
 use Rattle.map_laws.proofs.Places.{OnNext}
+use Rattle.map_laws.proofs.Puts.{first_or, put_new}
 use Rattle.vm_model.specs.declared.areas.AreaKind.TheVariants as kind
 
 -- Areas that are put among others are there.

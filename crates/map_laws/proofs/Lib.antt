@@ -1,4 +1,6 @@
 pub mod Lists
+pub mod Puts
+pub mod Searched
 pub mod Frames
 pub mod Chosen
 pub mod Fits

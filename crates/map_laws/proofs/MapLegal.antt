@@ -1,80 +1,45 @@
 -- Each section that the map gives to a caller without per-CPU objects is legal.
-use Rattle.std.proofs.Common.{◌≡◌, ℕ, zero, suc, ◌+◌, ◌<◌, ◌≤◌, Bool, true, false, ◌==◌, cond, nat_lt, if◌then◌else◌, List, [], ◌∷◌, ◌++◌, length, map, filter, find, flat_map, not, slice_get, sum_by, Option, Some, None, option_map, refl, ap, sym, ◌∙◌, subst, arith, length-append}
+use Rattle.std.proofs.Common.{Bool, List, None, Option, Some, [], ap, arith, cond, false, filter, flat_map, if◌then◌else◌, length, nat_lt, not, option_map, refl, slice_get, subst, suc, sum_by, sym, true, zero, ℕ, ◌+◌, ◌<◌, ◌==◌, ◌∙◌, ◌∷◌, ◌≡◌, ◌≤◌}
 use Rattle.std.proofs.lemmas.Bool.Decides.{nat_tests}
 use Rattle.std.proofs.lemmas.List.Sums.{sum_by-cons}
-use Rattle.vm_model.specs.declared.areas.Span.{Span}
-use Rattle.vm_model.specs.declared.areas.Area.{Area}
-use Rattle.vm_model.specs.declared.areas.AreaKind.TheVariants as kind
-use Rattle.vm_model.specs.Space.{span, holds, covers, one_if, times, lowest, is_among}
-use Rattle.vm_model.specs.Setup.{Setup}
-use Rattle.vm_model.specs.PlainMap.{PlainMap, Block, Part, InHand, lives_as, taken}
-use Rattle.vm_model.specs.Areas.{is_area, named_areas, areas_at, mapped_part, spans_of}
+use Rattle.vm_model.specs.Areas.{areas_at, is_area, mapped_part, named_areas, spans_of}
+use Rattle.vm_model.specs.Blocks.{PartAt, blocks_of, first_page, is_named, life_of_part, mapped_pages, named_in, named_parts, part_to_cut, parts_size, rounded, size_of}
+use Rattle.vm_model.specs.Carried.{count_of, has_purge}
+use Rattle.vm_model.specs.Events.{ForPages, MapPages, NoFrames, Section, TakePurge}
 use Rattle.vm_model.specs.Frames.{free_frames}
-use Rattle.vm_model.specs.Blocks.{PartAt, first_page, mapped_pages, rounded, size_of, parts_size, blocks_of, part_to_cut, life_of_part, is_named, named_in, named_parts}
-use Rattle.vm_model.specs.Legal.{OnEach, IsBare, IsLegalAs, AreStarts}
-use Rattle.vm_model.specs.Events.{Section, ForPages, TakePurge, MapPages, NoFrames}
-use Rattle.vm_model.specs.Places.{Place, Over, Refusing, Finding, FindingAgain, MappingArea, Dropping, SettlingArea, Removing, UnmappingArea, Waiting, PurgeTaking, PurgeFragmenting, PurgeUnlinking, PurgeWaiting, PurgeCollecting, PurgeFlushing, PurgeReturning, PurgeGiving, CuttingPart, SettlingBlock, AddingBlock, MappingPart, SettlingPart, BeginningUnmap, UnmappingPart, Retiring, UnlinkingBlock, LookingAtDirty, block_spans, ask}
-use Rattle.vm_model.specs.Given.{given, carving, removal, cutting, beginning}
-use Rattle.vm_model.specs.History.{World, Local}
-use Rattle.vm_model.specs.Carried.{has_purge, count_of}
-use Rattle.map_laws.specs.MapTraces.{HistoriesWithoutObjectsAreLegal}
-use Rattle.map_laws.proofs.Chosen.{IsIn, in_more, filter_has, filter_in, find_has, sum_by-filter-le}
+use Rattle.vm_model.specs.Given.{beginning, carving, cutting, given, removal}
+use Rattle.vm_model.specs.History.{Local, World, step}
+use Rattle.vm_model.specs.Legal.{AreStarts, IsBare, IsLegalAs, OnEach}
+use Rattle.vm_model.specs.Places.{AddingBlock, BeginningUnmap, CuttingPart, Dropping, Finding, FindingAgain, LookingAtDirty, MappingArea, MappingPart, Over, Place, PurgeCollecting, PurgeFlushing, PurgeFragmenting, PurgeGiving, PurgeReturning, PurgeTaking, PurgeUnlinking, PurgeWaiting, Refusing, Removing, Retiring, SettlingArea, SettlingBlock, SettlingPart, UnlinkingBlock, UnmappingArea, UnmappingPart, Waiting, ask, block_spans}
+use Rattle.vm_model.specs.PlainMap.{Block, InHand, Part, PlainMap, lives_as, taken}
+use Rattle.vm_model.specs.Setup.{Setup}
+use Rattle.vm_model.specs.Space.{covers, holds, hull, is_among, lowest, one_if, span, times}
+use Rattle.vm_model.specs.declared.areas.Area.{Area}
+use Rattle.vm_model.specs.declared.areas.Span.{Span}
+use Rattle.map_laws.proofs.AreaFacts.{IsHolding, mapped_covers}
+use Rattle.map_laws.proofs.AreaWorlds.{IsLegalStep}
+use Rattle.map_laws.proofs.BlockFacts.{AreStacked, IsBlockArea, IsBlockAt, IsBlockFine, IsOut, IsPartIn, among_count, block_out, block_starts, counted_block, size_cons, to_same}
+use Rattle.map_laws.proofs.BlockMoves.{area_start, part_within, row_of, same_start}
+use Rattle.map_laws.proofs.BlockWorlds.{covered_start, only_one, row_covers, times_count}
+use Rattle.map_laws.proofs.Chosen.{IsIn, filter_has, filter_in, find_has, sum_by-filter-le}
 use Rattle.map_laws.proofs.Fits.{and_both}
 use Rattle.map_laws.proofs.Frames.{IsFramed, IsStep}
-use Rattle.map_laws.proofs.Places.{IsProper}
-use Rattle.map_laws.proofs.TurnPlaces.{taking_is}
-use Rattle.map_laws.proofs.Spans.{times-cons, covers_one, holds_to, holds_from, in_spans, InSpans, Inside, Outside}
-use Rattle.map_laws.proofs.StepFalls.{has_room}
-use Rattle.map_laws.proofs.GivenMeets.{given_meets, cut_of, begun_of, flat_in}
-use Rattle.map_laws.proofs.AreaFacts.{IsHolding, mapped_covers}
-use Rattle.map_laws.proofs.MapMoves.{times_both}
-use Rattle.map_laws.proofs.AreaWorlds.{IsLegalStep}
-use Rattle.map_laws.proofs.MapPlaces.{IsMapPlace}
-use Rattle.map_laws.proofs.BlockFacts.{IsBlockArea, IsBlockFine, IsPartIn, IsOut, IsBlockAt, AreStacked, block_starts, among_count, counted_block, to_same, size_cons, block_out}
-use Rattle.map_laws.proofs.BlockMoves.{part_within, row_of, same_start, area_start}
-use Rattle.map_laws.proofs.PartMoves.{own_is}
-use Rattle.map_laws.proofs.BlockWorlds.{times_count, row_covers, covered_start, only_one}
-use Rattle.map_laws.proofs.ObjectlessWorlds.{IsMapTraceWorld, map_lasts, map_first}
-use Rattle.map_laws.proofs.TraceWorlds.{AreFull, areas_once, own_names}
+use Rattle.map_laws.proofs.GivenMeets.{begun_of, cut_of, flat_in, given_meets}
 use Rattle.map_laws.proofs.LegalRuns.{one_legal}
+use Rattle.map_laws.proofs.Lists.{there}
+use Rattle.map_laws.proofs.MapMoves.{times_both}
+use Rattle.map_laws.proofs.MapPlaces.{IsMapPlace}
+use Rattle.map_laws.proofs.ObjectlessWorlds.{IsMapTraceWorld, map_first, map_lasts}
+use Rattle.map_laws.proofs.PartMoves.{own_is}
+use Rattle.map_laws.proofs.Places.{IsProper}
 use Rattle.map_laws.proofs.Powers.{rounded_some}
-
--- Lists that are searched.
-
-find_by : {X : Type 0} (p : X → Bool) (xs : List X) (y x : X) (b : Bool) → p y ≡ b → ((z : X) × (find p xs ≡ Some z)) → (z : X) × (cond b (Some y) (find p xs) ≡ Some z)
-find_by p xs y x true e more = (y, refl)
-find_by p xs y x false e more = more
-
-find_some : {X : Type 0} (p : X → Bool) (xs : List X) (x : X) (i : ℕ) → slice_get xs i ≡ Some x → p x ≡ true → (z : X) × (find p xs ≡ Some z)
-find_some p [] x i h e = cc
-find_some p (y ∷ xs) x zero h e = let same : y ≡ x = cc in (y, ap (λ b. cond b (Some y) (find p xs)) (ap p same ∙ e))
-find_some p (y ∷ xs) x (suc i) h e = find_by p xs y x _ refl (find_some p xs x i h e)
-
-append_second : {X : Type 0} (xs ys : List X) (y : X) → IsIn y ys → IsIn y (xs ++ ys)
-append_second [] ys y there = there
-append_second (x ∷ xs) ys y there = in_more y x (xs ++ ys) (append_second xs ys y there)
-
-append_front : {X : Type 0} (xs ys : List X) (y : X) (i : ℕ) → slice_get xs i ≡ Some y → IsIn y (xs ++ ys)
-append_front [] ys y i h = cc
-append_front (x ∷ xs) ys y zero h = record { place = 0; at = h }
-append_front (x ∷ xs) ys y (suc i) h = in_more y x (xs ++ ys) (append_front xs ys y i h)
-
-flat_has : {X Y : Type 0} (f : X → List Y) (xs : List X) (i : ℕ) (x : X) (y : Y) → slice_get xs i ≡ Some x → IsIn y (f x) → IsIn y (flat_map f xs)
-flat_has f [] i x y h there = cc
-flat_has f (z ∷ xs) zero x y h there = let same : z ≡ x = cc in append_front (f z) (flat_map f xs) y there.place (ap (λ v. slice_get (f v) there.place) same ∙ there.at)
-flat_has f (z ∷ xs) (suc i) x y h there = append_second (f z) (flat_map f xs) y (flat_has f xs i x y h there)
-
-length_flat : {X Y : Type 0} (f : X → List Y) (xs : List X) → length (flat_map f xs) ≡ sum_by (λ x. length (f x)) xs
-length_flat f [] = refl
-length_flat f (x ∷ xs) = omega (arith, length-append (f x) (flat_map f xs), length_flat f xs, sum_by-cons (λ x. length (f x)) x xs)
-
-length_map : {X Y : Type 0} (f : X → Y) (xs : List X) → length (map f xs) ≡ length xs
-length_map f [] = refl
-length_map f (x ∷ xs) = ap suc (length_map f xs)
-
-sum_le : {X : Type 0} (f g : X → ℕ) (xs : List X) → ((x : X) → IsIn x xs → f x ≤ g x) → sum_by f xs ≤ sum_by g xs
-sum_le f g [] h = omega arith
-sum_le f g (x ∷ xs) h = omega (arith, sum_by-cons f x xs, sum_by-cons g x xs, h x (record { place = 0; at = refl }), sum_le f g xs (λ y there. h y (in_more y x xs there)))
+use Rattle.map_laws.proofs.Searched.{find_some, flat_has, length_flat, length_map, sum_le}
+use Rattle.map_laws.proofs.Spans.{InSpans, Inside, Outside, covers_one, holds_from, holds_to, in_spans, times-cons}
+use Rattle.map_laws.proofs.StepFalls.{has_room}
+use Rattle.map_laws.proofs.TraceWorlds.{AreFull, areas_once, own_names}
+use Rattle.map_laws.proofs.TurnPlaces.{taking_is}
+use Rattle.map_laws.specs.MapTraces.{HistoriesWithoutObjectsAreLegal}
+use Rattle.vm_model.specs.declared.areas.AreaKind.TheVariants as kind
 
 -- Areas of a start.
 
