@@ -67,3 +67,5 @@ pub mod ChunkSettled
 pub mod ChunkNext
 pub mod ChunkDispatch
 pub mod ChunkWorlds
+pub mod ChunkNumbers
+pub mod ObjectFacts
