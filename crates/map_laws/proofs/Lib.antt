@@ -69,3 +69,4 @@ pub mod ChunkDispatch
 pub mod ChunkWorlds
 pub mod ChunkNumbers
 pub mod ObjectFacts
+pub mod ObjectChanges
