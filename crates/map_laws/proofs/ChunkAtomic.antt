@@ -43,7 +43,7 @@ page_bit bits bytes off more page is whole low high = by_order (nat_le (1024 * p
         (1024 * page, ap (slice_get bits) (sym there) ∙ fitting_bit bits bytes off (1024 * page - is.bit) is (omega arith), holds_from (span (1024 * page) 1024) (1024 * page) (omega arith) (omega arith))
 
 -- what a row of tests says at a place
-row_test : (test : ℕ → Bool) (n first i : ℕ) (b : Bool) → slice_get (map test (count_from n first)) i ≡ Some b → test (first + i) ≡ b
+pub row_test : (test : ℕ → Bool) (n first i : ℕ) (b : Bool) → slice_get (map test (count_from n first)) i ≡ Some b → test (first + i) ≡ b
 row_test test zero first i b e = cc
 row_test test (suc n) first zero b e = ap test (let f : first + 0 ≡ first = omega arith in f) ∙ cc
 row_test test (suc n) first (suc i) b e = ap test (let f : first + suc i ≡ suc first + i = omega arith in f) ∙ row_test test n (suc first) i b e

@@ -4,11 +4,11 @@ use Rattle.vm_model.specs.Areas.{group_areas, mapped_part, spans_of}
 use Rattle.vm_model.specs.Blocks.{PartAt, mapped_pages}
 use Rattle.vm_model.specs.Carried.{IsBeingPopulated, has_alloc}
 use Rattle.vm_model.specs.Effects.{effect_as}
-use Rattle.vm_model.specs.Events.{AddChunk, AreaNotLive, Depopulate, Enough, Fill, Filled, MapPages, NextPage, NoAtomic, NoFrames, NoPlace, NoSpare, PlaceAtomic, PlaceObject, Populate, Remove, Section, Settle, SettleObject, Spare, Unlink, Unmap, Zero}
+use Rattle.vm_model.specs.Events.{AddChunk, AreaNotLive, Depopulate, Enough, Fill, Filled, MapPages, NextPage, NoAtomic, NoFrames, NoPlace, NoSpare, PlaceAtomic, PlaceObject, Populate, Remove, Section, Settle, SettleObject, Spare, Unlink, Unmap, Unplace, Zero}
 use Rattle.vm_model.specs.Legal.{IsLegalAs}
 use Rattle.vm_model.specs.LegalHistory.{Meets}
 use Rattle.vm_model.specs.Next.{Go, Next, next}
-use Rattle.vm_model.specs.Places.{AddingChunk, Choosing, ChoosingAtomic, Depopulating, Filling, MappingArea, MappingPart, NextFill, NotingFilled, Place, Populating, PurgeUnlinking, Removing, SettlingAtomic, SettlingGroups, SettlingObject, Sparing, UnlinkingBlock, UnlinkingGroups, UnmappingArea, UnmappingPart, Zeroing, ask, group_starts}
+use Rattle.vm_model.specs.Places.{AddingChunk, Choosing, ChoosingAtomic, Depopulating, Filling, MappingArea, MappingPart, NextFill, NotingFilled, Place, Populating, PurgeUnlinking, Removing, SettlingAtomic, SettlingGroups, SettlingObject, Sparing, UnlinkingBlock, UnlinkingGroups, UnmappingArea, UnmappingPart, Unplacing, Zeroing, ask, group_starts}
 use Rattle.vm_model.specs.PlainMap.{Block, Chunk, PlainMap}
 use Rattle.vm_model.specs.Rules.{AreUnits}
 use Rattle.vm_model.specs.Setup.{Setup, pages_in_units}
@@ -105,6 +105,7 @@ module _ (c : Setup) (units : AreUnits c) (m : PlainMap) (k : ℕ) (numbered : A
   chunk_by (Populating object missing) s none all proper own plain block at (inr w) legal = as_c (Populating object missing) all s (NoFrames (length (pages_in_units c object.base missing))) w legal
       (λ l. still_c (Populating object missing) all (NoFrames (length (pages_in_units c object.base missing))) _ (λ number page mine. mine) refl tt)
   chunk_by (SettlingObject object) s none all proper own plain block at w legal = as_c (SettlingObject object) all s (SettleObject object w.0) w.1 legal (λ l. lives_moved c units m k numbered once busy (none refl) object w.0 _ all at tt)
+  chunk_by (Unplacing object) s none all proper own plain block at w legal = as_c (Unplacing object) all s (Unplace object) w legal (λ l. still_c (Unplacing object) all (Unplace object) _ (λ number page mine. mine) refl tt)
   chunk_by (ChoosingAtomic bytes align) s none all proper own plain block at (inl w) legal = as_c (ChoosingAtomic bytes align) all s (PlaceAtomic w.0 align) w.2 legal
       (λ l. atomic_moved c units m k numbered once busy bytes align all w.0 (subst IsObjectSize (sym w.1) proper) l)
   chunk_by (ChoosingAtomic bytes align) s none all proper own plain block at (inr w) legal = as_c (ChoosingAtomic bytes align) all s (NoAtomic bytes align) w legal (λ l. still_c (ChoosingAtomic bytes align) all (NoAtomic bytes align) _ (λ number page mine. mine) refl tt)

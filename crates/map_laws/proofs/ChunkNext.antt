@@ -1,4 +1,4 @@
--- The places of which nothing is said as to chunks, and the sections that change no chunk but for its objects.
+-- The places of which nothing is said as to chunks and their objects, and the sections that change no chunk but for its objects.
 use Rattle.std.proofs.Common.{Bool, List, None, Option, Some, [], ap, false, inl, inr, nat_lt, refl, suc, true, ℕ, ◌++◌, ◌∙◌, ◌∷◌, ◌≡◌}
 use Rattle.vm_model.specs.Blocks.{PartAt}
 use Rattle.vm_model.specs.Carried.{IsBeingPopulated}
@@ -6,7 +6,7 @@ use Rattle.vm_model.specs.Events.{ForGroups, ForPages, Search, Section}
 use Rattle.vm_model.specs.LegalHistory.{Meets}
 use Rattle.vm_model.specs.Next.{Answer, Go, Next, after_begin, after_collecting, after_cut, after_flush, after_fragments, after_remove, found, go_on, next, without_space}
 use Rattle.vm_model.specs.Parts.{after}
-use Rattle.vm_model.specs.Places.{Adding, AddingChunk, Aim, Ask, AskAdd, AskAddBlock, AskAddChunk, AskAtomic, AskBegin, AskDepopulate, AskDirty, AskDrop, AskFill, AskFilled, AskFlush, AskFragment, AskFree, AskGiveAlloc, AskGivePurge, AskMap, AskNextPage, AskNothing, AskPart, AskPlace, AskPopulate, AskRefuse, AskRemove, AskRetire, AskReturn, AskSearch, AskSettle, AskSettleObject, AskSettlePart, AskSpare, AskSum, AskTakeAlloc, AskTakePurge, AskTakeWaiting, AskUnlink, AskUnmap, AskUnplace, AskWait, AskZero, BeginningUnmap, Choosing, ChoosingAtomic, CuttingPart, Depopulating, Dropping, Filling, Finding, FindingAgain, ForArea, ForBlock, ForChunk, FreeingObject, GivingAlloc, LookingAtDirty, MappingArea, MappingPart, NextFill, NotingFilled, Place, Populating, PurgeCollecting, PurgeFlushing, PurgeFragmenting, PurgeGiving, Refusing, Removing, ReplyWith, Retiring, SearchAgain, SettlingArea, SettlingAtomic, SettlingGroups, SettlingObject, SettlingPart, SpareAgain, Sparing, Summing, Then, UnlinkingGroups, Waiting, Zeroing}
+use Rattle.vm_model.specs.Places.{Adding, AddingChunk, Aim, Ask, AskAdd, AskAddBlock, AskAddChunk, AskAtomic, AskBegin, AskDepopulate, AskDirty, AskDrop, AskFill, AskFilled, AskFlush, AskFragment, AskFree, AskGiveAlloc, AskGivePurge, AskMap, AskNextPage, AskNothing, AskPart, AskPlace, AskPopulate, AskRefuse, AskRemove, AskRetire, AskReturn, AskSearch, AskSettle, AskSettleObject, AskSettlePart, AskSpare, AskSum, AskTakeAlloc, AskTakePurge, AskTakeWaiting, AskUnlink, AskUnmap, AskUnplace, AskWait, AskZero, BeginningUnmap, Choosing, ChoosingAtomic, CuttingPart, Depopulating, Dropping, Filling, Finding, FindingAgain, ForArea, ForBlock, ForChunk, FreeingObject, GivingAlloc, LookingAtDirty, MappingArea, MappingPart, NextFill, NotingFilled, Place, Populating, PurgeCollecting, PurgeFlushing, PurgeFragmenting, PurgeGiving, Refusing, Removing, ReplyWith, Retiring, SearchAgain, SettlingArea, SettlingAtomic, SettlingGroups, SettlingObject, SettlingPart, SpareAgain, Sparing, Summing, Then, UnlinkingGroups, Unplacing, Waiting, Zeroing}
 use Rattle.vm_model.specs.PlainMap.{PlainMap}
 use Rattle.vm_model.specs.Setup.{Setup, cpus}
 use Rattle.vm_model.specs.Space.{hull}
@@ -22,6 +22,7 @@ abbrev pub is_chunked : Place → Bool
 is_chunked (AddingChunk base chunk bytes align) = true
 is_chunked (Populating at missing) = true
 is_chunked (SettlingObject at) = true
+is_chunked (Unplacing at) = true
 is_chunked (Zeroing at) = true
 is_chunked (SettlingAtomic at) = true
 is_chunked (Depopulating base populated) = true
@@ -37,6 +38,7 @@ pub unchunked_at : (c : Setup) (m : PlainMap) (p : Place) → IsUnchunked p → 
 unchunked_at c m (AddingChunk base chunk bytes align) h = cc
 unchunked_at c m (Populating at missing) h = cc
 unchunked_at c m (SettlingObject at) h = cc
+unchunked_at c m (Unplacing at) h = cc
 unchunked_at c m (Zeroing at) h = cc
 unchunked_at c m (SettlingAtomic at) h = cc
 unchunked_at c m (Depopulating base populated) h = cc

@@ -70,3 +70,4 @@ pub mod ChunkWorlds
 pub mod ChunkNumbers
 pub mod ObjectFacts
 pub mod ObjectChanges
+pub mod ObjectMoves
