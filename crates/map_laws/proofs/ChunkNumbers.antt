@@ -29,28 +29,28 @@ number_then (SearchAgain search aim) = number_aim aim
 number_then (ReplyWith reply) = None
 number_then SpareAgain = None
 
-abbrev pub number_of : Place → Option ℕ
-number_of (Finding search aim) = number_aim aim
-number_of (FindingAgain search aim) = number_aim aim
-number_of (Waiting spans after) = number_then after
-number_of (PurgeTaking extra after) = number_then after
-number_of (PurgeFragmenting cpu gone extra after) = number_then after
-number_of (PurgeUnlinking gone extra after) = number_then after
-number_of (PurgeWaiting gone extra after) = number_then after
-number_of (PurgeCollecting extra after) = number_then after
-number_of (PurgeFlushing s waited after) = number_then after
-number_of (PurgeReturning waited after) = number_then after
-number_of (PurgeGiving after) = number_then after
-number_of (SettlingGroups base chunk bytes align) = Some chunk
-number_of (AddingChunk base chunk bytes align) = Some chunk
-number_of _ = None
+abbrev pub chunk_number : Place → Option ℕ
+chunk_number (Finding search aim) = number_aim aim
+chunk_number (FindingAgain search aim) = number_aim aim
+chunk_number (Waiting spans after) = number_then after
+chunk_number (PurgeTaking extra after) = number_then after
+chunk_number (PurgeFragmenting cpu gone extra after) = number_then after
+chunk_number (PurgeUnlinking gone extra after) = number_then after
+chunk_number (PurgeWaiting gone extra after) = number_then after
+chunk_number (PurgeCollecting extra after) = number_then after
+chunk_number (PurgeFlushing s waited after) = number_then after
+chunk_number (PurgeReturning waited after) = number_then after
+chunk_number (PurgeGiving after) = number_then after
+chunk_number (SettlingGroups base chunk bytes align) = Some chunk
+chunk_number (AddingChunk base chunk bytes align) = Some chunk
+chunk_number _ = None
 
 -- of a place, and of what follows one that has this number
 abbrev pub IsNumberNext : PlainMap → Place → Type 0
-IsNumberNext m p = (number : ℕ) → number_of p ≡ Some number → number ≡ m.next_chunk
+IsNumberNext m p = (number : ℕ) → chunk_number p ≡ Some number → number ≡ m.next_chunk
 
 abbrev pub HasNumber : Option ℕ → Place → Type 0
-HasNumber o q = (number : ℕ) → number_of q ≡ Some number → o ≡ Some number
+HasNumber o q = (number : ℕ) → chunk_number q ≡ Some number → o ≡ Some number
 
 aim_alloc : (aim : Aim) (number : ℕ) → number_aim aim ≡ Some number → is_for_chunk aim ≡ true
 aim_alloc (ForArea k) number e = cc
@@ -63,7 +63,7 @@ then_alloc (ReplyWith reply) number e = cc
 then_alloc SpareAgain number e = cc
 
 -- such a place has the alloc turn
-pub number_alloc : (p : Place) (number : ℕ) → number_of p ≡ Some number → has_alloc p ≡ true
+pub number_alloc : (p : Place) (number : ℕ) → chunk_number p ≡ Some number → has_alloc p ≡ true
 number_alloc (Finding search aim) number e = aim_alloc aim number e
 number_alloc (FindingAgain search aim) number e = aim_alloc aim number e
 number_alloc (Waiting spans after) number e = then_alloc after number e
@@ -80,7 +80,7 @@ number_alloc (AddingChunk base chunk bytes align) number e = refl
 number_alloc _ number e = cc
 
 module _ (c : Setup) where
-  unnumbered : (o : Option ℕ) (q : Place) → number_of q ≡ None → HasNumber o q
+  unnumbered : (o : Option ℕ) (q : Place) → chunk_number q ≡ None → HasNumber o q
   unnumbered o q none number e = cc
 
   found_number : (aim : Aim) (o : Option Span) (base : Option ℕ) (otherwise : Next) → OnNext (HasNumber (number_aim aim)) otherwise → OnNext (HasNumber (number_aim aim)) (found aim o base otherwise)
@@ -147,7 +147,7 @@ module _ (c : Setup) where
   is_choosing _ = false
 
   -- a section elsewhere leads to no other number
-  pub number_next : (p : Place) (s : Section) → is_choosing p ≡ false → OnNext (HasNumber (number_of p)) (next c p s)
+  pub number_next : (p : Place) (s : Section) → is_choosing p ≡ false → OnNext (HasNumber (chunk_number p)) (next c p s)
   number_next (Choosing bytes align) s h = cc
   number_next (AddingChunk base chunk bytes align) s h = cc
   number_next (Finding search aim) s h = found_number aim (carved s) (carved_base s) _ (λ number e. e)
@@ -194,7 +194,7 @@ module _ (c : Setup) where
         by_ask (AddingChunk base chunk bytes align) s true e w = inr refl
         by_ask _ s true e w = cc
 
-    kept_number : (p : Place) (s : Section) (n : Next) → (effect_as c m k s).next_chunk ≡ m.next_chunk → IsNumberNext m p → OnNext (HasNumber (number_of p)) n → OnNext (IsNumberNext (effect_as c m k s)) n
+    kept_number : (p : Place) (s : Section) (n : Next) → (effect_as c m k s).next_chunk ≡ m.next_chunk → IsNumberNext m p → OnNext (HasNumber (chunk_number p)) n → OnNext (IsNumberNext (effect_as c m k s)) n
     kept_number p s (Go q) same is has = λ number e. is number (has number e) ∙ sym same
     kept_number p s (Answer r made) same is has = tt
 

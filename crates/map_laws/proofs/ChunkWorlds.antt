@@ -77,7 +77,7 @@ busy_alloc (SettlingObject at) number page b = refl
 busy_alloc (NotingFilled chunk own filled) number page b = refl
 busy_alloc _ number page b = absurd b
 
-unchunked_begins : (c : Setup) → HaveBeginnings IsUnchunked c
+pub unchunked_begins : (c : Setup) → HaveBeginnings IsUnchunked c
 unchunked_begins c = record {
   over = refl;
   refused = λ r. refl;

@@ -71,3 +71,4 @@ pub mod ChunkNumbers
 pub mod ObjectFacts
 pub mod ObjectChanges
 pub mod ObjectMoves
+pub mod ObjectWorlds
