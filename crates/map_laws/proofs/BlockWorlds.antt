@@ -55,7 +55,7 @@ sum_by_first : {X : Type 0} (f : X → ℕ) (x : X) (xs : List X) (n : ℕ) → 
 sum_by_first f x xs zero e h more = let is = more (omega (arith, sum_by-cons f x xs)) in (suc is.0, is.1, is.2, is.3)
 sum_by_first f x xs (suc n) e h more = (0, x, refl, (omega arith))
 
-sum_some : {X : Type 0} (f : X → ℕ) (xs : List X) → 1 ≤ sum_by f xs → (i : ℕ) × (x : X) × (slice_get xs i ≡ Some x) × (1 ≤ f x)
+pub sum_some : {X : Type 0} (f : X → ℕ) (xs : List X) → 1 ≤ sum_by f xs → (i : ℕ) × (x : X) × (slice_get xs i ≡ Some x) × (1 ≤ f x)
 sum_some f [] h = absurd (omega arith)
 sum_some f (x ∷ xs) h = sum_by_first f x xs (f x) refl h (sum_some f xs)
 

@@ -46,6 +46,7 @@ pub mod BlockPlaces
 pub mod BlockDispatch
 pub mod BlockWorlds
 pub mod TraceWorlds
+pub mod ObjectLaws
 pub mod MapLaws
 pub mod ObjectlessWorlds
 pub mod MapLegal

@@ -1,4 +1,4 @@
--- What every reached world of a trace has, of areas, blocks, parts, chunks and callers.
+-- What every reached world of a trace has, of areas, blocks, parts, chunks, objects and callers.
 -- each area has pages
 use Rattle.std.proofs.Common.{Bool, List, Some, [], ap, arith, false, inl, inr, length, map, refl, slice_get, slice_set, subst, suc, sum_by, sym, true, zero, ℕ, ◌+◌, ◌<◌, ◌∷◌, ◌≡◌, ◌≤◌}
 use Rattle.std.proofs.lemmas.List.Sums.{sum_by-append, sum_by-cons}
@@ -31,9 +31,12 @@ use Rattle.map_laws.proofs.BlockPlaces.{HasParts, IsUnblocky, unblocky_at, unblo
 use Rattle.map_laws.proofs.BlockWorlds.{IsBlockWorld, block_outside, block_step, unblocky_begins}
 use Rattle.map_laws.proofs.Chosen.{IsIn, sum_has}
 use Rattle.map_laws.proofs.ChunkDispatch.{chunk_by}
+use Rattle.map_laws.proofs.ChunkMoves.{IsChunkMoved}
 use Rattle.map_laws.proofs.ChunkWorlds.{IsChunkWorld, OthersPopulate, chunk_first, chunk_joins, chunk_sided, chunk_step, chunks_here, none_populates}
 use Rattle.map_laws.proofs.Frames.{IsFramed, has_call, not_over}
 use Rattle.map_laws.proofs.Lists.{append_cases}
+use Rattle.map_laws.proofs.ObjectMoves.{object_by}
+use Rattle.map_laws.proofs.ObjectWorlds.{IsObjectWorld, OthersPlace, object_first, object_joins, object_step, objects_here}
 use Rattle.map_laws.proofs.OutMoves.{with_in}
 use Rattle.map_laws.proofs.OwnFrames.{AreFramesClean, clean_first, clean_lasts}
 use Rattle.map_laws.proofs.Places.{IsProper, begins_with}
@@ -76,6 +79,7 @@ pub record IsTraceWorld (c : Setup) (w : World) : Type 0 where
   pub plain : IsPlainWorld w
   pub blocks : IsBlockWorld c w
   pub chunks : IsChunkWorld c w
+  pub objects : IsObjectWorld c w
   pub made : AreMadeWell c w.map.areas
   pub clean : AreFramesClean w.map
   pub aligned : AreAligned w
@@ -134,13 +138,23 @@ module _ (c : Setup) (setup : IsSetup c) (w : World) (framed : IsFramed c w) (is
         block_step c w l s is.blocks at_caller (λ j x h. (framed.own j x h).caller) has_call_here moved own.setup
         (made_by w l s).map (ap (λ d. effect_as d w.map l.caller s) own.setup) (made_by w l s).locals (ap (λ d. slice_set w.locals l.caller (moved_to l (next d l.place s))) own.setup) (made_by w l s).events
 
+    moved_chunks : IsChunkMoved c w.map l.caller (OthersPopulate w l.caller) l.place s (next c l.place s)
+    moved_chunks = chunk_by c setup.units w.map l.caller is.chunks.numbered (areas_once c w framed is k l step.step.here) (OthersPopulate w l.caller) is.area.fine is.full.each (has_parts c setup).some is.blocks.blocks l.place s
+        (none_populates w l.caller l at_caller is.turns.turns) (chunks_here w l.caller l at_caller is.turns.turns c is.chunks) (proper_here k l step.step.here) (holding_here k l step.step.here) (plain_here c w framed is k l step.step.here)
+        (is.blocks.each k l step.step.here) (is.chunks.each k l step.step.here) meets_here legal_here
+
     step_chunks : IsChunkWorld c (made_by w l s)
     step_chunks =
         let own = framed.own k l step.step.here in
-        let moved = chunk_by c setup.units w.map l.caller is.chunks.numbered (areas_once c w framed is k l step.step.here) (OthersPopulate w l.caller) is.area.fine is.full.each (has_parts c setup).some is.blocks.blocks l.place s
-        (none_populates w l.caller l at_caller is.turns.turns) (chunks_here w l.caller l at_caller is.turns.turns c is.chunks) (proper_here k l step.step.here) (holding_here k l step.step.here) (plain_here c w framed is k l step.step.here)
-        (is.blocks.each k l step.step.here) (is.chunks.each k l step.step.here) meets_here legal_here in
-        chunk_step c w l s is.chunks is.turns.turns at_caller has_call_here moved
+        chunk_step c w l s is.chunks is.turns.turns at_caller has_call_here moved_chunks
+        (made_by w l s).map (ap (λ d. effect_as d w.map l.caller s) own.setup) (made_by w l s).locals (ap (λ d. slice_set w.locals l.caller (moved_to l (next d l.place s))) own.setup) (made_by w l s).events
+
+    step_objects : IsObjectWorld c (made_by w l s)
+    step_objects =
+        let own = framed.own k l step.step.here in
+        let moved = object_by c w.map l.caller is.chunks.numbered (λ h there. (is.chunks.chunks h there).long) (OthersPlace w l.caller) l.place s (objects_here c w l.caller l at_caller is.objects) (proper_here k l step.step.here)
+        (is.objects.hands k l step.step.here) moved_chunks.own meets_here legal_here in
+        object_step c w l s is.objects is.turns.turns at_caller (λ j x h. (framed.own j x h).caller) has_call_here meets_here legal_here moved
         (made_by w l s).map (ap (λ d. effect_as d w.map l.caller s) own.setup) (made_by w l s).locals (ap (λ d. slice_set w.locals l.caller (moved_to l (next d l.place s))) own.setup) (made_by w l s).events
 
     outside_here : IsOutside l.setup w.map l.place
@@ -156,6 +170,7 @@ module _ (c : Setup) (setup : IsSetup c) (w : World) (framed : IsFramed c w) (is
           plain = plain_step c w k l s framed is.turns.proper is.plain step;
           blocks = step_blocks;
           chunks = step_chunks;
+          objects = step_objects;
           made = subst (λ d. AreMadeWell d (made_by w l s).map.areas) own.setup (made_section l.setup w.map l.caller l.place s proper step.meets (subst (λ d. AreMadeWell d w.map.areas) (sym own.setup) is.made));
           clean = (clean_lasts c calls).steps w k l s framed is.clean step;
           aligned = (aligned_lasts c calls).steps w k l s framed is.aligned step.step;
@@ -202,6 +217,7 @@ module _ (c : Setup) (opening : List Call) (calls : List (List Call)) where
       plain = plain_joins c calls w is.plain;
       blocks = block_joins w is.blocks;
       chunks = chunk_joins c calls w is.chunks;
+      objects = object_joins c calls w is.objects;
       made = is.made;
       clean = is.clean;
       aligned = (aligned_lasts c calls).joins w framed one is.aligned over;
@@ -216,6 +232,7 @@ module _ (c : Setup) (opening : List Call) (calls : List (List Call)) where
     plain = plain_first c opening calls;
     blocks = block_first;
     chunks = chunk_first c opening calls;
+    objects = object_first c opening calls;
     made = record { each = λ a there. (let at = there.at in cc) };
     clean = clean_first c opening calls;
     aligned = aligned_first c opening calls;

@@ -1,7 +1,7 @@
 //! Laws of the plain map: what holds after each event of every legal history.
 #![tactic(auto)]
 
-ghost use Rattle.vm_model.specs.Laws.{ThePurgeTurnIsTakenLast, MoreFuelChangesNothing, AreasAreDisjointAndAligned, TheGuardIsNeverMapped, FreePagesAreClean, PartsOfABlockAreDisjoint};
+ghost use Rattle.vm_model.specs.Laws.{ThePurgeTurnIsTakenLast, MoreFuelChangesNothing, AreasAreDisjointAndAligned, TheGuardIsNeverMapped, FreePagesAreClean, PartsOfABlockAreDisjoint, ObjectsAreMappedInEveryUnit};
 ghost use Rattle.map_laws.specs.Turns.{TheTurnsAreKept};
 ghost use Rattle.map_laws.specs.Ends.{EveryRunEnds, HistoriesAreShort};
 ghost use Rattle.map_laws.specs.MapTraces.{WhatIsCarriedWithoutObjectsIsKept, HistoriesWithoutObjectsAreLegal};
@@ -21,12 +21,14 @@ pub fn ends()
 {}
 
 /// In every trace areas are disjoint and start where their kind and their call want it, a guard is never mapped, free pages
-/// are clean and a frame is one page's, and the parts of a block are disjoint.
+/// are clean and a frame is one page's, the parts of a block are disjoint, and a live object is mapped in every unit and
+/// shares no byte with another.
 pub fn every_trace()
     ensures apart { AreasAreDisjointAndAligned }
     ensures guard { TheGuardIsNeverMapped }
     ensures clean { FreePagesAreClean }
     ensures parts { PartsOfABlockAreDisjoint }
+    ensures objects { ObjectsAreMappedInEveryUnit }
 {}
 
 /// In traces whose calls use no per-CPU object what callers carry is kept, and the history is one legal history in which
