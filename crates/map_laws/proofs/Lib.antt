@@ -47,6 +47,7 @@ pub mod BlockDispatch
 pub mod BlockWorlds
 pub mod TraceWorlds
 pub mod ObjectLaws
+pub mod Namings
 pub mod MapLaws
 pub mod ObjectlessWorlds
 pub mod MapLegal

@@ -51,7 +51,7 @@ module _ (c : Setup) (w : World) (chunks : IsChunkWorld c w) (objects : IsObject
 
 -- Sums that are at most 1.
 
-sum_once : {X : Type 0} (f : X → ℕ) (xs : List X) → ((i : ℕ) (x : X) → slice_get xs i ≡ Some x → f x ≤ 1) → ((i j : ℕ) (x y : X) → i < j → slice_get xs i ≡ Some x → slice_get xs j ≡ Some y → 1 ≤ f x → 1 ≤ f y → ⊥) → sum_by f xs ≤ 1
+pub sum_once : {X : Type 0} (f : X → ℕ) (xs : List X) → ((i : ℕ) (x : X) → slice_get xs i ≡ Some x → f x ≤ 1) → ((i j : ℕ) (x y : X) → i < j → slice_get xs i ≡ Some x → slice_get xs j ≡ Some y → 1 ≤ f x → 1 ≤ f y → ⊥) → sum_by f xs ≤ 1
 sum_once f [] each apart = omega arith
 sum_once f (x ∷ xs) each apart = by_first (f x) (sum_by f xs) refl refl (each 0 x refl) (sum_once f xs (λ i y h. each (suc i) y h) (λ i j y z less h g. apart (suc i) (suc j) y z (omega arith) h g))
   where
