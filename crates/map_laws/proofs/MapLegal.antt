@@ -66,7 +66,7 @@ module _ (c : Setup) (m : PlainMap) (k : ℕ) (once : (page : ℕ) → times pag
   removal_by start serial (a ∷ []) e = e
   removal_by start serial (a ∷ b ∷ list) e = absurd (two_never (is_area start serial) start a b list e (λ x h. to_same x.span.start start (and_both (x.span.start == start) (x.serial == serial) h).0))
 
-  one_at : (start : ℕ) (area : Area) → IsIn area m.areas → area.span.start ≡ start → (list : List Area) → areas_at start m.areas ≡ list → areas_at start m.areas ≡ area ∷ []
+  pub one_at : (start : ℕ) (area : Area) → IsIn area m.areas → area.span.start ≡ start → (list : List Area) → areas_at start m.areas ≡ list → areas_at start m.areas ≡ area ∷ []
   one_at start area there e [] f = absurd (let kept = filter_in (λ (a : Area). a.span.start == start) m.areas area there.place there.at (let t : (area.span.start == start) ≡ true = grind (arith, nat_tests) in t) in
       let no : slice_get (areas_at start m.areas) kept.place ≡ None = ap (λ l. slice_get l kept.place) f in let yes = kept.at in cc)
   one_at start area there e (a ∷ []) f =

@@ -1,13 +1,9 @@
 -- Traces whose calls make and free areas and parts of blocks, and purge: all but those of per-CPU objects.
-use Rattle.std.specs.Prelude.{◌≡◌, ℕ, List, ◌∷◌, slice_get, Some}
+use Rattle.std.specs.Prelude.{◌≡◌, ℕ, List, slice_get, Some}
 use Rattle.vm_model.specs.declared.calls.Call.{Call}
 use Rattle.vm_model.specs.declared.calls.Call.TheVariants.{Vmalloc, Vfree, MapRam, UnmapRam, UnmapAliases}
 use Rattle.vm_model.specs.Setup.{Setup}
-use Rattle.vm_model.specs.PlainMap.{PlainMap, at_first}
-use Rattle.vm_model.specs.History.{World, placing_calls}
 use Rattle.vm_model.specs.Rules.{IsTrace}
-use Rattle.vm_model.specs.Carried.{IsKept}
-use Rattle.vm_model.specs.LegalHistory.{IsReached}
 use Rattle.vm_model.specs.Laws.{IsOneLegalHistory}
 
 abbrev pub IsMapCall : Call → Type 0
@@ -26,13 +22,5 @@ pub record AreWithoutObjects (opening : List Call) (calls : List (List Call)) : 
   pub of_opening : AreMapCalls opening
   pub of_callers : (k : ℕ) (own : List Call) → slice_get calls k ≡ Some own → AreMapCalls own
 
--- a fact about each world that a legal history of such a trace leads to
-abbrev pub AlwaysWithoutObjects : (Setup → PlainMap → World → Type 0) → Type 0
-AlwaysWithoutObjects P = (c : Setup) (opening : List Call) (calls : List (List Call)) (w : World) → IsTrace c opening calls → AreWithoutObjects opening calls → IsReached c opening calls w
-    → P c (at_first c (placing_calls (opening ∷ calls))) w
-
 abbrev pub HistoriesWithoutObjectsAreLegal : Type 0
 HistoriesWithoutObjectsAreLegal = (c : Setup) (opening : List Call) (calls : List (List Call)) (picks : List ℕ) → IsTrace c opening calls → AreWithoutObjects opening calls → IsOneLegalHistory c opening calls picks
-
-abbrev pub WhatIsCarriedWithoutObjectsIsKept : Type 0
-WhatIsCarriedWithoutObjectsIsKept = AlwaysWithoutObjects (λ c m w. IsKept c w)
