@@ -74,3 +74,4 @@ pub mod ObjectFacts
 pub mod ObjectChanges
 pub mod ObjectMoves
 pub mod ObjectWorlds
+pub mod MadeNext
