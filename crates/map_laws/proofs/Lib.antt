@@ -75,3 +75,4 @@ pub mod ObjectChanges
 pub mod ObjectMoves
 pub mod ObjectWorlds
 pub mod MadeNext
+pub mod ObjectsMade
