@@ -203,4 +203,4 @@ module _ (c : Setup) (groups : AreGroups c) (some : 1 ≤ c.block_pages) (w : Wo
 
 pub carried_kept : WhatIsCarriedIsKept
 carried_kept c opening calls w trace reached =
-    let at = trace_reached c opening calls trace.setup w reached in world_kept c trace.setup.groups (has_parts c trace.setup).some w at.0 at.1
+    let at = trace_reached c opening calls trace w reached in world_kept c trace.setup.groups (has_parts c trace.setup).some w at.0 at.1

@@ -14,7 +14,7 @@ use Rattle.vm_model.specs.Places.{ChoosingAtomic, SettlingAtomic, Zeroing}
 use Rattle.vm_model.specs.PlainMap.{Chunk, Lives, PlainMap}
 use Rattle.vm_model.specs.Rules.{AreUnits}
 use Rattle.vm_model.specs.Setup.{Setup, unit_bits}
-use Rattle.vm_model.specs.Space.{count_from, covers, holds, is_among, paint, span, times}
+use Rattle.vm_model.specs.Space.{count_from, covers, fits, holds, is_among, paint, span, times}
 use Rattle.vm_model.specs.Worked.{at}
 use Rattle.map_laws.proofs.BlockFacts.{to_same}
 use Rattle.map_laws.proofs.Chosen.{IsIn, count_at, filter_in, in_among}
@@ -73,16 +73,19 @@ free_page c h bit page low free here = by_test (is_populated h page) refl
         ∙ or_right (covers (map object_bits h.objects) bit) _ (covers_page bit page (unpopulated_pages c h) listed here) in
         let no = open_bit in absurd cc
 
+-- the pages of an object that fits at once are populated
+pub atomic_pages : (c : Setup) (h : Chunk) (at : ObjectAt) → IsObjectSize at.bytes → IsFitting (atomic_bits c h) at.bytes at.off → (page : ℕ) → is_among (pages_of_object at) page ≡ true → slice_get h.populated page ≡ Some true
+atomic_pages c h at size fits page f =
+    let low = object_low c (atomic_bits c h) at at.bytes (bits_long _ (unit_bits c) 0) size refl fits page f in
+    let bit = page_bit (atomic_bits c h) at.bytes at.off size.1 page fits size.2 low.1 low.2 in free_page c h bit.0 page low.0 bit.1 bit.2
+
 module _ (c : Setup) (units : AreUnits c) (m : PlainMap) (k : ℕ) (numbered : AreNumbered m) (once : (page : ℕ) → times page (spans_of m.areas) ≤ 1) (busy : ℕ → ℕ → Type 0) where
   module _ (bytes align : ℕ) (all : (h : Chunk) → IsIn h m.chunks → IsChunkFine c m (λ number page. busy number page ⊎ IsBeingPopulated number page (ChoosingAtomic bytes align)) h) where
     atomic_placed : (at : ObjectAt) (size : IsObjectSize at.bytes) → IsLegalAs c m k (PlaceAtomic at align) → IsPlacedAt m at
     atomic_placed at size legal =
-        let is = placement_is c (atomic_fit c at.bytes align) at.bytes m.chunks at [] legal in
-        let fits = fitting at.bytes align at.off (atomic_bits c is.chunk) is.fits in record {
+        let is = placement_is c (atomic_fit c at.bytes align) at.bytes m.chunks at [] legal in record {
           old = let l = numbered.low is.chunk is.there in let e = is.numbered in omega arith;
-          populated = λ h there e page f. (let low = object_low c (atomic_bits c is.chunk) at at.bytes (bits_long _ (unit_bits c) 0) size refl fits page f in
-              let bit = page_bit (atomic_bits c is.chunk) at.bytes at.off size.1 page fits size.2 low.1 low.2 in
-              (numbered.same is.chunk h is.there there (sym (e ∙ is.numbered))).populated page ∙ free_page c is.chunk bit.0 page low.0 bit.1 bit.2);
+          populated = λ h there e page f. (numbered.same is.chunk h is.there there (sym (e ∙ is.numbered))).populated page ∙ atomic_pages c is.chunk at size (fitting at.bytes align at.off (atomic_bits c is.chunk) is.fits) page f;
         }
 
     pub atomic_moved : (at : ObjectAt) (size : IsObjectSize at.bytes) → IsLegalAs c m k (PlaceAtomic at align) → IsChunkMoved c m k busy (ChoosingAtomic bytes align) (PlaceAtomic at align) (Go (Zeroing at))

@@ -35,7 +35,6 @@ pub mod VmallocPlaces
 pub mod LegalRuns
 pub mod AreaStarts
 pub mod Serials
-pub mod MapPlaces
 pub mod Powers
 pub mod BlockFacts
 pub mod BlockMoves
@@ -49,7 +48,6 @@ pub mod TraceWorlds
 pub mod ObjectLaws
 pub mod Namings
 pub mod MapLaws
-pub mod ObjectlessWorlds
 pub mod MapLegal
 pub mod CarriedKept
 pub mod GroupsFree
@@ -76,3 +74,4 @@ pub mod ObjectMoves
 pub mod ObjectWorlds
 pub mod MadeNext
 pub mod ObjectsMade
+pub mod ObjectsReady

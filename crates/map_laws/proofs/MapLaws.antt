@@ -13,7 +13,7 @@ use Rattle.map_laws.proofs.TraceWorlds.{trace_reached}
 
 pub areas_apart : AreasAreDisjointAndAligned
 areas_apart c opening calls w trace reached =
-    let is = (trace_reached c opening calls trace.setup w reached).1 in record {
+    let is = (trace_reached c opening calls trace w reached).1 in record {
       once = is.area.once;
       aligned = λ i a h. (is.made.each a (record { place = i; at = h })).aligned;
       made_aligned = λ k i l answer here h. (is.aligned.each k l here).answers i answer h;
@@ -21,14 +21,14 @@ areas_apart c opening calls w trace reached =
 
 pub guard_unmapped : TheGuardIsNeverMapped
 guard_unmapped c opening calls w trace reached i a h e =
-    let is = (trace_reached c opening calls trace.setup w reached).1 in
+    let is = (trace_reached c opening calls trace w reached).1 in
     let plain : IsPlainKind a.kind = subst IsPlainKind (sym e) tt in
     let some = (is.made.each a (record { place = i; at = h })).wide plain in
     (is.area.fine.areas i a h).guard plain (end_of a.span - 1) (ap (λ k. covers (guard_part k a.span ∷ []) (end_of a.span - 1)) e ∙ guard_in a.span some)
 
 pub free_clean : FreePagesAreClean
 free_clean c opening calls w trace reached =
-    let is = (trace_reached c opening calls trace.setup w reached).1 in record {
+    let is = (trace_reached c opening calls trace w reached).1 in record {
       free = λ page h. (is.area.fine.pages page).free h;
       stale = is.clean.stale.stale;
       own = is.clean.own.own;
@@ -56,5 +56,5 @@ parts_once (p ∷ ps) off page st = by_test (holds (span p.offset (size_of p)) p
 
 pub parts_disjoint : PartsOfABlockAreDisjoint
 parts_disjoint c opening calls w trace reached i b h =
-    let is = (trace_reached c opening calls trace.setup w reached).1 in
+    let is = (trace_reached c opening calls trace w reached).1 in
     let fine = is.blocks.blocks b (record { place = i; at = h }) in record { once = λ page. parts_once b.parts 0 page fine.stacked; within = fine.within }

@@ -69,7 +69,7 @@ one_if_few : (t : Bool) → one_if t ≤ 1
 one_if_few true = omega arith
 one_if_few false = omega arith
 
-starts_once : (c : Setup) → AreGroups c → (base start : ℕ) → count_of start (group_starts c base) ≤ 1
+pub starts_once : (c : Setup) → AreGroups c → (base start : ℕ) → count_of start (group_starts c base) ≤ 1
 starts_once c groups base start = omega (
   arith,
   count_groups base start c.groups,

@@ -174,7 +174,7 @@ module _ (c : Setup) (units : AreUnits c) (m : PlainMap) (placing : ℕ → ℕ 
 
 pub objects_mapped : ObjectsAreMappedInEveryUnit
 objects_mapped c opening calls w trace reached =
-    let is = (trace_reached c opening calls trace.setup w reached).1 in record {
+    let is = (trace_reached c opening calls trace w reached).1 in record {
       live = λ i j h o e f alive. (let there : IsIn h w.map.chunks = record { place = i; at = e } in
           let done = object_done c w is.chunks is.objects h o there (record { place = j; at = f }) (alive_free o.life alive) in record {
             populated = λ page g. get_or_from_slice_get h.populated page true false (done page g);

@@ -145,7 +145,7 @@ or_none : (a b : Bool) → (a || b) ≡ false → (a ≡ false) × (b ≡ false)
 or_none true b h = cc
 or_none false b h = (refl, h)
 
-made_some : (o : Option Answered) (at : ObjectAt) (serial : ℕ) → made_in o ≡ MadeObject at serial → (a : Answered) × (o ≡ Some a) × (a.made ≡ MadeObject at serial)
+pub made_some : (o : Option Answered) (at : ObjectAt) (serial : ℕ) → made_in o ≡ MadeObject at serial → (a : Answered) × (o ≡ Some a) × (a.made ≡ MadeObject at serial)
 made_some None at serial e = cc
 made_some (Some a) at serial e = (a, refl, e)
 

@@ -13,7 +13,7 @@ use Rattle.vm_model.specs.LegalHistory.{IsReached, Meets}
 use Rattle.vm_model.specs.Next.{next}
 use Rattle.vm_model.specs.Places.{Place, Removing, SettlingArea, SettlingBlock, SettlingGroups, ask}
 use Rattle.vm_model.specs.PlainMap.{PlainMap}
-use Rattle.vm_model.specs.Rules.{AreGroups, IsSetup}
+use Rattle.vm_model.specs.Rules.{AreGroups, IsSetup, IsTrace}
 use Rattle.vm_model.specs.Setup.{Setup}
 use Rattle.vm_model.specs.Space.{span, times}
 use Rattle.vm_model.specs.declared.areas.Area.{Area}
@@ -35,8 +35,10 @@ use Rattle.map_laws.proofs.ChunkMoves.{IsChunkMoved}
 use Rattle.map_laws.proofs.ChunkWorlds.{IsChunkWorld, OthersPopulate, chunk_first, chunk_joins, chunk_sided, chunk_step, chunks_here, none_populates}
 use Rattle.map_laws.proofs.Frames.{IsFramed, has_call, not_over}
 use Rattle.map_laws.proofs.Lists.{append_cases}
-use Rattle.map_laws.proofs.ObjectMoves.{object_by}
-use Rattle.map_laws.proofs.ObjectWorlds.{IsObjectWorld, OthersPlace, object_first, object_joins, object_step, objects_here}
+use Rattle.map_laws.proofs.MadeNext.{ruled_named}
+use Rattle.map_laws.proofs.ObjectMoves.{IsObjectMoved, object_by}
+use Rattle.map_laws.proofs.ObjectWorlds.{IsObjectWorld, OthersPlace, SomeonePlaces, object_first, object_joins, object_step, objects_here}
+use Rattle.map_laws.proofs.ObjectsMade.{AreObjectsMade, made_first, made_joins, made_step}
 use Rattle.map_laws.proofs.OutMoves.{with_in}
 use Rattle.map_laws.proofs.OwnFrames.{AreFramesClean, clean_first, clean_lasts}
 use Rattle.map_laws.proofs.Places.{IsProper, begins_with}
@@ -80,6 +82,7 @@ pub record IsTraceWorld (c : Setup) (w : World) : Type 0 where
   pub blocks : IsBlockWorld c w
   pub chunks : IsChunkWorld c w
   pub objects : IsObjectWorld c w
+  pub uses : AreObjectsMade w
   pub made : AreMadeWell c w.map.areas
   pub clean : AreFramesClean w.map
   pub aligned : AreAligned w
@@ -149,12 +152,20 @@ module _ (c : Setup) (setup : IsSetup c) (w : World) (framed : IsFramed c w) (is
         chunk_step c w l s is.chunks is.turns.turns at_caller has_call_here moved_chunks
         (made_by w l s).map (ap (λ d. effect_as d w.map l.caller s) own.setup) (made_by w l s).locals (ap (λ d. slice_set w.locals l.caller (moved_to l (next d l.place s))) own.setup) (made_by w l s).events
 
+    moved_objects : IsObjectMoved c w.map l.caller (OthersPlace w l.caller) s (next c l.place s)
+    moved_objects = object_by c w.map l.caller is.chunks.numbered (λ h there. (is.chunks.chunks h there).long) (OthersPlace w l.caller) l.place s (objects_here c w l.caller l at_caller is.objects) (proper_here k l step.step.here)
+        (is.objects.hands k l step.step.here) moved_chunks.own meets_here legal_here
+
     step_objects : IsObjectWorld c (made_by w l s)
     step_objects =
         let own = framed.own k l step.step.here in
-        let moved = object_by c w.map l.caller is.chunks.numbered (λ h there. (is.chunks.chunks h there).long) (OthersPlace w l.caller) l.place s (objects_here c w l.caller l at_caller is.objects) (proper_here k l step.step.here)
-        (is.objects.hands k l step.step.here) moved_chunks.own meets_here legal_here in
-        object_step c w l s is.objects is.turns.turns at_caller (λ j x h. (framed.own j x h).caller) has_call_here meets_here legal_here moved
+        object_step c w l s is.objects is.turns.turns at_caller (λ j x h. (framed.own j x h).caller) has_call_here meets_here legal_here moved_objects
+        (made_by w l s).map (ap (λ d. effect_as d w.map l.caller s) own.setup) (made_by w l s).locals (ap (λ d. slice_set w.locals l.caller (moved_to l (next d l.place s))) own.setup) (made_by w l s).events
+
+    step_uses : AreObjectsMade (made_by w l s)
+    step_uses =
+        let own = framed.own k l step.step.here in
+        made_step c w l s is.uses at_caller has_call_here (not_over l.setup w.map l.place s step.step.gives) meets_here legal_here (SomeonePlaces w) is.objects.fine (is.objects.hands k l step.step.here) moved_objects.keeps
         (made_by w l s).map (ap (λ d. effect_as d w.map l.caller s) own.setup) (made_by w l s).locals (ap (λ d. slice_set w.locals l.caller (moved_to l (next d l.place s))) own.setup) (made_by w l s).events
 
     outside_here : IsOutside l.setup w.map l.place
@@ -171,6 +182,7 @@ module _ (c : Setup) (setup : IsSetup c) (w : World) (framed : IsFramed c w) (is
           blocks = step_blocks;
           chunks = step_chunks;
           objects = step_objects;
+          uses = step_uses;
           made = subst (λ d. AreMadeWell d (made_by w l s).map.areas) own.setup (made_section l.setup w.map l.caller l.place s proper step.meets (subst (λ d. AreMadeWell d w.map.areas) (sym own.setup) is.made));
           clean = (clean_lasts c calls).steps w k l s framed is.clean step;
           aligned = (aligned_lasts c calls).steps w k l s framed is.aligned step.step;
@@ -208,9 +220,9 @@ module _ (c : Setup) (opening : List Call) (calls : List (List Call)) where
     each = λ k l h. callers_at (opening_world c opening calls).map [] 0 (opening ∷ []) k l h;
   }
 
-  pub trace_lasts : IsSetup c → IsLegallyLasting c calls (IsTraceWorld c)
-  trace_lasts setup = record {
-    steps = λ w k l s framed is step. trace_step c setup w framed is k l s step calls;
+  pub trace_lasts : IsTrace c opening calls → IsLegallyLasting c calls (IsTraceWorld c)
+  trace_lasts trace = record {
+    steps = λ w k l s framed is step. trace_step c trace.setup w framed is k l s step calls;
     joins = λ w framed one is over. record {
       turns = (turns_last c calls).joins w framed one is.turns over;
       area = area_joins c calls w is.area;
@@ -218,6 +230,7 @@ module _ (c : Setup) (opening : List Call) (calls : List (List Call)) where
       blocks = block_joins w is.blocks;
       chunks = chunk_joins c calls w is.chunks;
       objects = object_joins c calls w is.objects;
+      uses = made_joins c opening calls (λ k own e. ruled_named c opening [] own (trace.callers_ruled k own e)) w one is.uses over;
       made = is.made;
       clean = is.clean;
       aligned = (aligned_lasts c calls).joins w framed one is.aligned over;
@@ -225,19 +238,20 @@ module _ (c : Setup) (opening : List Call) (calls : List (List Call)) where
     };
   }
 
-  pub trace_first : IsTraceWorld c (opening_world c opening calls)
-  trace_first = record {
+  pub trace_first : IsTrace c opening calls → IsTraceWorld c (opening_world c opening calls)
+  trace_first trace = record {
     turns = turns_first c opening calls;
     area = area_first c opening calls;
     plain = plain_first c opening calls;
     blocks = block_first;
     chunks = chunk_first c opening calls;
     objects = object_first c opening calls;
+    uses = made_first c opening calls (ruled_named c [] [] opening trace.opening_ruled);
     made = record { each = λ a there. (let at = there.at in cc) };
     clean = clean_first c opening calls;
     aligned = aligned_first c opening calls;
     full = record { each = λ a there. (let at = there.at in cc) };
   }
 
-  pub trace_reached : IsSetup c → (w : World) → IsReached c opening calls w → IsFramed c w × IsTraceWorld c w
-  trace_reached setup w reached = legally_lasts c calls (IsTraceWorld c) (trace_lasts setup) opening trace_first w reached
+  pub trace_reached : IsTrace c opening calls → (w : World) → IsReached c opening calls w → IsFramed c w × IsTraceWorld c w
+  trace_reached trace w reached = legally_lasts c calls (IsTraceWorld c) (trace_lasts trace) opening (trace_first trace) w reached

@@ -1,10 +1,9 @@
 //! Laws of the plain map: what holds after each event of every legal history.
 #![tactic(auto)]
 
-ghost use Rattle.vm_model.specs.Laws.{ThePurgeTurnIsTakenLast, MoreFuelChangesNothing, AreasAreDisjointAndAligned, TheGuardIsNeverMapped, FreePagesAreClean, PartsOfABlockAreDisjoint, ObjectsAreMappedInEveryUnit, WhatIsCarriedIsKept};
+ghost use Rattle.vm_model.specs.Laws.{ThePurgeTurnIsTakenLast, MoreFuelChangesNothing, AreasAreDisjointAndAligned, TheGuardIsNeverMapped, FreePagesAreClean, PartsOfABlockAreDisjoint, ObjectsAreMappedInEveryUnit, WhatIsCarriedIsKept, HistoriesAreLegal};
 ghost use Rattle.map_laws.specs.Turns.{TheTurnsAreKept};
 ghost use Rattle.map_laws.specs.Ends.{EveryRunEnds, HistoriesAreShort};
-ghost use Rattle.map_laws.specs.MapTraces.{HistoriesWithoutObjectsAreLegal};
 
 /// Each of the two turns is with the one caller whose place has it, and the purge turn is taken last.
 pub fn turns()
@@ -22,7 +21,8 @@ pub fn ends()
 
 /// In every trace areas are disjoint and start where their kind and their call want it, a guard is never mapped, free pages
 /// are clean and a frame is one page's, the parts of a block are disjoint, and a live object is mapped in every unit and
-/// shares no byte with another. What callers carry between two sections is kept.
+/// shares no byte with another. What callers carry between two sections is kept, and the history is one legal history in
+/// which every caller ends.
 pub fn every_trace()
     ensures apart { AreasAreDisjointAndAligned }
     ensures guard { TheGuardIsNeverMapped }
@@ -30,9 +30,5 @@ pub fn every_trace()
     ensures parts { PartsOfABlockAreDisjoint }
     ensures objects { ObjectsAreMappedInEveryUnit }
     ensures carried { WhatIsCarriedIsKept }
-{}
-
-/// In traces whose calls use no per-CPU object the history is one legal history in which every caller ends.
-pub fn traces_without_objects()
-    ensures legal { HistoriesWithoutObjectsAreLegal }
+    ensures legal { HistoriesAreLegal }
 {}

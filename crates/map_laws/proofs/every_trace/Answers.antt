@@ -1,7 +1,8 @@
 use Rattle.map_laws.proofs.MapLaws.{areas_apart, guard_unmapped, free_clean, parts_disjoint}
 use Rattle.map_laws.proofs.ObjectLaws.{objects_mapped}
 use Rattle.map_laws.proofs.CarriedKept.{carried_kept}
+use Rattle.map_laws.proofs.ObjectsReady.{histories_legal}
 use Rattle.map_laws.proofs.every_trace.Goals as goal
 
 pub returns : goal.returns
-returns c = record { apart = areas_apart; guard = guard_unmapped; clean = free_clean; parts = parts_disjoint; objects = objects_mapped; carried = carried_kept }
+returns c = record { apart = areas_apart; guard = guard_unmapped; clean = free_clean; parts = parts_disjoint; objects = objects_mapped; carried = carried_kept; legal = histories_legal }
