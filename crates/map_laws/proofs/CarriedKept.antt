@@ -26,6 +26,7 @@ use Rattle.map_laws.proofs.MapLegal.{block_at, held_life, one_at}
 use Rattle.map_laws.proofs.Namings.{namings_once}
 use Rattle.map_laws.proofs.ObjectFacts.{IsObject, IsObjectAt, object_life}
 use Rattle.map_laws.proofs.ObjectWorlds.{SomeonePlaces}
+use Rattle.map_laws.proofs.OrTests.{or_right}
 use Rattle.map_laws.proofs.Places.{IsPlainKind}
 use Rattle.map_laws.proofs.Spans.{covers_one, holds_from, holds_to}
 use Rattle.map_laws.proofs.TraceWorlds.{AreFull, IsTraceWorld, areas_once, has_parts, own_names, trace_reached}
@@ -35,10 +36,6 @@ covered_by : (c : Setup) (x page : ℕ) (xs : List ℕ) (t : Bool) → holds (sp
     → (covers (block_spans c xs) page ≡ true → (s : ℕ) × (is_among xs s ≡ true) × (s ≤ page) × (page < s + c.block_pages)) → (s : ℕ) × (is_among (x ∷ xs) s ≡ true) × (s ≤ page) × (page < s + c.block_pages)
 covered_by c x page xs true e h more = let r = holds_to (span x c.block_pages) page e in (x, ap (λ b. b || is_among xs x) (same_test x), r.0, r.1)
 covered_by c x page xs false e h more = let is = more h in (is.0, or_right (x == is.0) (is_among xs is.0) is.1, is.2, is.3)
-  where
-    or_right : (a b : Bool) → b ≡ true → (a || b) ≡ true
-    or_right true b f = refl
-    or_right false b f = f
 
 -- a page of blocks' spans is in the row of one of them
 covered_of : (c : Setup) (xs : List ℕ) (page : ℕ) → covers (block_spans c xs) page ≡ true → (s : ℕ) × (is_among xs s ≡ true) × (s ≤ page) × (page < s + c.block_pages)
@@ -126,10 +123,6 @@ rows_cover b [] p i page h low high = cc
 rows_cover b (x ∷ ps) p zero page h low high = let same : x ≡ p = cc in
     ap (λ t. t || covers (map (λ (p : Part). span (b.start + p.offset) (size_of p)) ps) page) (ap (λ (y : Part). holds (span (b.start + y.offset) (size_of y)) page) same ∙ holds_from (span (b.start + p.offset) (size_of p)) page low high)
 rows_cover b (x ∷ ps) p (suc i) page h low high = or_right (holds (span (b.start + x.offset) (size_of x)) page) _ (rows_cover b ps p i page h low high)
-  where
-    or_right : (a t : Bool) → t ≡ true → (a || t) ≡ true
-    or_right true t e = refl
-    or_right false t e = e
 
 life_kept : (c : Setup) (m : PlainMap) (b : Block) (p : Part) → IsPartFine m b.start p → (life : Life) → p.life ≡ life → IsPartKept m b p life
 life_kept c m b p fine (InHand k) e = tt

@@ -18,12 +18,13 @@ use Rattle.vm_model.specs.Space.{count_from, covers, fits, holds, is_among, pain
 use Rattle.vm_model.specs.Worked.{at}
 use Rattle.map_laws.proofs.BlockFacts.{to_same}
 use Rattle.map_laws.proofs.Chosen.{IsIn, count_at, filter_in, in_among}
-use Rattle.map_laws.proofs.ChunkFacts.{AreSameRows, IsChunkAt, IsChunkFine, IsPlacedAt, chunk_at_stays, or_right}
+use Rattle.map_laws.proofs.ChunkFacts.{AreSameRows, IsChunkAt, IsChunkFine, IsPlacedAt, chunk_at_stays}
 use Rattle.map_laws.proofs.ChunkMoves.{IsChunkMoved, quiet_chunks}
 use Rattle.map_laws.proofs.ChunkPlaced.{IsFitting, fitting, fitting_bit, object_low, placement_is, populated_at}
 use Rattle.map_laws.proofs.ChunkPlaces.{bits_long}
 use Rattle.map_laws.proofs.ChunkRows.{AreNumbered, plain_rows, plain_stays, rows_changed}
 use Rattle.map_laws.proofs.Lists.{there}
+use Rattle.map_laws.proofs.OrTests.{or_right}
 use Rattle.map_laws.proofs.Places.{IsObjectSize, OnNext}
 use Rattle.map_laws.proofs.Spans.{covers_append, holds_from}
 use Rattle.map_laws.proofs.Touched.{painted_still, unpainted}

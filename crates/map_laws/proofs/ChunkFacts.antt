@@ -15,6 +15,7 @@ use Rattle.map_laws.proofs.BlockFacts.{IsStill, same_test, still_bare, still_map
 use Rattle.map_laws.proofs.BlockPlaces.{IsInChunk}
 use Rattle.map_laws.proofs.Chosen.{IsIn}
 use Rattle.map_laws.proofs.Lists.{same_or}
+use Rattle.map_laws.proofs.OrTests.{or_assoc, or_either, or_right}
 use Rattle.map_laws.proofs.Spans.{holds_from}
 use Rattle.vm_model.specs.declared.areas.AreaKind.TheVariants as kind
 
@@ -90,21 +91,9 @@ IsChunkAt c m _ = Unit {0}
 
 -- Pages in units and in groups.
 
-pub or_right : (a b : Bool) → b ≡ true → (a || b) ≡ true
-or_right true b e = refl
-or_right false b e = e
-
-or_either : (a b : Bool) → (a || b) ≡ true → (a ≡ true) ⊎ (b ≡ true)
-or_either true b e = inl refl
-or_either false b e = inr e
-
 pub among_append : (x : ℕ) (xs ys : List ℕ) → is_among (xs ++ ys) x ≡ (is_among xs x || is_among ys x)
 among_append x [] ys = refl
-among_append x (y ∷ xs) ys = ap (λ b. (y == x) || b) (among_append x xs ys) ∙ assoc (y == x) (is_among xs x) (is_among ys x)
-  where
-    assoc : (a b d : Bool) → (a || (b || d)) ≡ ((a || b) || d)
-    assoc true b d = refl
-    assoc false b d = refl
+among_append x (y ∷ xs) ys = ap (λ b. (y == x) || b) (among_append x xs ys) ∙ or_assoc (y == x) (is_among xs x) (is_among ys x)
 
 -- a page of a unit, by its number there
 pub record IsUnitPage (c : Setup) (base : ℕ) (pages : List ℕ) (x : ℕ) : Type 0 where

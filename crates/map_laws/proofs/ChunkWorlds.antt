@@ -1,6 +1,6 @@
 -- What is kept of chunks is kept by each legal section, and gives what areas and blocks need of chunks.
 -- What a place's chunk says to areas and blocks.
-use Rattle.std.proofs.Common.{Bool, List, Some, [], ap, false, inl, inr, length, refl, slice_get, slice_set, subst, suc, sym, true, zero, ℕ, ◌+◌, ◌<◌, ◌∙◌, ◌∷◌, ◌≡◌, ◌≢◌, ◌≤◌, ◌⊎◌}
+use Rattle.std.proofs.Common.{Bool, List, Some, [], false, inl, inr, length, refl, slice_get, slice_set, subst, suc, sym, true, zero, ℕ, ◌+◌, ◌<◌, ◌∷◌, ◌≡◌, ◌≢◌, ◌≤◌, ◌⊎◌}
 use Rattle.vm_model.specs.Areas.{spans_of}
 use Rattle.vm_model.specs.Calls.{Answered}
 use Rattle.vm_model.specs.Carried.{IsBeingPopulated, SomeoneIsPopulating, has_alloc}
@@ -28,7 +28,8 @@ use Rattle.map_laws.proofs.ChunkNext.{IsUnchunked, unchunked_at}
 use Rattle.map_laws.proofs.ChunkRows.{AreNumbered}
 use Rattle.map_laws.proofs.ChunkUnlinked.{groups_unlinked}
 use Rattle.map_laws.proofs.GroupsFree.{groups_free}
-use Rattle.map_laws.proofs.Lists.{append_cases, append_first, same_or, set_cases, set_other, set_same, there}
+use Rattle.map_laws.proofs.Lists.{append_cases, set_cases, there}
+use Rattle.map_laws.proofs.Others.{SomeOther, other_or, others_still, someone_joins}
 use Rattle.map_laws.proofs.Places.{HaveBeginnings, OnNext, answers_call, begins_with}
 use Rattle.map_laws.specs.Turns.{AreTurnsKept}
 
@@ -96,7 +97,7 @@ unchunked_begins c = record {
 
 -- the other callers that are populating
 abbrev pub OthersPopulate : World → ℕ → (number page : ℕ) → Type 0
-OthersPopulate w k number page = (j : ℕ) × (x : Local) × (slice_get w.locals j ≡ Some x) × (j ≢ k) × IsBeingPopulated number page x.place
+OthersPopulate w k number page = SomeOther (IsBeingPopulated number page) w k
 
 module _ (w : World) (k : ℕ) (l : Local) (here : slice_get w.locals k ≡ Some l) (turns : AreTurnsKept w) where
   -- while a caller has the alloc turn, no other one has it
@@ -111,13 +112,7 @@ module _ (w : World) (k : ℕ) (l : Local) (here : slice_get w.locals k ≡ Some
   none_populates mine number page is = let no = alone is.0 is.1 is.2 is.3 mine in let yes = busy_alloc is.1.place number page is.4 in cc
 
   pub chunks_here : (c : Setup) → IsChunkWorld c w → (h : Chunk) → IsIn h w.map.chunks → IsChunkFine c w.map (λ number page. OthersPopulate w k number page ⊎ IsBeingPopulated number page l.place) h
-  chunks_here c kept h there = busier c w.map _ _ h (λ page b. split h.number page b) (kept.chunks h there)
-    where
-      split : (number page : ℕ) → SomeoneIsPopulating w number page → OthersPopulate w k number page ⊎ IsBeingPopulated number page l.place
-      split number page is = elim (same_or is.0 k) [
-        | inl e ↦ inr (let at = is.2 in let f : slice_get w.locals k ≡ Some is.1 = ap (slice_get w.locals) (sym e) ∙ at in let same : is.1 ≡ l = cc in subst (λ (x : Local). IsBeingPopulated number page x.place) same is.3)
-        | inr apart ↦ inl (is.0, is.1, is.2, apart, is.3)
-      ]
+  chunks_here c kept h there = busier c w.map _ _ h (λ page b. other_or (IsBeingPopulated h.number page) w k l here b) (kept.chunks h there)
 
 module _ (c : Setup) (w : World) (l : Local) (s : Section) (kept : IsChunkWorld c w) (turns : AreTurnsKept w) (here : slice_get w.locals l.caller ≡ Some l) (call : length l.answers < length l.calls)
     (moved : IsChunkMoved c w.map l.caller (OthersPopulate w l.caller) l.place s (next c l.place s)) where
@@ -137,8 +132,8 @@ module _ (c : Setup) (w : World) (l : Local) (s : Section) (kept : IsChunkWorld 
       unchunked_at c (effect_as c w.map l.caller s) (moved_to l (Answer r made)).place (subst (λ (x : Local). IsUnchunked x.place) (sym e.2) (begins_with IsUnchunked l.setup (unchunked_begins l.setup) l.opening _ (slice_get l.calls (suc (length l.answers)))))
 
   joined_busy : (events : List Event) (number page : ℕ) → OthersPopulate w l.caller number page ⊎ next_busy (next c l.place s) number page → SomeoneIsPopulating (after_world events) number page
-  joined_busy events number page (inl is) = (is.0, is.1, set_other w.locals l.caller is.0 after_local is.3 ∙ is.2, is.4)
-  joined_busy events number page (inr b) = (l.caller, after_local, set_same w.locals l.caller l after_local here, moved_busy (next c l.place s) number page b)
+  joined_busy events number page b = others_still (IsBeingPopulated number page) w l.caller l here after_local (effect_as c w.map l.caller s) events
+      (elim b [ inl other ↦ inl other | inr own ↦ inr (moved_busy (next c l.place s) number page own) ])
 
   pub chunk_step : (m' : PlainMap) → m' ≡ effect_as c w.map l.caller s → (locals : List Local) → locals ≡ slice_set w.locals l.caller after_local → (events : List Event) → IsChunkWorld c (record { map = m'; locals = locals; events = events })
   chunk_step m' e locals f events = subst (λ m. IsChunkWorld c (record { map = m; locals = locals; events = events })) (sym e) (subst (λ ls. IsChunkWorld c (record { map = effect_as c w.map l.caller s; locals = ls; events = events })) (sym f) (record {
@@ -159,7 +154,7 @@ callers_at c m answers first (own ∷ more) (suc j) l h = callers_at c m answers
 
 pub chunk_joins : (c : Setup) (calls : List (List Call)) (w : World) → IsChunkWorld c w → IsChunkWorld c (with_callers c calls w)
 chunk_joins c calls w is = record {
-  chunks = λ h there. busier c w.map _ _ h (λ page b. (b.0, b.1, append_first w.locals (callers_from c (opening_answers w.locals) 1 calls) b.0 b.1 b.2, b.3)) (is.chunks h there);
+  chunks = λ h there. busier c w.map _ _ h (λ page b. someone_joins (IsBeingPopulated h.number page) w (callers_from c (opening_answers w.locals) 1 calls) b) (is.chunks h there);
   numbered = is.numbered;
   each = λ k l h. elim (append_cases w.locals (callers_from c (opening_answers w.locals) 1 calls) k l h) [ inl e ↦ is.each k l e | inr e ↦ callers_at c w.map (opening_answers w.locals) 1 calls e.0 l e.2 ];
 }

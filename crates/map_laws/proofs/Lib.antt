@@ -1,3 +1,4 @@
+pub mod OrTests
 pub mod Lists
 pub mod Puts
 pub mod Searched
@@ -66,6 +67,7 @@ pub mod ChunkAtomic
 pub mod ChunkSettled
 pub mod ChunkNext
 pub mod ChunkDispatch
+pub mod Others
 pub mod ChunkWorlds
 pub mod ChunkNumbers
 pub mod ObjectFacts

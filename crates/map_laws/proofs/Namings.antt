@@ -27,6 +27,7 @@ use Rattle.map_laws.proofs.Lists.{there}
 use Rattle.map_laws.proofs.ObjectFacts.{count_sum, same_place}
 use Rattle.map_laws.proofs.ObjectLaws.{sum_once}
 use Rattle.map_laws.proofs.ObjectWorlds.{IsObjectWorld}
+use Rattle.map_laws.proofs.OrTests.{one_if_le}
 use Rattle.map_laws.proofs.Spans.{holds_from}
 use Rattle.map_laws.specs.Turns.{AreTurnsKept}
 
@@ -65,15 +66,11 @@ same_if : (a b : ℕ) (t : Bool) → (a == b) ≡ t → 1 ≤ one_if (a == b) �
 same_if a b true e h = to_same a b e
 same_if a b false e h = absurd (omega (arith, ap one_if e))
 
-one_if_few : (t : Bool) → one_if t ≤ 1
-one_if_few true = omega arith
-one_if_few false = omega arith
-
 pub starts_once : (c : Setup) → AreGroups c → (base start : ℕ) → count_of start (group_starts c base) ≤ 1
 starts_once c groups base start = omega (
   arith,
   count_groups base start c.groups,
-  sum_once (λ (g : Span). one_if (base + g.start == start)) c.groups (λ i g e. one_if_few (base + g.start == start))
+  sum_once (λ (g : Span). one_if (base + g.start == start)) c.groups (λ i g e. one_if_le (base + g.start == start))
       (λ i j g g' less e f hit hit'. (let a = same_if (base + g.start) start _ refl hit in let b = same_if (base + g'.start) start _ refl hit' in let wide = groups.pages i g e in let wide' = groups.pages j g' f in
       groups.apart i j g g' less e f g.start (holds_from g g.start (omega arith) (omega arith)) (holds_from g' g.start (omega arith) (omega arith)))),
 )

@@ -25,6 +25,7 @@ use Rattle.map_laws.proofs.ChunkWorlds.{IsChunkWorld}
 use Rattle.map_laws.proofs.Lists.{same_or, there}
 use Rattle.map_laws.proofs.ObjectFacts.{AreChunksFine, IsBeingPlaced, IsObject, IsObjectAt, IsShaped, count_sum, object_only, same_place, times_map}
 use Rattle.map_laws.proofs.ObjectWorlds.{IsObjectWorld, SomeonePlaces}
+use Rattle.map_laws.proofs.OrTests.{one_if_le}
 use Rattle.map_laws.proofs.Spans.{holds_from, holds_to, times-append}
 use Rattle.map_laws.proofs.TraceWorlds.{trace_reached}
 
@@ -114,15 +115,11 @@ module _ (c : Setup) (units : AreUnits c) (m : PlainMap) (placing : ℕ → ℕ 
       by_order false f apart = units.apart cpu' cpu (span unit' c.unit_pages) (span unit c.unit_pages) (let l : cpu' ≤ cpu = grind (arith, nat_tests) in omega arith) (unit_span cpu' unit' at') (unit_span cpu unit at)
           (byte / 4096 - h.base) (holds_page o' unit' shape' is') (holds_page o unit shape is)
 
-  one_if_few : (t : Bool) → one_if t ≤ 1
-  one_if_few true = omega arith
-  one_if_few false = omega arith
-
   object_once : (h : Chunk) (o : Object) → IsShaped c o → in_object h o ≤ 1
   object_once h o shape = omega (
     arith,
     by_units h o,
-    sum_once (in_unit h o) c.units (λ i unit e. one_if_few (holds (span (copy_at (object_at h o) unit) o.bytes) byte))
+    sum_once (in_unit h o) c.units (λ i unit e. one_if_le (holds (span (copy_at (object_at h o) unit) o.bytes) byte))
         (λ i j x y less e f hit hit'. (let same : i ≡ j = same_cpu h o o i j x y shape shape e f (unit_hit h o x hit) (unit_hit h o y hit') in omega arith)),
   )
 

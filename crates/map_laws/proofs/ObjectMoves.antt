@@ -1,6 +1,6 @@
 -- Each section at its place, as to the objects of chunks.
 -- the lives that a section ends or changes
-use Rattle.std.proofs.Common.{Bool, IfSome, List, Some, [], ap, arith, false, find, flat_map, inl, inr, is_some, length, map, refl, slice_get, subst, suc, sym, true, ℕ, ◌&&◌, ◌*◌, ◌++◌, ◌+◌, ◌==◌, ◌||◌, ◌∙◌, ◌∷◌, ◌≡◌, ◌⊎◌}
+use Rattle.std.proofs.Common.{Bool, IfSome, List, Some, [], ap, arith, false, find, flat_map, inl, inr, is_some, length, map, refl, slice_get, subst, suc, sym, true, ℕ, ◌&&◌, ◌*◌, ◌++◌, ◌+◌, ◌==◌, ◌∙◌, ◌∷◌, ◌≡◌, ◌⊎◌}
 use Rattle.std.proofs.lemmas.Option.{slice_get_within}
 use Rattle.vm_model.specs.Areas.{group_areas}
 use Rattle.vm_model.specs.Carried.{object_in_hand}
@@ -27,6 +27,7 @@ use Rattle.map_laws.proofs.Fits.{is_zero}
 use Rattle.map_laws.proofs.Lists.{there}
 use Rattle.map_laws.proofs.ObjectChanges.{grown_fine, grown_keeps, lived_fine, lived_keeps, paged_fine, paged_keeps, placed_fine, placed_keeps, placed_object, removed_fine, removed_keeps, same_fine, spared_fine, spared_keeps}
 use Rattle.map_laws.proofs.ObjectFacts.{AreChunksFine, IsBeingPlaced, IsObject, IsObjectAt, live_life, next_placed, object_only, same_chunk}
+use Rattle.map_laws.proofs.OrTests.{or_none}
 use Rattle.map_laws.proofs.Places.{IsObjectSize, IsProper, OnNext}
 use Rattle.map_laws.proofs.Spans.{covers_append, covers_none}
 
@@ -161,11 +162,7 @@ atomic_free : (c : Setup) (h : Chunk) (bit : ℕ) → slice_get (atomic_bits c h
 atomic_free c h bit e =
     let free = ap (covers (map object_bits h.objects ++ map (λ page. span (1024 * page) 1024) (unpopulated_pages c h))) (let f : bit ≡ 0 + bit = omega arith in f)
     ∙ row_test (covers (map object_bits h.objects ++ map (λ page. span (1024 * page) 1024) (unpopulated_pages c h))) (unit_bits c) 0 bit false e in
-    covers_none bit (map object_bits h.objects) (first_none _ _ (sym (covers_append bit (map object_bits h.objects) (map (λ page. span (1024 * page) 1024) (unpopulated_pages c h))) ∙ free))
-  where
-    first_none : (a b : Bool) → (a || b) ≡ false → a ≡ false
-    first_none true b f = cc
-    first_none false b f = refl
+    covers_none bit (map object_bits h.objects) (or_none _ _ (sym (covers_append bit (map object_bits h.objects) (map (λ page. span (1024 * page) 1024) (unpopulated_pages c h))) ∙ free)).0
 
 module _ (c : Setup) (m : PlainMap) (k : ℕ) (numbered : AreNumbered m) (long : (h : Chunk) → IsIn h m.chunks → length h.populated ≡ c.unit_pages) (placing : ℕ → ℕ → Type 0) where
   module _ (p : Place) (all : AreChunksFine c (λ number off. placing number off ⊎ IsBeingPlaced number off p) m.chunks) where

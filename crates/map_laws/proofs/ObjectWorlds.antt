@@ -1,5 +1,5 @@
 -- What is kept of objects, and of the numbers of new chunks, is kept by each legal section.
-use Rattle.std.proofs.Common.{List, None, Some, [], ap, arith, inl, inr, length, refl, slice_get, slice_set, subst, suc, sym, zero, ℕ, ◌<◌, ◌∙◌, ◌∷◌, ◌≡◌, ◌≢◌, ◌⊎◌}
+use Rattle.std.proofs.Common.{List, None, Some, [], arith, inl, inr, length, refl, slice_get, slice_set, subst, suc, sym, zero, ℕ, ◌<◌, ◌∙◌, ◌∷◌, ◌≡◌, ◌≢◌, ◌⊎◌}
 use Rattle.vm_model.specs.Calls.{Answered}
 use Rattle.vm_model.specs.Chunks.{ObjectAt}
 use Rattle.vm_model.specs.Effects.{effect_as}
@@ -16,15 +16,16 @@ use Rattle.map_laws.proofs.AreaWorlds.{moved_caller}
 use Rattle.map_laws.proofs.ChunkNext.{IsUnchunked}
 use Rattle.map_laws.proofs.ChunkNumbers.{IsNumberNext, chunk_number, number_after, number_alloc, same_or_alloc}
 use Rattle.map_laws.proofs.ChunkWorlds.{alone, unchunked_begins}
-use Rattle.map_laws.proofs.Lists.{append_cases, append_first, same_or, set_cases, set_other, set_same, there}
+use Rattle.map_laws.proofs.Lists.{append_cases, set_cases, there}
 use Rattle.map_laws.proofs.ObjectChanges.{same_fine}
 use Rattle.map_laws.proofs.ObjectFacts.{AreChunksFine, IsBeingPlaced, IsObject, IsObjectAt, next_placed}
 use Rattle.map_laws.proofs.ObjectMoves.{IsObjectMoved, Kills, unhanded_at}
+use Rattle.map_laws.proofs.Others.{SomeOther, Someone, other_or, others_still, someone_joins}
 use Rattle.map_laws.proofs.Places.{HaveBeginnings, OnNext, answers_call, begins_with}
 use Rattle.map_laws.specs.Turns.{AreTurnsKept}
 
 abbrev pub SomeonePlaces : World → (number off : ℕ) → Type 0
-SomeonePlaces w number off = (k : ℕ) × (l : Local) × (slice_get w.locals k ≡ Some l) × IsBeingPlaced number off l.place
+SomeonePlaces w number off = Someone (IsBeingPlaced number off) w
 
 -- what is kept of all objects, of the object in each caller's hand, and of the number of its new chunk
 pub record IsObjectWorld (c : Setup) (w : World) : Type 0 where
@@ -69,17 +70,11 @@ hand_stays m m' j _ keeps is = tt
 
 -- the other callers that are placing objects
 abbrev pub OthersPlace : World → ℕ → (number off : ℕ) → Type 0
-OthersPlace w k number off = (j : ℕ) × (x : Local) × (slice_get w.locals j ≡ Some x) × (j ≢ k) × IsBeingPlaced number off x.place
+OthersPlace w k number off = SomeOther (IsBeingPlaced number off) w k
 
 module _ (c : Setup) (w : World) (k : ℕ) (l : Local) (here : slice_get w.locals k ≡ Some l) (kept : IsObjectWorld c w) where
   pub objects_here : AreChunksFine c (λ number off. OthersPlace w k number off ⊎ IsBeingPlaced number off l.place) w.map.chunks
-  objects_here = same_fine c (SomeonePlaces w) _ w.map.chunks w.map.chunks refl split kept.fine
-    where
-      split : (number off : ℕ) → SomeonePlaces w number off → OthersPlace w k number off ⊎ IsBeingPlaced number off l.place
-      split number off is = elim (same_or is.0 k) [
-        | inl e ↦ inr (let at = is.2 in let f : slice_get w.locals k ≡ Some is.1 = ap (slice_get w.locals) (sym e) ∙ at in let same : is.1 ≡ l = cc in subst (λ (x : Local). IsBeingPlaced number off x.place) same is.3)
-        | inr apart ↦ inl (is.0, is.1, is.2, apart, is.3)
-      ]
+  objects_here = same_fine c (SomeonePlaces w) _ w.map.chunks w.map.chunks refl (λ number off. other_or (IsBeingPlaced number off) w k l here) kept.fine
 
 module _ (c : Setup) (w : World) (l : Local) (s : Section) (kept : IsObjectWorld c w) (turns : AreTurnsKept w) (here : slice_get w.locals l.caller ≡ Some l) (callers : (j : ℕ) (x : Local) → slice_get w.locals j ≡ Some x → x.caller ≡ j) (call : length l.answers < length l.calls)
     (meets : Meets c (ask c l.place) s) (legal : IsLegalAs c w.map l.caller s) (moved : IsObjectMoved c w.map l.caller (OthersPlace w l.caller) s (next c l.place s)) where
@@ -94,8 +89,8 @@ module _ (c : Setup) (w : World) (l : Local) (s : Section) (kept : IsObjectWorld
   moved_placed (Answer r made) number off b = absurd b
 
   joined_placed : (events : List Event) (number off : ℕ) → OthersPlace w l.caller number off ⊎ next_placed (next c l.place s) number off → SomeonePlaces (after_world events) number off
-  joined_placed events number off (inl is) = (is.0, is.1, set_other w.locals l.caller is.0 after_local is.3 ∙ is.2, is.4)
-  joined_placed events number off (inr b) = (l.caller, after_local, set_same w.locals l.caller l after_local here, moved_placed (next c l.place s) number off b)
+  joined_placed events number off b = others_still (IsBeingPlaced number off) w l.caller l here after_local (effect_as c w.map l.caller s) events
+      (elim b [ inl other ↦ inl other | inr own ↦ inr (moved_placed (next c l.place s) number off own) ])
 
   moved_hand : (n : Next) → OnNext (IsObjectAt (effect_as c w.map l.caller s) l.caller) n → IsObjectAt (effect_as c w.map l.caller s) l.caller (moved_to l n).place
   moved_hand (Go p) h = h
@@ -148,7 +143,7 @@ module _ (c : Setup) (m : PlainMap) (answers : List Answered) where
 
 pub object_joins : (c : Setup) (calls : List (List Call)) (w : World) → IsObjectWorld c w → IsObjectWorld c (with_callers c calls w)
 object_joins c calls w is = record {
-  fine = same_fine c (SomeonePlaces w) (SomeonePlaces (with_callers c calls w)) w.map.chunks w.map.chunks refl (λ number off b. (b.0, b.1, append_first w.locals (callers_from c (opening_answers w.locals) 1 calls) b.0 b.1 b.2, b.3)) is.fine;
+  fine = same_fine c (SomeonePlaces w) (SomeonePlaces (with_callers c calls w)) w.map.chunks w.map.chunks refl (λ number off. someone_joins (IsBeingPlaced number off) w (callers_from c (opening_answers w.locals) 1 calls)) is.fine;
   hands = λ k l h. elim (append_cases w.locals (callers_from c (opening_answers w.locals) 1 calls) k l h) [ inl e ↦ is.hands k l e | inr e ↦ hands_at c w.map (opening_answers w.locals) 1 calls e.0 l e.2 ];
   numbers = λ k l h. elim (append_cases w.locals (callers_from c (opening_answers w.locals) 1 calls) k l h) [ inl e ↦ is.numbers k l e | inr e ↦ numbers_at c w.map (opening_answers w.locals) 1 calls e.0 l e.2 ];
 }

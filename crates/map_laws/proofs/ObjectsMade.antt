@@ -26,6 +26,7 @@ use Rattle.map_laws.proofs.MadeNext.{AreWellNamed, IsMakingNone, IsNoObject, IsN
 use Rattle.map_laws.proofs.ObjectChanges.{lived_object}
 use Rattle.map_laws.proofs.ObjectFacts.{AreChunksFine, IsObject, IsObjectAt, same_place}
 use Rattle.map_laws.proofs.ObjectMoves.{Kills}
+use Rattle.map_laws.proofs.OrTests.{one_if_le, or_assoc, or_false, or_none}
 use Rattle.map_laws.proofs.OutMoves.{sum_two}
 use Rattle.map_laws.proofs.Places.{HaveBeginnings, OnNext, answers_call, begins_with}
 use Rattle.vm_model.specs.declared.calls.Reply.TheVariants as reply
@@ -119,10 +120,6 @@ killed_is k (Unplace at) serial e = cc
 killed_is k (FreeObject at own) serial e = (at, let same : serial ≡ own = cc in ap (λ n. FreeObject at n) (sym same))
 killed_is k _ serial e = absurd e
 
-one_if_few : (t : Bool) → one_if t ≤ 1
-one_if_few true = omega arith
-one_if_few false = omega arith
-
 made_one : (at : ObjectAt) (serial : ℕ) (made : Made) → made ≡ MadeObject at serial → is_made serial made ≡ 1
 made_one at serial made e = ap (is_made serial) e ∙ ap one_if (same_test serial)
 
@@ -131,19 +128,7 @@ answer_counts at serial i answers a h e = omega (arith, sum_has (λ (a : Answere
 
 freed_append : (answers : List Answered) (a : Answered) (n : ℕ) → was_freed (answers ++ a ∷ []) n ≡ (was_freed answers n || (is_free_of n a.call && is_done a.reply))
 freed_append [] a n = or_false (is_free_of n a.call && is_done a.reply)
-  where
-    or_false : (b : Bool) → (b || false) ≡ (false || b)
-    or_false true = refl
-    or_false false = refl
 freed_append (x ∷ answers) a n = ap (λ b. (is_free_of n x.call && is_done x.reply) || b) (freed_append answers a n) ∙ or_assoc (is_free_of n x.call && is_done x.reply) (was_freed answers n) (is_free_of n a.call && is_done a.reply)
-  where
-    or_assoc : (a b d : Bool) → (a || (b || d)) ≡ ((a || b) || d)
-    or_assoc true b d = refl
-    or_assoc false b d = refl
-
-or_none : (a b : Bool) → (a || b) ≡ false → (a ≡ false) × (b ≡ false)
-or_none true b h = cc
-or_none false b h = (refl, h)
 
 pub made_some : (o : Option Answered) (at : ObjectAt) (serial : ℕ) → made_in o ≡ MadeObject at serial → (a : Answered) × (o ≡ Some a) × (a.made ≡ MadeObject at serial)
 made_some None at serial e = cc
@@ -227,7 +212,7 @@ module _ (c : Setup) (w : World) (l : Local) (s : Section) (kept : AreObjectsMad
   other_apart j x serial there apart n kill =
       let is = freeing serial kill in let mine = answer_counts is.at serial (is.target.call - 1) l.answers is.answer is.there is.made in
       let two = sum_two (made_count serial) w.locals l.caller j l x here there (λ e. apart (sym e)) in
-      let few = kept.few serial in let one = one_if_few (nat_lt serial w.map.next_object) in omega arith
+      let few = kept.few serial in let one = one_if_le (nat_lt serial w.map.next_object) in omega arith
 
   other_live : (j i : ℕ) (x : Local) (a : Answered) → slice_get w.locals j ≡ Some x → j ≢ l.caller → slice_get x.answers i ≡ Some a → was_freed x.answers (suc i) ≡ false → IsMadeLive after_map a.made
   other_live j i x a there apart at free = keep_made a.made (kept.live j i x a there at free) (λ o serial e kill. other_apart j x serial there apart (let n = answer_counts o serial i x.answers a at e in omega arith) kill)
@@ -238,7 +223,7 @@ module _ (c : Setup) (w : World) (l : Local) (s : Section) (kept : AreObjectsMad
   -- the caller frees the object of one answer only
   own_apart : (i serial : ℕ) (a : Answered) (o : ObjectAt) → slice_get l.answers i ≡ Some a → a.made ≡ MadeObject o serial → (is : IsFreeing l s serial) → suc i ≡ is.target.call
   own_apart i serial a o at e is =
-      let few = kept.few serial in let one = one_if_few (nat_lt serial w.map.next_object) in let mine = sum_has (made_count serial) w.locals l l.caller here in
+      let few = kept.few serial in let one = one_if_le (nat_lt serial w.map.next_object) in let mine = sum_has (made_count serial) w.locals l l.caller here in
       let same = same_place (λ (a : Answered). is_made serial a.made) l.answers i (is.target.call - 1) a is.answer (omega arith) at is.there (omega (arith, made_one o serial a.made e)) (omega (arith, made_one is.at serial is.answer.made is.made)) in
       let some = is.some in omega arith
 
