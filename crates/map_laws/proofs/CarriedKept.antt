@@ -1,5 +1,5 @@
 -- What callers carry is kept.
-use Rattle.std.proofs.Common.{Bool, IfSome, List, Some, [], ap, arith, false, inl, inr, map, nat_lt, refl, slice_get, subst, suc, sym, true, zero, ℕ, ◌+◌, ◌-◌, ◌<◌, ◌==◌, ◌||◌, ◌∙◌, ◌∷◌, ◌≡◌, ◌≤◌}
+use Rattle.std.proofs.Common.{Bool, IfSome, List, Some, [], ap, arith, false, inl, inr, map, nat_lt, refl, slice_get, subst, suc, sym, true, zero, ℕ, ◌+◌, ◌-◌, ◌<◌, ◌||◌, ◌∙◌, ◌∷◌, ◌≡◌, ◌≤◌}
 use Rattle.std.proofs.lemmas.Bool.Decides.{nat_tests}
 use Rattle.vm_model.specs.Areas.{areas_at, mapped_part, spans_of}
 use Rattle.vm_model.specs.Blocks.{PartAt, first_page, life_of_part, mapped_pages, parts_size, rounded, size_of}
@@ -17,8 +17,8 @@ use Rattle.vm_model.specs.declared.areas.Area.{Area}
 use Rattle.vm_model.specs.declared.areas.AreaKind.{AreaKind}
 use Rattle.vm_model.specs.declared.areas.Span.{Span}
 use Rattle.map_laws.proofs.AreaFacts.{IsAreaFine, IsHolding}
-use Rattle.map_laws.proofs.BlockFacts.{IsBlockAt, IsBlockFine, IsOut, IsPartFine, IsPartIn, OnRow, block_out, same_test, stacked_at, stacked_covers}
-use Rattle.map_laws.proofs.BlockWorlds.{only_one, out_area}
+use Rattle.map_laws.proofs.BlockFacts.{IsBlockAt, IsBlockFine, IsOut, IsPartFine, IsPartIn, OnRow, block_out, stacked_at, stacked_covers}
+use Rattle.map_laws.proofs.BlockWorlds.{covered_start, only_one, out_area, row_covers}
 use Rattle.map_laws.proofs.ChunkFacts.{AreGroupsLive, IsChunkAt, IsChunkFine, start_of, unit_page}
 use Rattle.map_laws.proofs.ChunkPlaced.{populated_at}
 use Rattle.map_laws.proofs.Frames.{IsFramed}
@@ -32,25 +32,11 @@ use Rattle.map_laws.proofs.Spans.{covers_one, holds_from, holds_to}
 use Rattle.map_laws.proofs.TraceWorlds.{AreFull, IsTraceWorld, areas_once, has_parts, own_names, trace_reached}
 use Rattle.vm_model.specs.declared.areas.AreaKind.TheVariants as kind
 
-covered_by : (c : Setup) (x page : ℕ) (xs : List ℕ) (t : Bool) → holds (span x c.block_pages) page ≡ t → (t || covers (block_spans c xs) page) ≡ true
-    → (covers (block_spans c xs) page ≡ true → (s : ℕ) × (is_among xs s ≡ true) × (s ≤ page) × (page < s + c.block_pages)) → (s : ℕ) × (is_among (x ∷ xs) s ≡ true) × (s ≤ page) × (page < s + c.block_pages)
-covered_by c x page xs true e h more = let r = holds_to (span x c.block_pages) page e in (x, ap (λ b. b || is_among xs x) (same_test x), r.0, r.1)
-covered_by c x page xs false e h more = let is = more h in (is.0, or_right (x == is.0) (is_among xs is.0) is.1, is.2, is.3)
-
--- a page of blocks' spans is in the row of one of them
-covered_of : (c : Setup) (xs : List ℕ) (page : ℕ) → covers (block_spans c xs) page ≡ true → (s : ℕ) × (is_among xs s ≡ true) × (s ≤ page) × (page < s + c.block_pages)
-covered_of c [] page h = cc
-covered_of c (x ∷ xs) page h = covered_by c x page xs _ refl h (covered_of c xs page)
-
 -- a row's pages by its span
 row_each : (P : ℕ → Type 0) (s : Span) → OnRow s.start s.pages P → OnEach (s ∷ []) P
 row_each P s row page e = let r = holds_to s page (sym (covers_one s page) ∙ e) in row page r.0 r.1
 
 module _ (c : Setup) (m : PlainMap) (k : ℕ) where
-  -- the rows of blocks that are out
-  out_each : (starts : List ℕ) → ((start : ℕ) → is_among starts start ≡ true → IsOut c m start) → OnEach (block_spans c starts) (IsUnmapped m)
-  out_each starts outs page e = let is = covered_of c starts page e in (outs is.0 is.1).unmapped page is.2 is.3
-
   fresh_bare : (p : Place) → IsHolding c m k p → IsBlockAt c m k p → IsChunkAt c m p → OnEach (fresh c p) (IsBare m)
   fresh_bare (MappingArea s kd) own at chunk = own.bare
   fresh_bare (Dropping s) own at chunk = own.bare
@@ -65,16 +51,6 @@ module _ (c : Setup) (m : PlainMap) (k : ℕ) where
   leaving_mapped (UnmappingArea area) own at = own.mapped
   leaving_mapped (UnmappingPart part) own at = row_each (IsMapped m) (mapped_pages part) at.1
   leaving_mapped _ own at = λ page e. cc
-
-  emptied_unmapped : (p : Place) → IsHolding c m k p → IsBlockAt c m k p → IsChunkAt c m p → OnEach (emptied c p) (IsUnmapped m)
-  emptied_unmapped (Waiting spans after) own at chunk = own.unmapped
-  emptied_unmapped (PurgeFragmenting cpu gone extra after) own at chunk = out_each gone at
-  emptied_unmapped (PurgeUnlinking gone extra after) own at chunk = out_each gone at
-  emptied_unmapped (PurgeWaiting gone extra after) own at chunk = own.unmapped
-  emptied_unmapped (Retiring part r) own at chunk = row_each (IsUnmapped m) (mapped_pages part) at.1
-  emptied_unmapped (UnlinkingBlock start r) own at chunk = out_each (start ∷ []) (λ n h. subst (IsOut c m) (only_one start n h) at)
-  emptied_unmapped (UnlinkingGroups base) own at chunk = chunk.2
-  emptied_unmapped _ own at chunk = λ page e. cc
 
   chunk_left : (p : Place) → IsChunkAt c m p → IsChunkOut c m p
   chunk_left (Depopulating base populated) at = λ page e. (
@@ -97,6 +73,21 @@ module _ (c : Setup) (m : PlainMap) (k : ℕ) where
   part_held life (UnmappingPart part) at = life part at.0
   part_held life (Retiring part r) at = life part at.0
   part_held life _ at = tt
+
+  module _ (once : (page : ℕ) → times page (spans_of m.areas) ≤ 1) where
+    -- the rows of blocks that are out
+    out_each : (starts : List ℕ) → ((start : ℕ) → is_among starts start ≡ true → IsOut c m start) → OnEach (block_spans c starts) (IsUnmapped m)
+    out_each starts outs page e = let is = covered_start c m once starts page e in let r = row_covers c m once is.0 page is.2 in (outs is.0 is.1).unmapped page r.0 r.1
+
+    emptied_unmapped : (p : Place) → IsHolding c m k p → IsBlockAt c m k p → IsChunkAt c m p → OnEach (emptied c p) (IsUnmapped m)
+    emptied_unmapped (Waiting spans after) own at chunk = own.unmapped
+    emptied_unmapped (PurgeFragmenting cpu gone extra after) own at chunk = out_each gone at
+    emptied_unmapped (PurgeUnlinking gone extra after) own at chunk = out_each gone at
+    emptied_unmapped (PurgeWaiting gone extra after) own at chunk = own.unmapped
+    emptied_unmapped (Retiring part r) own at chunk = row_each (IsUnmapped m) (mapped_pages part) at.1
+    emptied_unmapped (UnlinkingBlock start r) own at chunk = out_each (start ∷ []) (λ n h. subst (IsOut c m) (only_one start n h) at)
+    emptied_unmapped (UnlinkingGroups base) own at chunk = chunk.2
+    emptied_unmapped _ own at chunk = λ page e. cc
 
   module _ (once : (page : ℕ) → times page (spans_of m.areas) ≤ 1) (full : AreFull m) where
     group_live : (number base start : ℕ) → AreGroupsLive c m number base → is_among (group_starts c base) start ≡ true → (a : Area) × (areas_at start m.areas ≡ a ∷ [])
@@ -174,7 +165,7 @@ module _ (c : Setup) (groups : AreGroups c) (some : 1 ≤ c.block_pages) (w : Wo
         flushed_marked = holding.flushed;
         fresh_bare = subst (λ d. OnEach (fresh d l.place) (IsBare w.map)) (sym own.setup) (fresh_bare c w.map l.caller l.place holding at chunk);
         leaving_mapped = leaving_mapped c w.map l.caller l.place holding at;
-        emptied_unmapped = subst (λ d. OnEach (emptied d l.place) (IsUnmapped w.map)) (sym own.setup) (emptied_unmapped c w.map l.caller l.place holding at chunk);
+        emptied_unmapped = subst (λ d. OnEach (emptied d l.place) (IsUnmapped w.map)) (sym own.setup) (emptied_unmapped c w.map l.caller once l.place holding at chunk);
         chunk_out = subst (λ d. IsChunkOut d w.map l.place) (sym own.setup) (chunk_left c w.map l.caller l.place chunk);
         part_held = part_held c w.map l.caller life l.place at;
         object_held = object_held c w.map l.caller (λ object. object_life c (SomeonePlaces w) w.map.chunks is.objects.fine object (InHand l.caller)) l.place (is.objects.hands k l here);
