@@ -1,4 +1,4 @@
--- Pages wait before they are used again, and free pages are clean, in every trace.
+-- Pages wait before they are used again, in every trace.
 use Rattle.std.proofs.Common.{◌≡◌, ℕ, zero, suc, ◌<◌, inl, inr, true, false, List, [], ◌∷◌, ◌++◌, length, replicate, slice_get, slice_set, Some, None, refl, ap, sym, ◌∙◌, subst, arith}
 use Rattle.std.proofs.lemmas.List.{length-replicate}
 use Rattle.std.proofs.lemmas.Option.{slice_get_within}
@@ -16,7 +16,7 @@ use Rattle.vm_model.specs.Calls.{Answered}
 use Rattle.vm_model.specs.LegalHistory.{Meets, IsReached}
 use Rattle.vm_model.specs.History.{World, Local, started, made_by, made_if, moved_to, step_of, placing_calls, opening_world, opening_answers, callers_from, with_callers}
 use Rattle.vm_model.specs.Rules.{IsTrace}
-use Rattle.vm_model.specs.Laws.{IsFreedAt, PagesWaitBeforeReuse, FreePagesAreClean}
+use Rattle.vm_model.specs.Laws.{IsFreedAt, PagesWaitBeforeReuse}
 use Rattle.vm_model.proofs.Elements.{slice_get-replicate}
 use Rattle.map_parts.specs.Kept.{KeepsApart}
 use Rattle.map_parts.proofs.StepKeeps.{steps_keep_apart}
@@ -27,7 +27,6 @@ use Rattle.map_laws.proofs.Frames.{IsFramed, not_over, has_call}
 use Rattle.map_laws.proofs.Places.{IsProper, OnNext, HaveBeginnings, begins_with, moved_has}
 use Rattle.map_laws.proofs.AreaWorlds.{IsLegalStep, IsLegallyLasting, legally_lasts}
 use Rattle.map_laws.proofs.TurnProofs.{AreTurnsProper, turns_first, turns_last}
-use Rattle.map_laws.proofs.EveryTraceProofs.{frames_owned}
 use Rattle.map_laws.proofs.Stories.{map_at-end}
 use Rattle.map_laws.proofs.WaitStories.{IsStoried}
 use Rattle.map_laws.proofs.SitedChunks.{IsSited}
@@ -186,11 +185,3 @@ pages_wait c opening calls w trace reached =
 
 pub freed_pages_waited : FreedPagesHaveWaited
 freed_pages_waited c opening calls w trace reached = (wait_reached c opening calls trace w reached).freed
-
-pub free_pages_clean : FreePagesAreClean
-free_pages_clean c opening calls w trace reached =
-    let owned = frames_owned c opening calls w trace reached in record {
-      free = (wait_reached c opening calls trace w reached).clean;
-      stale = owned.stale;
-      own = owned.own;
-    }
