@@ -86,3 +86,6 @@ pub mod WaitStories
 pub mod WaitNext
 pub mod WaitWorlds
 pub mod WaitReached
+pub mod Words
+pub mod ZeroedWords
+pub mod CellsKept
