@@ -89,3 +89,4 @@ pub mod WaitReached
 pub mod Words
 pub mod ZeroedWords
 pub mod CellsKept
+pub mod ObjectWords

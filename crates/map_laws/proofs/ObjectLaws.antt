@@ -61,7 +61,7 @@ sum_once f (x ∷ xs) each apart = by_first (f x) (sum_by f xs) refl refl (each 
     by_first (suc n) zero e g few rest = omega (arith, sum_by-cons f x xs)
     by_first (suc n) (suc total) e g few rest = absurd (let is = sum_some f xs (omega arith) in apart 0 (suc is.0) x is.1 (omega arith) refl is.2 (omega arith) is.3)
 
-times_flat : {X : Type 0} (f : X → List Span) (n : ℕ) (xs : List X) → times n (flat_map f xs) ≡ sum_by (λ x. times n (f x)) xs
+pub times_flat : {X : Type 0} (f : X → List Span) (n : ℕ) (xs : List X) → times n (flat_map f xs) ≡ sum_by (λ x. times n (f x)) xs
 times_flat f n [] = refl
 times_flat f n (x ∷ xs) = omega (arith, times-append n (f x) (flat_map f xs), times_flat f n xs, sum_by-cons (λ x. times n (f x)) x xs)
 
