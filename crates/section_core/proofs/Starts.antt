@@ -14,7 +14,6 @@ use Rattle.vm_model.specs.Rules.{IsVmallocCall}
 use Rattle.map_laws.proofs.ReachedSteps.{steps_reached}
 use Rattle.section_core.specs.Locals.{AreVmalloc}
 use Rattle.section_core.specs.Kernels.{KernelState, IsStanding, CanStart, CanJoin, start_of, opening_of, callers_of}
-use Rattle.section_core.proofs.LawfulRegions.{without_objects}
 
 map-replicate : {X Y : Type 0} (f : X → Y) (n : ℕ) (x : X) → map f (replicate n x) ≡ replicate n (f x)
 map-replicate f zero x = refl
@@ -64,7 +63,7 @@ stands_joined c sections old new callers can regions locals moved =
         trace = can.can.trace;
         opening_built = st.running.opening_built;
         callers_built = st.running.callers_built;
-        reached = (steps_reached c (opening_of sections) (callers_of sections) can.can.trace (without_objects c (opening_of sections) (callers_of sections) w st.running)).started;
+        reached = (steps_reached c (opening_of sections) (callers_of sections) can.can.trace).started;
       };
       regions = regions ∙ st.regions;
       locals = locals ∙ ap (λ ls. ls ++ callers) st.locals ∙ ap (λ xs. w.locals ++ xs) same;
