@@ -1,4 +1,6 @@
 pub mod Rows
 pub mod Heaps
 pub mod Flags
+pub mod Shared
+pub mod Painting
 pub mod Kept

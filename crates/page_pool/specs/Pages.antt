@@ -2,7 +2,7 @@
 use Rattle.std.specs.Prelude.{◌≡◌, ℕ, ◌^◌, ◌/◌, ◌<◌, Bool, false, not, List, length, filter, count_by, slice_get, Option, Some, None, is_some, ℤ}
 use Rattle.vm_model.specs.Space.{count_from}
 use Rattle.vm_model.specs.Frames.{is_used}
-use Rattle.page_pool.specs.FrameList.{FrameList}
+use Rattle.page_pool.specs.FrameList.{FrameList, AreShared}
 
 -- of each page its frame and whether it is stale, and of each frame in turn 1,024 cells
 pub record Pages : Type 0 where
@@ -30,9 +30,14 @@ pub record IsBare (p : Pages) (page : ℕ) : Type 0 where
   pub unmapped : slice_get p.frames page ≡ Some None
   pub not_stale : slice_get p.stale page ≡ Some false
 
+-- the page is mapped
+abbrev pub IsMapped : Pages → ℕ → Type 0
+IsMapped p page = (frame : ℕ) × (slice_get p.frames page ≡ Some (Some frame))
+
 -- what is kept beside the pages: their free frames, and how many are mapped
 pub record IsKept (p : Pages) (free : FrameList) (mapped : ℕ) : Type 0 where
-  pub frees : free ≡ record { numbers = free_of p; memory = memory p }
+  pub shared : AreShared p.frames free
+  pub all : free.memory ≡ memory p
   pub count : mapped ≡ mapped_count p
   pub space : length p.frames < 2 ^ 32
   pub alike : length p.stale ≡ length p.frames

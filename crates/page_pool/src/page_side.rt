@@ -1,8 +1,9 @@
 //! The page map.
-ghost use Rattle.std.specs.Prelude.{◌≡◌, ◌*◌, ◌≤◌, ◌<◌, ◌^◌, ℕ, true, false, None, pos, length, replicate, drop, OnOk, OnErr, IfOk, IfErr};
-ghost use Rattle.vm_model.specs.Space.{holds, end_of, pages_of};
-ghost use Rattle.vm_model.specs.Frames.{give_frames};
-ghost use Rattle.page_pool.specs.Pages.{Pages, free_of, mapped_count, stale_count, IsBare};
+ghost use Rattle.std.specs.Prelude.{◌≡◌, ◌*◌, ◌≤◌, ◌<◌, ◌^◌, ℕ, true, false, Some, None, pos, length, replicate, drop, count_by, slice_get, is_some, IsSome, IsTrue, ◌↔◌, ◌+◌, OnOk, OnErr, IfOk, IfErr};
+ghost use Rattle.vm_model.specs.Space.{holds, end_of, pages_of, paint};
+ghost use Rattle.vm_model.specs.Frames.{give_frames, joined_option, frame_of};
+ghost use Rattle.page_pool.specs.FrameList.{AreShared};
+ghost use Rattle.page_pool.specs.Pages.{Pages, free_of, mapped_count, stale_count, IsBare, IsMapped};
 
 use crate::cells::Cells;
 use crate::free_frames::FreeFrames;
@@ -31,6 +32,7 @@ pub struct PageSide {
 }
 
 impl Model for PageSide {
+    ghost use Rattle.page_pool.specs.FrameList.{AreShared};
     ghost use Rattle.page_pool.specs.Pages.{Pages, IsKept};
 
     ghost Value = { Pages };
@@ -45,11 +47,34 @@ fn give_lowest(frames: &mut [Option<u32>], free: &mut FreeFrames, span: Span)
     requires inside { end_of span ≤ length frames.old }
     requires space { length frames.old < 2 ^ 32 }
     requires enough { span.pages ≤ length free.old.numbers }
+    requires shared { AreShared frames.old free.old }
+    requires unmapped { (page : ℕ) → holds span page ≡ true → slice_get frames.old page ≡ Some None }
     ensures frames { frames.new ≡ give_frames (pages_of span) free.old.numbers frames.old }
     ensures free { free.new ≡ record free.old { numbers = drop span.pages free.old.numbers } }
+    ensures shared { AreShared frames.new free.new }
 {
     for page in span.start..span.start + span.pages {
         frames[page as usize] = Some(free.take_lowest());
+    }
+}
+
+/// Takes the frames of the pages of a span back.
+fn take_back(frames: &mut [Option<u32>], free: &mut FreeFrames, span: Span)
+    requires inside { end_of span ≤ length frames.old }
+    requires space { length frames.old < 2 ^ 32 }
+    requires shared { AreShared frames.old free.old }
+    requires mapped { (page : ℕ) → holds span page ≡ true → IsSome (joined_option (slice_get frames.old page)) }
+    ensures frames { frames.new ≡ paint (holds span) None frames.old }
+    ensures shared { AreShared frames.new free.new }
+    ensures memory { free.new.memory ≡ free.old.memory }
+    ensures count { count_by is_some frames.new + span.pages ≡ count_by is_some frames.old }
+{
+    for page in span.start..span.start + span.pages {
+        let Some(frame) = frames[page as usize] else {
+            unreachable!();
+        };
+        frames[page as usize] = None;
+        free.put_back(frame);
     }
 }
 
@@ -89,6 +114,43 @@ impl PageSide {
         give_lowest(&mut self.frames, &mut self.free, span);
         self.mapped += span.pages;
         Ok(())
+    }
+
+    /// Unmaps the pages of a span, which are mapped: their frames are free, and they are stale until a flush. It takes
+    /// no memory.
+    pub fn unmap(&mut self, span: Span)
+        requires inside { end_of span ≤ length self.old.frames }
+        requires mapped { (page : ℕ) → holds span page ≡ true → IsMapped self.old page }
+        ensures { self.new ≡ record self.old { frames = paint (holds span) None self.old.frames; stale = paint (holds span) true self.old.stale } }
+    {
+        take_back(&mut self.frames, &mut self.free, span);
+        self.mapped -= span.pages;
+        self.stale.mark(span);
+    }
+
+    /// No page of a span is stale any more, as after `flush_tlb_kernel_range`. It takes time for each stale page, and
+    /// no memory.
+    pub fn flush(&mut self, span: Span)
+        ensures { self.new ≡ record self.old { stale = paint (holds span) false self.old.stale } }
+    {
+        self.stale.flush(span);
+    }
+
+    /// The frame of a page, where it is mapped. It takes no memory.
+    pub fn translate(&self, page: u32) -> Option<u32>
+        ensures { result ≡ frame_of self.now.frames page }
+    {
+        match self.frames.get(page as usize) {
+            Some(frame) => *frame,
+            None => None,
+        }
+    }
+
+    /// Whether a page was unmapped and not flushed since. It takes no memory.
+    pub fn is_stale(&self, page: u32) -> bool
+        ensures { IsTrue result ↔ (slice_get self.now.stale page ≡ Some true) }
+    {
+        self.stale.contains(page)
     }
 
     /// How many frames no page has. It takes no memory.
