@@ -3,7 +3,7 @@ ghost use Rattle.std.specs.Prelude.{◌≡◌, ◌*◌, ◌≤◌, ◌<◌, ◌^
 ghost use Rattle.vm_model.specs.Space.{holds, end_of, pages_of, paint};
 ghost use Rattle.vm_model.specs.Frames.{give_frames, joined_option, frame_of};
 ghost use Rattle.page_pool.specs.FrameList.{AreShared};
-ghost use Rattle.page_pool.specs.Pages.{Pages, free_of, mapped_count, stale_count, IsBare, IsMapped};
+ghost use Rattle.page_pool.specs.Pages.{Pages, free_of, first_pages, with_mapped, with_unmapped, with_flushed, mapped_count, stale_count, IsBare, IsMapped};
 
 use crate::cells::Cells;
 use crate::free_frames::FreeFrames;
@@ -82,7 +82,7 @@ impl PageSide {
     /// A space of so many pages over a memory of so many frames: nothing is mapped, nothing is stale, and each word
     /// is 0. It takes all the memory that the side ever needs.
     pub fn new(alloc: Global, space: u32, frames: u32) -> Result<PageSide, AllocError>
-        ensures { IfOk result (λ side. side ≡ record { frames = replicate space None; stale = replicate space false; cells = replicate (1024 * frames) (pos 0) }) }
+        ensures { IfOk result (λ side. side ≡ first_pages space frames) }
     {
         Ok(PageSide {
             frames: vec![in alloc; None; space as usize]?,
@@ -98,7 +98,7 @@ impl PageSide {
     pub fn map(&mut self, span: Span) -> Result<(), NoFrames>
         requires inside { end_of span ≤ length self.old.frames }
         requires bare { (page : ℕ) → holds span page ≡ true → IsBare self.old page }
-        ensures mapped { OnOk result (self.new ≡ record self.old { frames = give_frames (pages_of span) (free_of self.old) self.old.frames }) }
+        ensures mapped { OnOk result (self.new ≡ with_mapped span self.old) }
         ensures enough { OnOk result (span.pages ≤ length (free_of self.old)) }
         ensures refused { IfErr result (λ refusal. refusal ≡ record { asked = span.pages; free = length (free_of self.old) }) }
         ensures too_few { OnErr result (length (free_of self.old) < span.pages) }
@@ -121,7 +121,7 @@ impl PageSide {
     pub fn unmap(&mut self, span: Span)
         requires inside { end_of span ≤ length self.old.frames }
         requires mapped { (page : ℕ) → holds span page ≡ true → IsMapped self.old page }
-        ensures { self.new ≡ record self.old { frames = paint (holds span) None self.old.frames; stale = paint (holds span) true self.old.stale } }
+        ensures { self.new ≡ with_unmapped span self.old }
     {
         take_back(&mut self.frames, &mut self.free, span);
         self.mapped -= span.pages;
@@ -131,7 +131,7 @@ impl PageSide {
     /// No page of a span is stale any more, as after `flush_tlb_kernel_range`. It takes time for each stale page, and
     /// no memory.
     pub fn flush(&mut self, span: Span)
-        ensures { self.new ≡ record self.old { stale = paint (holds span) false self.old.stale } }
+        ensures { self.new ≡ with_flushed span self.old }
     {
         self.stale.flush(span);
     }
@@ -172,5 +172,106 @@ impl PageSide {
         ensures { result ≡ stale_count self.now }
     {
         self.stale.len()
+    }
+}
+
+#[cfg(test)]
+mod tests {
+    use super::*;
+
+    /// Whether the pages of a span lie in the space, unmapped and not stale.
+    fn is_bare(side: &PageSide, span: Span) -> bool
+        ensures inside { IsTrue result → end_of span ≤ length side.now.frames }
+        ensures bare { IsTrue result → (page : ℕ) → holds span page ≡ true → IsBare side.now page }
+    {
+        if u64::from(span.start) + u64::from(span.pages) > side.frames.len() as u64 {
+            return false;
+        }
+        for page in span.start..span.start + span.pages {
+            if side.frames[page as usize].is_some() || side.stale.contains(page) {
+                return false;
+            }
+        }
+        true
+    }
+
+    /// Whether the pages of a span are mapped.
+    fn is_mapped(side: &PageSide, span: Span) -> bool
+        ensures inside { IsTrue result → end_of span ≤ length side.now.frames }
+        ensures mapped { IsTrue result → (page : ℕ) → holds span page ≡ true → IsMapped side.now page }
+    {
+        if u64::from(span.start) + u64::from(span.pages) > side.frames.len() as u64 {
+            return false;
+        }
+        for page in span.start..span.start + span.pages {
+            if side.frames[page as usize].is_none() {
+                return false;
+            }
+        }
+        true
+    }
+
+    /// The free frames, the mapped and the stale pages.
+    fn counts(side: &PageSide) -> (u32, u32, u32) {
+        (side.free_frames(), side.mapped(), side.stale())
+    }
+
+    #[test]
+    fn maps_the_lowest_frames(rt: HostRuntime) -> Result<(), AllocError> {
+        let mut side = PageSide::new(rt.alloc(), 16, 5)?;
+        assert_eq!(rt; counts(&side), (5, 0, 0));
+        let rows = [
+            (8, 2, Ok(()), (3, 2, 0)),
+            (0, 4, Err(NoFrames { asked: 4, free: 3 }), (3, 2, 0)),
+            (0, 3, Ok(()), (0, 5, 0)),
+            (4, 1, Err(NoFrames { asked: 1, free: 0 }), (0, 5, 0)),
+        ];
+        for (start, pages, answer, after) in rows {
+            let span = Span { start, pages };
+            assert!(rt; is_bare(&side, span));
+            assert_eq!(rt; side.map(span), answer, "{start}");
+            assert_eq!(rt; counts(&side), after, "{start}");
+        }
+        let frames = [
+            (8, Some(0)),
+            (9, Some(1)),
+            (0, Some(2)),
+            (2, Some(4)),
+            (4, None),
+            (16, None),
+        ];
+        for (page, frame) in frames {
+            assert_eq!(rt; side.translate(page), frame, "{page}");
+        }
+        Ok(())
+    }
+
+    #[test]
+    fn gives_frames_back(rt: HostRuntime) -> Result<(), AllocError> {
+        let mut side = PageSide::new(rt.alloc(), 16, 5)?;
+        let all = Span { start: 1, pages: 5 };
+        assert!(rt; is_bare(&side, all));
+        assert_eq!(rt; side.map(all), Ok(()));
+        for (start, pages, after) in [(4, 2, (2, 3, 2)), (1, 1, (3, 2, 3))] {
+            let span = Span { start, pages };
+            assert!(rt; is_mapped(&side, span));
+            side.unmap(span);
+            assert_eq!(rt; counts(&side), after, "{start}");
+        }
+        assert!(rt;
+            side.is_stale(1) && side.is_stale(5) && !side.is_stale(2) && !side.is_stale(16)
+        );
+        side.flush(Span { start: 2, pages: 3 });
+        assert!(rt; side.is_stale(1) && side.is_stale(5) && !side.is_stale(4));
+        side.flush(Span {
+            start: 0,
+            pages: 16,
+        });
+        assert_eq!(rt; counts(&side), (3, 2, 0));
+        let again = Span { start: 4, pages: 2 };
+        assert!(rt; is_bare(&side, again));
+        assert_eq!(rt; side.map(again), Ok(()));
+        assert_eq!(rt; (side.translate(4), side.translate(5)), (Some(0), Some(3)));
+        Ok(())
     }
 }
