@@ -14,7 +14,7 @@ use Rattle.page_pool.specs.FrameList.{FrameList, holds_frame, times_held, lowest
 use Rattle.page_pool.proofs.Rows.{one_if-below, one_if-above, one_if-cond, filter-alike, filter-all, filter-none, length-put_by, put_by-least, filter-puts, among, length-filter-fewer, same_or_apart}
 
 -- each frame is in the heap at most once, and only frames of memory
-abbrev pub IsOnce : ℕ → List (Reverse ℕ) → Type 0
+abbrev IsOnce : ℕ → List (Reverse ℕ) → Type 0
 IsOnce memory items = (frame : ℕ) → times_held frame items ≤ one_if (nat_lt frame memory)
 
 abbrev pub frame_list : List ℕ → ℕ → FrameList

@@ -5,14 +5,14 @@ use Rattle.std.proofs.lemmas.List.{length-replicate}
 use Rattle.std.proofs.lemmas.List.Sums.{sum_by-cons, count_by-le-length}
 use Rattle.vm_model.specs.declared.areas.Span.{Span}
 use Rattle.vm_model.specs.Space.{holds, count_from, pages_of, paint}
-use Rattle.vm_model.specs.Frames.{give_frames, free_frames}
+use Rattle.vm_model.specs.Frames.{give_frames}
 use Rattle.vm_model.proofs.Search.{length-count_from}
 use Rattle.vm_model.proofs.FramesGiven.{unmapped_in_order, length-give_frames, count-give_frames, free_frames-at_first, count_mapped-at_first}
 use Rattle.vm_model.proofs.Paint.{length-paint_from}
 use Rattle.page_pool.specs.FrameList.{FrameList, has_frame, times_used, AreShared}
 use Rattle.page_pool.proofs.Rows.{written_back}
 use Rattle.page_pool.proofs.Shared.{setup}
-use Rattle.page_pool.specs.Pages.{Pages, memory, free_of, IsKept}
+use Rattle.page_pool.specs.Pages.{Pages, memory, IsKept}
 
 abbrev frame_list : List ℕ → ℕ → FrameList
 frame_list numbers memory = record { numbers = numbers; memory = memory }
@@ -76,10 +76,6 @@ kept_first space frames p free small unmapped clean unwritten frees =
     (subst (λ ss. IsKept (record { frames = replicate space None; stale = ss; cells = p.cells }) free 0) (sym clean)
     (subst (λ cs. IsKept (record { frames = replicate space None; stale = replicate space false; cells = cs }) free 0) (sym unwritten)
     (subst (λ f. IsKept (record { frames = replicate space None; stale = replicate space false; cells = replicate (1024 * frames) (pos 0) }) f 0) (sym frees) (first space frames small))))
-
--- what is free, by the pages alone
-pub kept_free : (p : Pages) (free : FrameList) (mapped : ℕ) → IsKept p free mapped → free.numbers ≡ free_of p
-kept_free p free mapped kept = kept.shared.numbers ∙ ap (λ m. free_frames (setup m) p.frames) kept.all
 
 count_mapped : (s : Span) (free : List ℕ) (frames : List (Option ℕ)) → ((page : ℕ) → holds s page ≡ true → slice_get frames page ≡ Some None) → s.pages ≤ length free
     → count_by is_some (give_frames (pages_of s) free frames) ≡ count_by is_some frames + s.pages

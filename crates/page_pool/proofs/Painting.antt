@@ -11,14 +11,11 @@ paint_from-alike t t' x [] p h = refl
 paint_from-alike t t' x (y ∷ ys) p h =
     ap (λ b. (if b then x else y) ∷ paint_from (suc p) t x ys) (h p (omega arith)) ∙ ap (λ zs. (if t' p then x else y) ∷ zs) (paint_from-alike t t' x ys (suc p) (λ i a. h i (omega arith)))
 
-pub paint-alike : {X : Type 0} (t t' : ℕ → Bool) (x : X) (ys : List X) → ((i : ℕ) → t i ≡ t' i) → paint t x ys ≡ paint t' x ys
-paint-alike t t' x ys h = paint_from-alike t t' x ys 0 (λ i a. h i)
-
 unchanged : {X : Type 0} (x : X) (o : Option X) → option_map (λ y. if false then x else y) o ≡ o
 unchanged x None = refl
 unchanged x (Some y) = refl
 
-pub paint-none : {X : Type 0} (t : ℕ → Bool) (x : X) (ys : List X) → ((i : ℕ) → t i ≡ false) → paint t x ys ≡ ys
+paint-none : {X : Type 0} (t : ℕ → Bool) (x : X) (ys : List X) → ((i : ℕ) → t i ≡ false) → paint t x ys ≡ ys
 paint-none t x ys h = same_by_get (paint t x ys) ys (λ k. slice_get-paint t x ys k ∙ ap (λ b. option_map (λ y. if b then x else y) (slice_get ys k)) (h k) ∙ unchanged x (slice_get ys k))
 
 other_test : (t t' : ℕ → Bool) (place i : ℕ) → place ≢ i → t' i ≡ (t i || (place == i)) → t' i ≡ t i
@@ -46,7 +43,7 @@ paint_from-set t t' x (y ∷ ys) p (suc k) h =
     ∙ ap (λ zs. (if t' p then x else y) ∷ zs) (paint_from-set t t' x ys (suc p) k (λ i. h i ∙ ap (λ n. t i || (n == i)) (let e : p + suc k ≡ suc p + k = omega arith in e)))
 
 -- one more place is painted
-pub paint-set : {X : Type 0} (t t' : ℕ → Bool) (x : X) (ys : List X) (k : ℕ) → ((i : ℕ) → t' i ≡ (t i || (k == i))) → slice_set (paint t x ys) k x ≡ paint t' x ys
+paint-set : {X : Type 0} (t t' : ℕ → Bool) (x : X) (ys : List X) (k : ℕ) → ((i : ℕ) → t' i ≡ (t i || (k == i))) → slice_set (paint t x ys) k x ≡ paint t' x ys
 paint-set t t' x ys k h = paint_from-set t t' x ys 0 k (λ i. h i ∙ ap (λ n. t i || (n == i)) (let e : k ≡ 0 + k = omega arith in e))
 
 -- The pages of a span are painted one by one, the page at hand being the next one.
@@ -72,3 +69,25 @@ pub paint-ahead : {X : Type 0} (start page : ℕ) (x : X) (ys now : List X) → 
 paint-ahead start page x ys now h is =
     ap (λ zs. slice_get zs page) is ∙ slice_get-paint (holds (span start (page - start))) x ys page
     ∙ ap (λ b. option_map (λ y. if b then x else y) (slice_get ys page)) (let e : holds (span start (page - start)) page ≡ false = grind (arith, nat_tests) in e) ∙ unchanged x (slice_get ys page)
+
+-- Painted twice.
+
+twice : {X : Type 0} (x : X) (o : Option X) (a b : Bool) → option_map (λ y. if b then x else y) (option_map (λ y. if a then x else y) o) ≡ option_map (λ y. if a || b then x else y) o
+twice x None a b = refl
+twice x (Some y) true true = refl
+twice x (Some y) true false = refl
+twice x (Some y) false b = refl
+
+paint-paint : {X : Type 0} (t t' t'' : ℕ → Bool) (x : X) (ys : List X) → ((i : ℕ) → t'' i ≡ (t i || t' i)) → paint t' x (paint t x ys) ≡ paint t'' x ys
+paint-paint t t' t'' x ys h = same_by_get _ _ (λ k.
+    slice_get-paint t' x (paint t x ys) k ∙ ap (option_map (λ y. if t' k then x else y)) (slice_get-paint t x ys k) ∙ twice x (slice_get ys k) (t k) (t' k)
+    ∙ ap (λ b. option_map (λ y. if b then x else y) (slice_get ys k)) (sym (h k)) ∙ sym (slice_get-paint t'' x ys k))
+
+holds-on : (start page n i : ℕ) → start ≤ page → holds (span start (page + n - start)) i ≡ (holds (span start (page - start)) i || holds (span page n) i)
+holds-on start page n i h = grind (arith, nat_tests)
+
+-- the pages up to one, and some more from there on
+pub paint-on : {X : Type 0} (start page n : ℕ) (x : X) (ys now after : List X) → start ≤ page → now ≡ paint (holds (span start (page - start))) x ys → after ≡ paint (holds (span page n)) x now
+    → after ≡ paint (holds (span start (page + n - start))) x ys
+paint-on start page n x ys now after h is more =
+    more ∙ ap (paint (holds (span page n)) x) is ∙ paint-paint (holds (span start (page - start))) (holds (span page n)) (holds (span start (page + n - start))) x ys (λ i. holds-on start page n i h)

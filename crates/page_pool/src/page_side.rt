@@ -128,9 +128,10 @@ impl PageSide {
         self.stale.mark(span);
     }
 
-    /// No page of a span is stale any more, as after `flush_tlb_kernel_range`. It takes time for each stale page, and
-    /// no memory.
+    /// No page of a span is stale any more, as after `flush_tlb_kernel_range`. It takes time for each 64 pages of the
+    /// span, and for each page of those in which one was stale. It takes no memory.
     pub fn flush(&mut self, span: Span)
+        requires { end_of span ≤ length self.old.frames }
         ensures { self.new ≡ with_flushed span self.old }
     {
         self.stale.flush(span);
@@ -179,12 +180,20 @@ impl PageSide {
 mod tests {
     use super::*;
 
+    /// Whether a span lies in the space.
+    fn is_inside(side: &PageSide, span: Span) -> bool
+        ensures inside { IsTrue result ↔ (end_of span ≤ length side.now.frames) }
+        ensures end { IsTrue result → end_of span < 2 ^ 32 }
+    {
+        u64::from(span.start) + u64::from(span.pages) <= side.frames.len() as u64
+    }
+
     /// Whether the pages of a span lie in the space, unmapped and not stale.
     fn is_bare(side: &PageSide, span: Span) -> bool
         ensures inside { IsTrue result → end_of span ≤ length side.now.frames }
         ensures bare { IsTrue result → (page : ℕ) → holds span page ≡ true → IsBare side.now page }
     {
-        if u64::from(span.start) + u64::from(span.pages) > side.frames.len() as u64 {
+        if !is_inside(side, span) {
             return false;
         }
         for page in span.start..span.start + span.pages {
@@ -200,7 +209,7 @@ mod tests {
         ensures inside { IsTrue result → end_of span ≤ length side.now.frames }
         ensures mapped { IsTrue result → (page : ℕ) → holds span page ≡ true → IsMapped side.now page }
     {
-        if u64::from(span.start) + u64::from(span.pages) > side.frames.len() as u64 {
+        if !is_inside(side, span) {
             return false;
         }
         for page in span.start..span.start + span.pages {
@@ -261,12 +270,25 @@ mod tests {
         assert!(rt;
             side.is_stale(1) && side.is_stale(5) && !side.is_stale(2) && !side.is_stale(16)
         );
-        side.flush(Span { start: 2, pages: 3 });
+        let some = Span { start: 2, pages: 3 };
+        assert!(rt; is_inside(&side, some));
+        side.flush(some);
         assert!(rt; side.is_stale(1) && side.is_stale(5) && !side.is_stale(4));
-        side.flush(Span {
+        let whole = Span {
             start: 0,
             pages: 16,
-        });
+        };
+        assert!(rt;
+            is_inside(&side, whole)
+                && !is_inside(
+                    &side,
+                    Span {
+                        start: 1,
+                        pages: 16
+                    }
+                )
+        );
+        side.flush(whole);
         assert_eq!(rt; counts(&side), (3, 2, 0));
         let again = Span { start: 4, pages: 2 };
         assert!(rt; is_bare(&side, again));

@@ -1,4 +1,4 @@
-use Rattle.std.proofs.Common.{ℕ, ◌<◌, ◌≤◌, not, ap, ◌∙◌, subst, arith}
+use Rattle.std.proofs.Common.{length, ℕ, ◌<◌, ◌≤◌, not, ap, ◌∙◌, subst, arith}
 use Rattle.page_pool.specs.Pages.{Pages, IsMapped}
 use Rattle.page_pool.proofs.Looks.{looked_more, looked_at, mapped_at}
 use Rattle.page_pool.proofs.page_side.tests.is_mapped.Goals as goal
@@ -9,6 +9,7 @@ loop-page-init c = λ page low high. absurd (omega arith)
 pub loop-page-preserved : goal.loop-page-preserved
 loop-page-preserved c =
     let p : Pages = record { frames = c.side.inside.frames.items; stale = c.side.inside.stale; cells = c.side.inside.cells } in
+    let same = ap (λ (v : Pages). length v.frames) c.side.view_is in
     looked_more (IsMapped p) c.args.span.start c.loop-page.page c.loop-page.invariant
     (mapped_at c.side.inside.frames.items c.loop-page.page c.index.result.now (omega arith) c.index.ensures (c.is_none.ensures ∙ ap not c.if-is_none.false))
 

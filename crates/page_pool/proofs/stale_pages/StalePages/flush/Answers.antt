@@ -1,24 +1,39 @@
-use Rattle.std.proofs.Common.{false, vec_capacity, ap, sym, ◌∙◌, subst, arith}
-use Rattle.vm_model.specs.Space.{holds, paint}
+use Rattle.std.proofs.Common.{◌≡◌, ℕ, ◌+◌, ◌-◌, ◌/◌, ◌%◌, ◌<◌, ◌≤◌, false, true, length, ap, ◌∙◌, arith}
+use Rattle.std.proofs.lemmas.Bool.Decides.{nat_tests}
+use Rattle.vm_model.specs.Space.{span, holds}
 use Rattle.vm_model.proofs.Paint.{length-paint_from}
-use Rattle.page_pool.specs.StaleList.{AreListed}
-use Rattle.page_pool.proofs.Flags.{times_listed, listed_within, flushed, still_listed}
+use Rattle.page_pool.proofs.Painting.{paint-first, paint-on, paint-last}
 use Rattle.page_pool.proofs.stale_pages.StalePages.flush.Goals as goal
 
-pub clear-requires : goal.clear-requires
-clear-requires c = rw (c.deref.ensures.value, c.deref_mut.ensures.value) (listed_within c.self.inside.pages.items c.self.inside.flags.items c.self.invariant.once)
+pub loop-page-init : goal.loop-page-init
+loop-page-init c = record {
+  from = omega arith;
+  to = omega arith;
+  pages = paint-first c.args.span.start false c.args.self.now;
+}
 
-pub invariant_of-self : goal.invariant_of-self
-invariant_of-self c =
-    let s = c.args.span in
-    let flags = c.self.inside.flags.items in
-    let is = flushed c.self.inside.flags.len s c.self.inside.pages.items c.deref.result.now flags c.deref_mut.result.now c.clear.new.flags c.self.invariant.once (omega arith) c.deref.ensures.value c.deref_mut.ensures.value c.clear.ensures in
-    subst (λ fs. AreListed fs c.keep_outside.new.pages.items (vec_capacity c.keep_outside.new.pages)) (sym is) (record {
-      once = λ p. ap (times_listed p) c.keep_outside.ensures.pages ∙ still_listed s c.self.inside.pages.items flags p (c.self.invariant.once p);
-      room = omega (arith, length-paint_from (holds s) false flags 0);
-    })
+in_group : (start pages page : ℕ) → pages ≤ 64 - start % 64 → holds (span start pages) page ≡ true → page / 64 ≡ start / 64
+in_group start pages page few h =
+    let low : start ≤ page = grind (arith, nat_tests) in
+    let high : page < start + pages = grind (arith, nat_tests) in
+    omega arith
+
+pub flush_group-requires : goal.flush_group-requires
+flush_group-requires c =
+    let long = ap length c.loop-page.invariant.pages ∙ length-paint_from _ false c.args.self.now 0 in
+    record {
+      pages = omega arith;
+      inside = omega arith;
+      space = omega arith;
+      group = λ page inside. in_group c.loop-page.page c.min-pages.result page (omega arith) inside;
+    }
+
+pub loop-page-preserved : goal.loop-page-preserved
+loop-page-preserved c = record {
+  from = omega arith;
+  to = omega arith;
+  pages = paint-on c.args.span.start c.loop-page.page c.min-pages.result false c.args.self.now c.loop-page.self c.flush_group.new.self c.loop-page.invariant.from c.loop-page.invariant.pages c.flush_group.ensures;
+}
 
 pub returns : goal.returns
-returns c =
-    flushed c.self.inside.flags.len c.args.span c.self.inside.pages.items c.deref.result.now c.self.inside.flags.items c.deref_mut.result.now c.clear.new.flags c.self.invariant.once (omega arith) c.deref.ensures.value c.deref_mut.ensures.value c.clear.ensures
-    ∙ ap (paint (holds c.args.span) false) c.self.view_is
+returns c = paint-last c.args.span c.loop-page.page false c.args.self.now c.loop-page.self (omega arith) c.loop-page.invariant.pages
