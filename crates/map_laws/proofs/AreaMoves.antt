@@ -51,7 +51,7 @@ IsOutside c m _ = Unit {0}
 
 -- Groups as areas.
 
-group_spans : (chunk group : ℕ) (spans : List Span) → map (λ (a : Span × AreaKind). a.0) (group_kinds chunk group spans) ≡ spans
+pub group_spans : (chunk group : ℕ) (spans : List Span) → map (λ (a : Span × AreaKind). a.0) (group_kinds chunk group spans) ≡ spans
 group_spans chunk group [] = refl
 group_spans chunk group (s ∷ spans) = ap (λ l. s ∷ l) (group_spans chunk (suc group) spans)
 

@@ -1,32 +1,33 @@
--- What each section does to blocks and parts at its place, for callers that use no per-CPU object.
-use Rattle.std.proofs.Common.{◌≡◌, ℕ, zero, suc, ◌+◌, ◌<◌, ◌≤◌, ◌⊎◌, inl, inr, Bool, true, false, not, ◌==◌, nat_lt, if◌then◌else◌, List, [], ◌∷◌, slice_get, Option, Some, None, refl, ap, sym, ◌∙◌, subst, arith}
-use Rattle.vm_model.specs.declared.areas.Span.{Span}
+-- What each section does to blocks and parts at its place.
+use Rattle.std.proofs.Common.{Bool, List, None, Option, Some, [], ap, arith, false, inl, inr, not, refl, slice_get, subst, suc, sym, true, zero, ℕ, ◌+◌, ◌<◌, ◌==◌, ◌∙◌, ◌∷◌, ◌≡◌, ◌≤◌, ◌⊎◌}
+use Rattle.vm_model.specs.Areas.{areas_of, is_area, named_areas, spans_of, with_areas}
+use Rattle.vm_model.specs.Blocks.{PartAt}
+use Rattle.vm_model.specs.Carried.{count_of}
+use Rattle.vm_model.specs.Chunks.{ObjectAt}
+use Rattle.vm_model.specs.Effects.{effect_as}
+use Rattle.vm_model.specs.Events.{Remove, Section, Settle, Unlink}
+use Rattle.vm_model.specs.Legal.{IsLegalAs, IsMarked}
+use Rattle.vm_model.specs.Next.{Answer, Go, Next, after_atomic, after_collecting, after_flush, after_page, after_place, after_remove, after_spare, found, go_on, next, without_space}
+use Rattle.vm_model.specs.Places.{AddingBlock, Aim, ForArea, ForBlock, ForChunk, MadeNothing, MappingPart, Place, PurgeFragmenting, PurgeUnlinking, ReplyWith, Retiring, SearchAgain, SettlingBlock, SettlingPart, SpareAgain, Then, UnlinkingBlock, UnmappingPart}
+use Rattle.vm_model.specs.PlainMap.{Block, Held, PlainMap}
+use Rattle.vm_model.specs.Rules.{IsPower}
+use Rattle.vm_model.specs.Setup.{Setup}
+use Rattle.vm_model.specs.Space.{holds, is_among, one_if, put_by, span, times}
 use Rattle.vm_model.specs.declared.areas.Area.{Area}
 use Rattle.vm_model.specs.declared.areas.AreaKind.{AreaKind}
+use Rattle.vm_model.specs.declared.areas.Span.{Span}
+use Rattle.map_laws.proofs.AreaFacts.{IsHolding, IsMapFine, own_uses}
+use Rattle.map_laws.proofs.BlockFacts.{IsBlockArea, IsBlockAt, IsBlockFine, IsPartIn, IsStill, block_out, block_starts, count_cons, counted_block, not_among, to_same}
+use Rattle.map_laws.proofs.BlockMoves.{IsBlockMoved, area_holds, next_out, outer_moved}
+use Rattle.map_laws.proofs.Chosen.{IsIn, filter_in}
+use Rattle.map_laws.proofs.Lists.{there}
+use Rattle.map_laws.proofs.MapMoves.{area_times}
+use Rattle.map_laws.proofs.OutMoves.{same_area}
+use Rattle.map_laws.proofs.Places.{IsPlainKind, OnNext}
+use Rattle.map_laws.proofs.Puts.{put_keeps, put_new}
+use Rattle.map_laws.proofs.Spans.{covers_one, holds_from, holds_to, times-one}
 use Rattle.vm_model.specs.declared.areas.AreaKind.TheVariants as kind
 use Rattle.vm_model.specs.declared.calls.Reply.TheVariants as reply
-use Rattle.vm_model.specs.Space.{span, holds, is_among, one_if, put_by, times}
-use Rattle.vm_model.specs.Setup.{Setup}
-use Rattle.vm_model.specs.PlainMap.{PlainMap, Block, Held}
-use Rattle.vm_model.specs.Areas.{is_area, named_areas, areas_of, with_areas, spans_of}
-use Rattle.vm_model.specs.Blocks.{PartAt}
-use Rattle.vm_model.specs.Legal.{IsLegalAs, IsMarked}
-use Rattle.vm_model.specs.Events.{Section, Settle, Remove, Unlink}
-use Rattle.vm_model.specs.Effects.{effect_as}
-use Rattle.vm_model.specs.Places.{Place, PurgeFragmenting, PurgeUnlinking, SettlingBlock, AddingBlock, MappingPart, SettlingPart, UnmappingPart, Retiring, UnlinkingBlock, MadeNothing, Aim, ForArea, ForBlock, ForChunk, Then, SearchAgain, ReplyWith, SpareAgain}
-use Rattle.vm_model.specs.Next.{Next, Go, Answer, next, found, without_space, after_remove, go_on, after_collecting, after_flush, after_page, after_spare, after_atomic, after_place}
-use Rattle.vm_model.specs.Carried.{count_of}
-use Rattle.vm_model.specs.Rules.{IsPower}
-use Rattle.map_laws.proofs.Chosen.{IsIn, in_more, filter_in}
-use Rattle.map_laws.proofs.Places.{OnNext, IsPlainKind}
-use Rattle.map_laws.proofs.Spans.{times-one, covers_one, holds_to, holds_from}
-use Rattle.map_laws.proofs.AreaFacts.{IsHolding, IsMapFine, own_uses}
-use Rattle.map_laws.proofs.MapMoves.{area_times}
-use Rattle.map_laws.proofs.BlockFacts.{IsStill, IsBlockArea, IsBlockFine, IsPartIn, block_out, IsBlockAt, block_starts, count_cons, not_among, counted_block, to_same}
-use Rattle.map_laws.proofs.BlockMoves.{next_out, IsBlockMoved, outer_moved, area_holds}
-use Rattle.map_laws.proofs.BlockChanges.{in_of}
-use Rattle.vm_model.specs.Chunks.{ObjectAt}
-use Rattle.map_laws.proofs.OutMoves.{same_area}
 
 -- places of which nothing is said as to blocks
 abbrev pub is_blocky : Place → Bool
@@ -120,29 +121,9 @@ page_un filled (Some p) = refl
 
 -- Areas that stay among others.
 
-put_keeps_by : (key : Area → ℕ) (x y : Area) (ys : List Area) (t : Bool) (a : Area) → IsIn a (y ∷ ys) → (IsIn a ys → IsIn a (put_by key x ys)) → IsIn a (if t then x ∷ y ∷ ys else y ∷ put_by key x ys)
-put_keeps_by key x y ys true a h more = in_more a x (y ∷ ys) h
-put_keeps_by key x y ys false a h more = by_place h.place h.at
-  where
-    by_place : (i : ℕ) → slice_get (y ∷ ys) i ≡ Some a → IsIn a (y ∷ put_by key x ys)
-    by_place zero e = record { place = 0; at = e }
-    by_place (suc i) e = in_more a y (put_by key x ys) (more (in_of ys i a e))
-
-put_keeps : (key : Area → ℕ) (x : Area) (ys : List Area) (a : Area) → IsIn a ys → IsIn a (put_by key x ys)
-put_keeps key x [] a h = (let no = h.at in cc)
-put_keeps key x (y ∷ ys) a h = put_keeps_by key x y ys _ a h (put_keeps key x ys a)
-
 pub with_keeps : (xs areas : List Area) (a : Area) → IsIn a areas → IsIn a (with_areas xs areas)
 with_keeps [] areas a h = h
 with_keeps (x ∷ xs) areas a h = with_keeps xs (put_by (λ (b : Area). b.span.start) x areas) a (put_keeps (λ (b : Area). b.span.start) x areas a h)
-
-put_new : (key : Area → ℕ) (x : Area) (ys : List Area) → IsIn x (put_by key x ys)
-put_new key x [] = record { place = 0; at = refl }
-put_new key x (y ∷ ys) = by_test (nat_lt (key x) (key y)) (put_new key x ys)
-  where
-    by_test : (t : Bool) → IsIn x (put_by key x ys) → IsIn x (if t then x ∷ y ∷ ys else y ∷ put_by key x ys)
-    by_test true more = record { place = 0; at = refl }
-    by_test false more = in_more x y (put_by key x ys) more
 
 -- a part in hand where the blocks are the same
 pub hand_same : (m m' : PlainMap) (k : ℕ) (at : PartAt) → m'.blocks ≡ m.blocks → IsPartIn m k at → IsPartIn m' k at

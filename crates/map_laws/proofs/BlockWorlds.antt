@@ -1,33 +1,34 @@
 -- What is kept of blocks is kept by each legal section, and gives what areas need of blocks.
-use Rattle.std.proofs.Common.{◌≡◌, ◌≢◌, ℕ, zero, suc, ◌+◌, ◌-◌, ◌<◌, ◌≤◌, inl, inr, Bool, true, false, ◌||◌, ◌==◌, List, [], ◌∷◌, length, slice_get, slice_set, sum_by, Some, refl, ap, sym, ◌∙◌, subst, arith}
-use Rattle.std.proofs.lemmas.List.Sums.{sum_by-set, sum_by-cons}
-use Rattle.std.proofs.lemmas.Option.{slice_get_within, get_or_from_slice_get}
-use Rattle.vm_model.specs.declared.areas.Area.{Area}
-use Rattle.vm_model.specs.declared.areas.AreaKind.TheVariants as kind
-use Rattle.vm_model.specs.declared.calls.Reply.{Reply}
-use Rattle.vm_model.specs.Space.{span, holds, covers, is_among, one_if, times}
-use Rattle.vm_model.specs.Setup.{Setup}
-use Rattle.vm_model.specs.PlainMap.{PlainMap, Block}
-use Rattle.vm_model.specs.Areas.{spans_of, areas_starting}
+use Rattle.std.proofs.Common.{Bool, List, Some, [], ap, arith, false, inl, inr, length, refl, slice_get, slice_set, subst, suc, sum_by, sym, true, zero, ℕ, ◌+◌, ◌-◌, ◌<◌, ◌==◌, ◌||◌, ◌∙◌, ◌∷◌, ◌≡◌, ◌≢◌, ◌≤◌}
+use Rattle.std.proofs.lemmas.List.Sums.{sum_by-cons, sum_by-set}
+use Rattle.std.proofs.lemmas.Option.{get_or_from_slice_get, slice_get_within}
+use Rattle.vm_model.specs.Areas.{areas_starting, spans_of}
 use Rattle.vm_model.specs.Blocks.{PartAt, first_page, mapped_pages, rounded}
-use Rattle.vm_model.specs.Events.{Section, Event}
-use Rattle.vm_model.specs.Effects.{effect_as}
-use Rattle.vm_model.specs.Places.{Place, Over, Refusing, Finding, FindingAgain, MappingArea, Dropping, SettlingArea, Removing, UnmappingArea, Waiting, PurgeTaking, PurgeFragmenting, PurgeUnlinking, PurgeWaiting, PurgeCollecting, PurgeFlushing, PurgeReturning, PurgeGiving, CuttingPart, SettlingBlock, AddingBlock, MappingPart, SettlingPart, BeginningUnmap, UnmappingPart, Retiring, UnlinkingBlock, LookingAtDirty, Made, block_spans, Depopulating, Filling, Populating, UnlinkingGroups}
-use Rattle.vm_model.specs.Next.{Next, Go, Answer, next}
-use Rattle.vm_model.specs.History.{World, Local, moved_to}
 use Rattle.vm_model.specs.Carried.{count_of}
-use Rattle.map_laws.proofs.Lists.{set_cases}
-use Rattle.map_laws.proofs.Chosen.{IsIn, filter_in, sum_has}
-use Rattle.map_laws.proofs.Places.{OnNext, IsPlainKind, HaveBeginnings, begins_with, answers_call}
-use Rattle.map_laws.proofs.Spans.{times-cons, covers_one, holds_to, in_spans, InSpans, Inside, Outside}
-use Rattle.map_laws.proofs.MapMoves.{area_times}
-use Rattle.map_laws.proofs.OutMoves.{IsInside, IsUnlinked, sum_two}
+use Rattle.vm_model.specs.Effects.{effect_as}
+use Rattle.vm_model.specs.Events.{Event, Section}
+use Rattle.vm_model.specs.History.{Local, World, moved_to}
+use Rattle.vm_model.specs.Next.{Answer, Go, Next, next}
+use Rattle.vm_model.specs.Places.{AddingBlock, BeginningUnmap, CuttingPart, Depopulating, Dropping, Filling, Finding, FindingAgain, LookingAtDirty, Made, MappingArea, MappingPart, Over, Place, Populating, PurgeCollecting, PurgeFlushing, PurgeFragmenting, PurgeGiving, PurgeReturning, PurgeTaking, PurgeUnlinking, PurgeWaiting, Refusing, Removing, Retiring, SettlingArea, SettlingBlock, SettlingPart, UnlinkingBlock, UnlinkingGroups, UnmappingArea, UnmappingPart, Waiting, block_spans}
+use Rattle.vm_model.specs.PlainMap.{Block, PlainMap}
+use Rattle.vm_model.specs.Setup.{Setup}
+use Rattle.vm_model.specs.Space.{covers, holds, is_among, one_if, span, times}
+use Rattle.vm_model.specs.declared.areas.Area.{Area}
+use Rattle.vm_model.specs.declared.calls.Reply.{Reply}
 use Rattle.map_laws.proofs.AreaMoves.{IsOutside}
 use Rattle.map_laws.proofs.AreaWorlds.{moved_caller}
-use Rattle.map_laws.proofs.BlockFacts.{OnRow, IsStill, IsBlockArea, IsBlockFine, IsPartIn, IsOut, IsBlockAt, block_starts, count_cons, among_count, count_among, same_test, to_same, still_bare, still_mapped, still_unmapped, Stays, out_stays, block_out}
-use Rattle.map_laws.proofs.BlockMoves.{next_out, IsBlockMoved, part_within, row_of, same_start, area_holds, area_start}
-use Rattle.map_laws.proofs.BlockPlaces.{IsUnblocky, unblocky_at, unblocky_out, IsInChunk}
-use Rattle.map_laws.proofs.BlockDispatch.{IsRemovedPlain, IsChunkSided}
+use Rattle.map_laws.proofs.BlockDispatch.{IsChunkSided, IsRemovedPlain}
+use Rattle.map_laws.proofs.BlockFacts.{IsBlockArea, IsBlockAt, IsBlockFine, IsOut, IsPartIn, IsStill, OnRow, Stays, among_count, block_out, block_starts, count_among, count_cons, out_stays, same_test, still_bare, still_mapped, still_unmapped, to_same}
+use Rattle.map_laws.proofs.BlockMoves.{IsBlockMoved, area_holds, area_start, next_out, part_within, row_of, same_start}
+use Rattle.map_laws.proofs.BlockPlaces.{IsInChunk, IsUnblocky, unblocky_at, unblocky_out}
+use Rattle.map_laws.proofs.Chosen.{IsIn, filter_in, sum_has}
+use Rattle.map_laws.proofs.Lists.{set_cases}
+use Rattle.map_laws.proofs.MapMoves.{area_times}
+use Rattle.map_laws.proofs.OrTests.{or_false, or_right}
+use Rattle.map_laws.proofs.OutMoves.{IsInside, IsUnlinked, sum_two}
+use Rattle.map_laws.proofs.Places.{HaveBeginnings, IsPlainKind, OnNext, answers_call, begins_with}
+use Rattle.map_laws.proofs.Spans.{InSpans, Inside, Outside, covers_one, holds_to, in_spans, times-cons}
+use Rattle.vm_model.specs.declared.areas.AreaKind.TheVariants as kind
 
 pub record IsBlockWorld (c : Setup) (w : World) : Type 0 where
   pub blocks : (b : Block) → IsIn b w.map.blocks → IsBlockFine c w.map b
@@ -55,16 +56,12 @@ sum_by_first : {X : Type 0} (f : X → ℕ) (x : X) (xs : List X) (n : ℕ) → 
 sum_by_first f x xs zero e h more = let is = more (omega (arith, sum_by-cons f x xs)) in (suc is.0, is.1, is.2, is.3)
 sum_by_first f x xs (suc n) e h more = (0, x, refl, (omega arith))
 
-sum_some : {X : Type 0} (f : X → ℕ) (xs : List X) → 1 ≤ sum_by f xs → (i : ℕ) × (x : X) × (slice_get xs i ≡ Some x) × (1 ≤ f x)
+pub sum_some : {X : Type 0} (f : X → ℕ) (xs : List X) → 1 ≤ sum_by f xs → (i : ℕ) × (x : X) × (slice_get xs i ≡ Some x) × (1 ≤ f x)
 sum_some f [] h = absurd (omega arith)
 sum_some f (x ∷ xs) h = sum_by_first f x xs (f x) refl h (sum_some f xs)
 
 pub only_one : (s start : ℕ) → is_among (s ∷ []) start ≡ true → s ≡ start
-only_one s start h = to_same s start (or_false (s == start) h)
-  where
-    or_false : (b : Bool) → (b || false) ≡ true → b ≡ true
-    or_false true e = refl
-    or_false false e = e
+only_one s start h = to_same s start (sym (or_false (s == start)) ∙ h)
 
 -- the area of a start that a caller has out
 pub out_area : (c : Setup) (m : PlainMap) (j : ℕ) (p : Place) (start : ℕ) → IsBlockAt c m j p → is_among (block_out p) start ≡ true → IsBlockArea c m start
@@ -160,10 +157,6 @@ module _ (c : Setup) (m : PlainMap) (once : (page : ℕ) → times page (spans_o
       → (covers (block_spans c xs) page ≡ true → (s : ℕ) × (is_among xs s ≡ true) × (holds (span s c.block_pages) page ≡ true)) → (s : ℕ) × (is_among (x ∷ xs) s ≡ true) × (holds (span s c.block_pages) page ≡ true)
   covered_by x page xs true e h more = (x, ap (λ b. b || is_among xs x) (same_test x), e)
   covered_by x page xs false e h more = let is = more h in (is.0, or_right (x == is.0) (is_among xs is.0) is.1, is.2)
-    where
-      or_right : (a b : Bool) → b ≡ true → (a || b) ≡ true
-      or_right true b f = refl
-      or_right false b f = f
 
   -- a page of the blocks' spans is in one of the blocks
   pub covered_start : (xs : List ℕ) (page : ℕ) → covers (block_spans c xs) page ≡ true → (s : ℕ) × (is_among xs s ≡ true) × (holds (span s c.block_pages) page ≡ true)
@@ -177,10 +170,6 @@ module _ (c : Setup) (m : PlainMap) (once : (page : ℕ) → times page (spans_o
   pub times_count : (s page : ℕ) (xs : List ℕ) → ((x : ℕ) → is_among xs x ≡ true → holds (span x c.block_pages) page ≡ true → x ≡ s) → times page (block_spans c xs) ≤ count_of s xs
   times_count s page [] same = omega arith
   times_count s page (x ∷ xs) same = times_by s page x xs _ refl (same x (ap (λ b. b || is_among xs x) (same_test x))) (times_count s page xs (λ y h. same y (or_right (x == y) (is_among xs y) h)))
-    where
-      or_right : (a b : Bool) → b ≡ true → (a || b) ≡ true
-      or_right true b f = refl
-      or_right false b f = f
 
   module _ (starts : List ℕ) (outs : (start : ℕ) → is_among starts start ≡ true → IsOut c m start) (few : (start : ℕ) → count_of start starts ≤ 1) where
     one_area : (page s : ℕ) → is_among starts s ≡ true → holds (span s c.block_pages) page ≡ true → times page (block_spans c starts) ≤ times page (spans_of (areas_starting starts m.areas))

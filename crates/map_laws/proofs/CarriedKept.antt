@@ -1,252 +1,111 @@
--- What callers carry is kept in traces without per-CPU objects.
-use Rattle.std.proofs.Common.{◌≡◌, ℕ, zero, suc, ◌+◌, ◌-◌, ◌<◌, ◌≤◌, Bool, true, false, ◌||◌, ◌==◌, nat_lt, List, [], ◌∷◌, map, flat_map, slice_get, sum_by, Some, IfSome, refl, ap, sym, ◌∙◌, subst, arith}
+-- What callers carry is kept.
+use Rattle.std.proofs.Common.{Bool, IfSome, List, Some, [], ap, arith, false, inl, inr, map, nat_lt, refl, slice_get, subst, suc, sym, true, zero, ℕ, ◌+◌, ◌-◌, ◌<◌, ◌||◌, ◌∙◌, ◌∷◌, ◌≡◌, ◌≤◌}
 use Rattle.std.proofs.lemmas.Bool.Decides.{nat_tests}
-use Rattle.vm_model.specs.declared.areas.Span.{Span}
+use Rattle.vm_model.specs.Areas.{areas_at, mapped_part, spans_of}
+use Rattle.vm_model.specs.Blocks.{PartAt, first_page, life_of_part, mapped_pages, parts_size, rounded, size_of}
+use Rattle.vm_model.specs.Carried.{IsAreaKept, IsBlockKept, IsCarried, IsChunkKept, IsChunkOut, IsKept, IsPartKept, SomeoneIsPopulating, emptied, fresh, leaving, object_in_hand, part_in_hand, part_spans, starts_out}
+use Rattle.vm_model.specs.Chunks.{ObjectAt, life_of_object}
+use Rattle.vm_model.specs.History.{Local, World}
+use Rattle.vm_model.specs.Laws.{WhatIsCarriedIsKept}
+use Rattle.vm_model.specs.Legal.{IsBare, IsMapped, IsUnmapped, OnEach}
+use Rattle.vm_model.specs.Places.{AddingBlock, AddingChunk, Depopulating, Dropping, MappingArea, MappingPart, Place, Populating, PurgeFragmenting, PurgeUnlinking, PurgeWaiting, Retiring, SettlingAtomic, SettlingBlock, SettlingGroups, SettlingObject, SettlingPart, UnlinkingBlock, UnlinkingGroups, UnmappingArea, UnmappingPart, Unplacing, Waiting, Zeroing, block_spans, group_starts}
+use Rattle.vm_model.specs.PlainMap.{Block, Chunk, Ended, InHand, Life, Lives, Part, PlainMap, is_ended, is_live}
+use Rattle.vm_model.specs.Rules.{AreGroups}
+use Rattle.vm_model.specs.Setup.{Setup}
+use Rattle.vm_model.specs.Space.{covers, holds, is_among, span, times}
 use Rattle.vm_model.specs.declared.areas.Area.{Area}
 use Rattle.vm_model.specs.declared.areas.AreaKind.{AreaKind}
-use Rattle.vm_model.specs.declared.areas.AreaKind.TheVariants as kind
-use Rattle.vm_model.specs.Space.{span, holds, covers, is_among}
-use Rattle.vm_model.specs.Setup.{Setup}
-use Rattle.vm_model.specs.PlainMap.{PlainMap, Block, Part, Chunk, Life, InHand, Lives, Ended, is_live, is_ended}
-use Rattle.vm_model.specs.Areas.{mapped_part}
-use Rattle.vm_model.specs.Blocks.{PartAt, first_page, mapped_pages, rounded, size_of, parts_size, life_of_part}
-use Rattle.vm_model.specs.Chunks.{life_of_object}
-use Rattle.vm_model.specs.Legal.{OnEach, IsBare, IsMapped, IsUnmapped}
-use Rattle.vm_model.specs.Places.{Place, Over, Refusing, Finding, FindingAgain, MappingArea, Dropping, SettlingArea, Removing, UnmappingArea, Waiting, PurgeTaking, PurgeFragmenting, PurgeUnlinking, PurgeWaiting, PurgeCollecting, PurgeFlushing, PurgeReturning, PurgeGiving, CuttingPart, SettlingBlock, AddingBlock, MappingPart, SettlingPart, BeginningUnmap, UnmappingPart, Retiring, UnlinkingBlock, LookingAtDirty, block_spans, group_starts, AddingChunk, Depopulating, UnlinkingGroups}
-use Rattle.vm_model.specs.History.{World, Local}
-use Rattle.vm_model.specs.Carried.{fresh, leaving, emptied, part_in_hand, object_in_hand, starts_out, IsChunkOut, IsCarried, IsPartKept, IsBlockKept, part_spans, IsAreaKept, IsKept, count_of}
-use Rattle.map_laws.specs.MapTraces.{WhatIsCarriedWithoutObjectsIsKept}
+use Rattle.vm_model.specs.declared.areas.Span.{Span}
+use Rattle.map_laws.proofs.AreaFacts.{IsAreaFine, IsHolding}
+use Rattle.map_laws.proofs.BlockFacts.{IsBlockAt, IsBlockFine, IsOut, IsPartFine, IsPartIn, OnRow, block_out, stacked_at, stacked_covers}
+use Rattle.map_laws.proofs.BlockWorlds.{covered_start, only_one, out_area, row_covers}
+use Rattle.map_laws.proofs.ChunkFacts.{AreGroupsLive, IsChunkAt, IsChunkFine, start_of, unit_page}
+use Rattle.map_laws.proofs.ChunkPlaced.{populated_at}
 use Rattle.map_laws.proofs.Frames.{IsFramed}
-use Rattle.map_laws.proofs.Spans.{covers_one, holds_to, holds_from}
-use Rattle.map_laws.proofs.AreaFacts.{IsHolding, IsAreaFine}
-use Rattle.map_laws.proofs.MapPlaces.{IsMapPlace}
-use Rattle.map_laws.proofs.BlockFacts.{OnRow, IsPartFine, same_test, IsBlockFine, IsPartIn, IsOut, IsBlockAt, stacked_covers, stacked_at, block_out}
-use Rattle.map_laws.proofs.BlockWorlds.{out_area, only_one}
-use Rattle.map_laws.proofs.MapLegal.{held_life, block_at}
-use Rattle.map_laws.proofs.MapLaws.{IsMapTraceWorld, map_lasts, map_first, has_parts, areas_once, own_names}
-use Rattle.map_laws.proofs.AreaWorlds.{legally_lasts}
+use Rattle.map_laws.proofs.MapLegal.{block_at, held_life, one_at}
+use Rattle.map_laws.proofs.Namings.{namings_once}
+use Rattle.map_laws.proofs.ObjectFacts.{IsObject, IsObjectAt, object_life}
+use Rattle.map_laws.proofs.ObjectWorlds.{SomeonePlaces}
+use Rattle.map_laws.proofs.OrTests.{or_right}
 use Rattle.map_laws.proofs.Places.{IsPlainKind}
-use Rattle.std.proofs.lemmas.List.Sums.{sum_by-cons}
-
-covered_by : (c : Setup) (x page : ℕ) (xs : List ℕ) (t : Bool) → holds (span x c.block_pages) page ≡ t → (t || covers (block_spans c xs) page) ≡ true
-    → (covers (block_spans c xs) page ≡ true → (s : ℕ) × (is_among xs s ≡ true) × (s ≤ page) × (page < s + c.block_pages)) → (s : ℕ) × (is_among (x ∷ xs) s ≡ true) × (s ≤ page) × (page < s + c.block_pages)
-covered_by c x page xs true e h more = let r = holds_to (span x c.block_pages) page e in (x, ap (λ b. b || is_among xs x) (same_test x), r.0, r.1)
-covered_by c x page xs false e h more = let is = more h in (is.0, or_right (x == is.0) (is_among xs is.0) is.1, is.2, is.3)
-  where
-    or_right : (a b : Bool) → b ≡ true → (a || b) ≡ true
-    or_right true b f = refl
-    or_right false b f = f
-
--- a page of blocks' spans is in the row of one of them
-covered_of : (c : Setup) (xs : List ℕ) (page : ℕ) → covers (block_spans c xs) page ≡ true → (s : ℕ) × (is_among xs s ≡ true) × (s ≤ page) × (page < s + c.block_pages)
-covered_of c [] page h = cc
-covered_of c (x ∷ xs) page h = covered_by c x page xs _ refl h (covered_of c xs page)
+use Rattle.map_laws.proofs.Spans.{covers_one, holds_from, holds_to}
+use Rattle.map_laws.proofs.TraceWorlds.{AreFull, IsTraceWorld, areas_once, has_parts, own_names, trace_reached}
+use Rattle.vm_model.specs.declared.areas.AreaKind.TheVariants as kind
 
 -- a row's pages by its span
 row_each : (P : ℕ → Type 0) (s : Span) → OnRow s.start s.pages P → OnEach (s ∷ []) P
 row_each P s row page e = let r = holds_to s page (sym (covers_one s page) ∙ e) in row page r.0 r.1
 
 module _ (c : Setup) (m : PlainMap) (k : ℕ) where
-  -- the rows of blocks that are out
-  out_each : (starts : List ℕ) → ((start : ℕ) → is_among starts start ≡ true → IsOut c m start) → OnEach (block_spans c starts) (IsUnmapped m)
-  out_each starts outs page e = let is = covered_of c starts page e in (outs is.0 is.1).unmapped page is.2 is.3
+  fresh_bare : (p : Place) → IsHolding c m k p → IsBlockAt c m k p → IsChunkAt c m p → OnEach (fresh c p) (IsBare m)
+  fresh_bare (MappingArea s kd) own at chunk = own.bare
+  fresh_bare (Dropping s) own at chunk = own.bare
+  fresh_bare (SettlingBlock s cpu pages) own at chunk = own.bare
+  fresh_bare (AddingBlock part) own at chunk = row_each (IsBare m) (span part.block c.block_pages) at.2
+  fresh_bare (MappingPart part) own at chunk = row_each (IsBare m) (span (first_page part) (rounded part.pages)) at.1
+  fresh_bare (SettlingGroups base number bytes align) own at chunk = own.bare
+  fresh_bare (AddingChunk base number bytes align) own at chunk = chunk.1
+  fresh_bare _ own at chunk = λ page e. cc
 
-  fresh_bare : (p : Place) → IsMapPlace p → IsHolding c m k p → IsBlockAt c m k p → OnEach (fresh c p) (IsBare m)
-  fresh_bare Over is own at = λ page e. cc
-  fresh_bare (Refusing r) is own at = λ page e. cc
-  fresh_bare (Finding search aim) is own at = λ page e. cc
-  fresh_bare (FindingAgain search aim) is own at = λ page e. cc
-  fresh_bare (MappingArea s kd) is own at = own.bare
-  fresh_bare (Dropping s) is own at = own.bare
-  fresh_bare (SettlingArea s kd) is own at = λ page e. cc
-  fresh_bare (Removing st serial) is own at = λ page e. cc
-  fresh_bare (UnmappingArea area) is own at = λ page e. cc
-  fresh_bare (Waiting spans after) is own at = λ page e. cc
-  fresh_bare (PurgeTaking extra after) is own at = λ page e. cc
-  fresh_bare (PurgeFragmenting cpu gone extra after) is own at = λ page e. cc
-  fresh_bare (PurgeUnlinking gone extra after) is own at = λ page e. cc
-  fresh_bare (PurgeWaiting gone extra after) is own at = λ page e. cc
-  fresh_bare (PurgeCollecting extra after) is own at = λ page e. cc
-  fresh_bare (PurgeFlushing h waited after) is own at = λ page e. cc
-  fresh_bare (PurgeReturning waited after) is own at = λ page e. cc
-  fresh_bare (PurgeGiving after) is own at = λ page e. cc
-  fresh_bare (CuttingPart cpu pages) is own at = λ page e. cc
-  fresh_bare (SettlingBlock s cpu pages) is own at = own.bare
-  fresh_bare (AddingBlock part) is own at = row_each (IsBare m) (span part.block c.block_pages) at.2
-  fresh_bare (MappingPart part) is own at = row_each (IsBare m) (span (first_page part) (rounded part.pages)) at.1
-  fresh_bare (SettlingPart part) is own at = λ page e. cc
-  fresh_bare (BeginningUnmap cpu page serial) is own at = λ page e. cc
-  fresh_bare (UnmappingPart part) is own at = λ page e. cc
-  fresh_bare (Retiring part r) is own at = λ page e. cc
-  fresh_bare (UnlinkingBlock start r) is own at = λ page e. cc
-  fresh_bare (LookingAtDirty cpu ranges) is own at = λ page e. cc
-  fresh_bare _ is own at = absurd is
+  leaving_mapped : (p : Place) → IsHolding c m k p → IsBlockAt c m k p → OnEach (leaving p) (IsMapped m)
+  leaving_mapped (UnmappingArea area) own at = own.mapped
+  leaving_mapped (UnmappingPart part) own at = row_each (IsMapped m) (mapped_pages part) at.1
+  leaving_mapped _ own at = λ page e. cc
 
-  leaving_mapped : (p : Place) → IsMapPlace p → IsHolding c m k p → IsBlockAt c m k p → OnEach (leaving p) (IsMapped m)
-  leaving_mapped Over is own at = λ page e. cc
-  leaving_mapped (Refusing r) is own at = λ page e. cc
-  leaving_mapped (Finding search aim) is own at = λ page e. cc
-  leaving_mapped (FindingAgain search aim) is own at = λ page e. cc
-  leaving_mapped (MappingArea s kd) is own at = λ page e. cc
-  leaving_mapped (Dropping s) is own at = λ page e. cc
-  leaving_mapped (SettlingArea s kd) is own at = λ page e. cc
-  leaving_mapped (Removing st serial) is own at = λ page e. cc
-  leaving_mapped (UnmappingArea area) is own at = own.mapped
-  leaving_mapped (Waiting spans after) is own at = λ page e. cc
-  leaving_mapped (PurgeTaking extra after) is own at = λ page e. cc
-  leaving_mapped (PurgeFragmenting cpu gone extra after) is own at = λ page e. cc
-  leaving_mapped (PurgeUnlinking gone extra after) is own at = λ page e. cc
-  leaving_mapped (PurgeWaiting gone extra after) is own at = λ page e. cc
-  leaving_mapped (PurgeCollecting extra after) is own at = λ page e. cc
-  leaving_mapped (PurgeFlushing h waited after) is own at = λ page e. cc
-  leaving_mapped (PurgeReturning waited after) is own at = λ page e. cc
-  leaving_mapped (PurgeGiving after) is own at = λ page e. cc
-  leaving_mapped (CuttingPart cpu pages) is own at = λ page e. cc
-  leaving_mapped (SettlingBlock s cpu pages) is own at = λ page e. cc
-  leaving_mapped (AddingBlock part) is own at = λ page e. cc
-  leaving_mapped (MappingPart part) is own at = λ page e. cc
-  leaving_mapped (SettlingPart part) is own at = λ page e. cc
-  leaving_mapped (BeginningUnmap cpu page serial) is own at = λ page e. cc
-  leaving_mapped (UnmappingPart part) is own at = row_each (IsMapped m) (mapped_pages part) at.1
-  leaving_mapped (Retiring part r) is own at = λ page e. cc
-  leaving_mapped (UnlinkingBlock start r) is own at = λ page e. cc
-  leaving_mapped (LookingAtDirty cpu ranges) is own at = λ page e. cc
-  leaving_mapped _ is own at = absurd is
+  chunk_left : (p : Place) → IsChunkAt c m p → IsChunkOut c m p
+  chunk_left (Depopulating base populated) at = λ page e. (
+    (λ h. (let u = unit_page c base page populated h in subst (IsMapped m) (sym u.same) ((at.2 u.page u.among).1 u.cpu u.unit u.at))),
+    at.3 page e,
+  )
+  chunk_left _ at = tt
 
-  emptied_unmapped : (p : Place) → IsMapPlace p → IsHolding c m k p → IsBlockAt c m k p → OnEach (emptied c p) (IsUnmapped m)
-  emptied_unmapped Over is own at = λ page e. cc
-  emptied_unmapped (Refusing r) is own at = λ page e. cc
-  emptied_unmapped (Finding search aim) is own at = λ page e. cc
-  emptied_unmapped (FindingAgain search aim) is own at = λ page e. cc
-  emptied_unmapped (MappingArea s kd) is own at = λ page e. cc
-  emptied_unmapped (Dropping s) is own at = λ page e. cc
-  emptied_unmapped (SettlingArea s kd) is own at = λ page e. cc
-  emptied_unmapped (Removing st serial) is own at = λ page e. cc
-  emptied_unmapped (UnmappingArea area) is own at = λ page e. cc
-  emptied_unmapped (Waiting spans after) is own at = own.unmapped
-  emptied_unmapped (PurgeTaking extra after) is own at = λ page e. cc
-  emptied_unmapped (PurgeFragmenting cpu gone extra after) is own at = out_each gone at
-  emptied_unmapped (PurgeUnlinking gone extra after) is own at = out_each gone at
-  emptied_unmapped (PurgeWaiting gone extra after) is own at = own.unmapped
-  emptied_unmapped (PurgeCollecting extra after) is own at = λ page e. cc
-  emptied_unmapped (PurgeFlushing h waited after) is own at = λ page e. cc
-  emptied_unmapped (PurgeReturning waited after) is own at = λ page e. cc
-  emptied_unmapped (PurgeGiving after) is own at = λ page e. cc
-  emptied_unmapped (CuttingPart cpu pages) is own at = λ page e. cc
-  emptied_unmapped (SettlingBlock s cpu pages) is own at = λ page e. cc
-  emptied_unmapped (AddingBlock part) is own at = λ page e. cc
-  emptied_unmapped (MappingPart part) is own at = λ page e. cc
-  emptied_unmapped (SettlingPart part) is own at = λ page e. cc
-  emptied_unmapped (BeginningUnmap cpu page serial) is own at = λ page e. cc
-  emptied_unmapped (UnmappingPart part) is own at = λ page e. cc
-  emptied_unmapped (Retiring part r) is own at = row_each (IsUnmapped m) (mapped_pages part) at.1
-  emptied_unmapped (UnlinkingBlock start r) is own at = out_each (start ∷ []) (λ n h. subst (IsOut c m) (only_one start n h) at)
-  emptied_unmapped (LookingAtDirty cpu ranges) is own at = λ page e. cc
-  emptied_unmapped _ is own at = absurd is
+  object_held : ((at : ObjectAt) → IsObject m.chunks at (InHand k) → life_of_object at m.chunks ≡ Some (InHand k)) → (p : Place) → IsObjectAt m k p → IfSome (object_in_hand p) (λ at. life_of_object at m.chunks ≡ Some (InHand k))
+  object_held life (Populating object missing) at = life object at
+  object_held life (SettlingObject object) at = life object at
+  object_held life (Unplacing object) at = life object at
+  object_held life (Zeroing object) at = life object at
+  object_held life (SettlingAtomic object) at = life object at
+  object_held life _ at = tt
 
-  map_outs : (p : Place) → IsMapPlace p → starts_out c p ≡ block_out p
-  map_outs (PurgeFragmenting cpu gone extra after) is = refl
-  map_outs (PurgeUnlinking gone extra after) is = refl
-  map_outs (AddingBlock at) is = refl
-  map_outs (UnlinkingBlock start reply) is = refl
-  map_outs (AddingChunk base chunk bytes align) is = absurd is
-  map_outs (Depopulating base populated) is = absurd is
-  map_outs (UnlinkingGroups base) is = absurd is
-  map_outs _ is = refl
+  part_held : ((at : PartAt) → IsPartIn m k at → life_of_part at m.blocks ≡ Some (InHand k)) → (p : Place) → IsBlockAt c m k p → IfSome (part_in_hand p) (λ at. life_of_part at m.blocks ≡ Some (InHand k))
+  part_held life (MappingPart part) at = life part at.0
+  part_held life (SettlingPart part) at = life part at.0
+  part_held life (UnmappingPart part) at = life part at.0
+  part_held life (Retiring part r) at = life part at.0
+  part_held life _ at = tt
 
-  chunk_none : (p : Place) → IsMapPlace p → IsChunkOut c m p
-  chunk_none Over is = tt
-  chunk_none (Refusing r) is = tt
-  chunk_none (Finding search aim) is = tt
-  chunk_none (FindingAgain search aim) is = tt
-  chunk_none (MappingArea s kd) is = tt
-  chunk_none (Dropping s) is = tt
-  chunk_none (SettlingArea s kd) is = tt
-  chunk_none (Removing st serial) is = tt
-  chunk_none (UnmappingArea area) is = tt
-  chunk_none (Waiting spans after) is = tt
-  chunk_none (PurgeTaking extra after) is = tt
-  chunk_none (PurgeFragmenting cpu gone extra after) is = tt
-  chunk_none (PurgeUnlinking gone extra after) is = tt
-  chunk_none (PurgeWaiting gone extra after) is = tt
-  chunk_none (PurgeCollecting extra after) is = tt
-  chunk_none (PurgeFlushing h waited after) is = tt
-  chunk_none (PurgeReturning waited after) is = tt
-  chunk_none (PurgeGiving after) is = tt
-  chunk_none (CuttingPart cpu pages) is = tt
-  chunk_none (SettlingBlock s cpu pages) is = tt
-  chunk_none (AddingBlock part) is = tt
-  chunk_none (MappingPart part) is = tt
-  chunk_none (SettlingPart part) is = tt
-  chunk_none (BeginningUnmap cpu page serial) is = tt
-  chunk_none (UnmappingPart part) is = tt
-  chunk_none (Retiring part r) is = tt
-  chunk_none (UnlinkingBlock start r) is = tt
-  chunk_none (LookingAtDirty cpu ranges) is = tt
-  chunk_none _ is = absurd is
+  module _ (once : (page : ℕ) → times page (spans_of m.areas) ≤ 1) where
+    -- the rows of blocks that are out
+    out_each : (starts : List ℕ) → ((start : ℕ) → is_among starts start ≡ true → IsOut c m start) → OnEach (block_spans c starts) (IsUnmapped m)
+    out_each starts outs page e = let is = covered_start c m once starts page e in let r = row_covers c m once is.0 page is.2 in (outs is.0 is.1).unmapped page r.0 r.1
 
-  object_none : (p : Place) → IsMapPlace p → IfSome (object_in_hand p) (λ at. life_of_object at m.chunks ≡ Some (InHand k))
-  object_none Over is = tt
-  object_none (Refusing r) is = tt
-  object_none (Finding search aim) is = tt
-  object_none (FindingAgain search aim) is = tt
-  object_none (MappingArea s kd) is = tt
-  object_none (Dropping s) is = tt
-  object_none (SettlingArea s kd) is = tt
-  object_none (Removing st serial) is = tt
-  object_none (UnmappingArea area) is = tt
-  object_none (Waiting spans after) is = tt
-  object_none (PurgeTaking extra after) is = tt
-  object_none (PurgeFragmenting cpu gone extra after) is = tt
-  object_none (PurgeUnlinking gone extra after) is = tt
-  object_none (PurgeWaiting gone extra after) is = tt
-  object_none (PurgeCollecting extra after) is = tt
-  object_none (PurgeFlushing h waited after) is = tt
-  object_none (PurgeReturning waited after) is = tt
-  object_none (PurgeGiving after) is = tt
-  object_none (CuttingPart cpu pages) is = tt
-  object_none (SettlingBlock s cpu pages) is = tt
-  object_none (AddingBlock part) is = tt
-  object_none (MappingPart part) is = tt
-  object_none (SettlingPart part) is = tt
-  object_none (BeginningUnmap cpu page serial) is = tt
-  object_none (UnmappingPart part) is = tt
-  object_none (Retiring part r) is = tt
-  object_none (UnlinkingBlock start r) is = tt
-  object_none (LookingAtDirty cpu ranges) is = tt
-  object_none _ is = absurd is
+    emptied_unmapped : (p : Place) → IsHolding c m k p → IsBlockAt c m k p → IsChunkAt c m p → OnEach (emptied c p) (IsUnmapped m)
+    emptied_unmapped (Waiting spans after) own at chunk = own.unmapped
+    emptied_unmapped (PurgeFragmenting cpu gone extra after) own at chunk = out_each gone at
+    emptied_unmapped (PurgeUnlinking gone extra after) own at chunk = out_each gone at
+    emptied_unmapped (PurgeWaiting gone extra after) own at chunk = own.unmapped
+    emptied_unmapped (Retiring part r) own at chunk = row_each (IsUnmapped m) (mapped_pages part) at.1
+    emptied_unmapped (UnlinkingBlock start r) own at chunk = out_each (start ∷ []) (λ n h. subst (IsOut c m) (only_one start n h) at)
+    emptied_unmapped (UnlinkingGroups base) own at chunk = chunk.2
+    emptied_unmapped _ own at chunk = λ page e. cc
 
-  module _ (life : (at : PartAt) → IsPartIn m k at → life_of_part at m.blocks ≡ Some (InHand k)) where
-    part_held : (p : Place) → IsMapPlace p → IsBlockAt c m k p → IfSome (part_in_hand p) (λ at. life_of_part at m.blocks ≡ Some (InHand k))
-    part_held Over is at = tt
-    part_held (Refusing r) is at = tt
-    part_held (Finding search aim) is at = tt
-    part_held (FindingAgain search aim) is at = tt
-    part_held (MappingArea s kd) is at = tt
-    part_held (Dropping s) is at = tt
-    part_held (SettlingArea s kd) is at = tt
-    part_held (Removing st serial) is at = tt
-    part_held (UnmappingArea area) is at = tt
-    part_held (Waiting spans after) is at = tt
-    part_held (PurgeTaking extra after) is at = tt
-    part_held (PurgeFragmenting cpu gone extra after) is at = tt
-    part_held (PurgeUnlinking gone extra after) is at = tt
-    part_held (PurgeWaiting gone extra after) is at = tt
-    part_held (PurgeCollecting extra after) is at = tt
-    part_held (PurgeFlushing h waited after) is at = tt
-    part_held (PurgeReturning waited after) is at = tt
-    part_held (PurgeGiving after) is at = tt
-    part_held (CuttingPart cpu pages) is at = tt
-    part_held (SettlingBlock s cpu pages) is at = tt
-    part_held (AddingBlock part) is at = tt
-    part_held (MappingPart part) is at = life part at.0
-    part_held (SettlingPart part) is at = life part at.0
-    part_held (BeginningUnmap cpu page serial) is at = tt
-    part_held (UnmappingPart part) is at = life part at.0
-    part_held (Retiring part r) is at = life part at.0
-    part_held (UnlinkingBlock start r) is at = tt
-    part_held (LookingAtDirty cpu ranges) is at = tt
-    part_held _ is at = absurd is
+  module _ (once : (page : ℕ) → times page (spans_of m.areas) ≤ 1) (full : AreFull m) where
+    group_live : (number base start : ℕ) → AreGroupsLive c m number base → is_among (group_starts c base) start ≡ true → (a : Area) × (areas_at start m.areas ≡ a ∷ [])
+    group_live number base start live h = let s = start_of c base start h in let area = live s.0 s.1 s.2 in
+        (area.area, one_at c m k once full start area.area area.there (ap (λ (x : Span). x.start) area.span ∙ s.3) (areas_at start m.areas) refl)
+
+    block_live : (p : Place) (start : ℕ) → IsBlockAt c m k p → is_among (block_out p) start ≡ true → (a : Area) × (areas_at start m.areas ≡ a ∷ [])
+    block_live p start at h = let area = out_area c m k p start at h in (area.area, block_at c m k once full start area)
+
+    out_live : (p : Place) (start : ℕ) → IsBlockAt c m k p → IsChunkAt c m p → is_among (starts_out c p) start ≡ true → (a : Area) × (areas_at start m.areas ≡ a ∷ [])
+    out_live (PurgeFragmenting cpu gone extra after) start at chunk h = block_live (PurgeFragmenting cpu gone extra after) start at h
+    out_live (PurgeUnlinking gone extra after) start at chunk h = block_live (PurgeUnlinking gone extra after) start at h
+    out_live (AddingBlock part) start at chunk h = block_live (AddingBlock part) start at h
+    out_live (UnlinkingBlock s r) start at chunk h = block_live (UnlinkingBlock s r) start at h
+    out_live (AddingChunk base number bytes align) start at chunk h = group_live number base start chunk.0 h
+    out_live (Depopulating base populated) start at chunk h = group_live chunk.0 base start chunk.1.live h
+    out_live (UnlinkingGroups base) start at chunk h = group_live chunk.0 base start chunk.1.live h
+    out_live _ start at chunk h = cc
 
 -- Blocks.
 
@@ -255,10 +114,6 @@ rows_cover b [] p i page h low high = cc
 rows_cover b (x ∷ ps) p zero page h low high = let same : x ≡ p = cc in
     ap (λ t. t || covers (map (λ (p : Part). span (b.start + p.offset) (size_of p)) ps) page) (ap (λ (y : Part). holds (span (b.start + y.offset) (size_of y)) page) same ∙ holds_from (span (b.start + p.offset) (size_of p)) page low high)
 rows_cover b (x ∷ ps) p (suc i) page h low high = or_right (holds (span (b.start + x.offset) (size_of x)) page) _ (rows_cover b ps p i page h low high)
-  where
-    or_right : (a t : Bool) → t ≡ true → (a || t) ≡ true
-    or_right true t e = refl
-    or_right false t e = e
 
 life_kept : (c : Setup) (m : PlainMap) (b : Block) (p : Part) → IsPartFine m b.start p → (life : Life) → p.life ≡ life → IsPartKept m b p life
 life_kept c m b p fine (InHand k) e = tt
@@ -286,53 +141,50 @@ area_kept m a fine kind.MapRam e = λ page h. fine.mapped (subst IsPlainKind (sy
 area_kept m a fine (kind.Block cpu) e = tt
 area_kept m a fine (kind.Chunk chunk group) e = tt
 
-module _ (c : Setup) (w : World) (framed : IsFramed c w) (is : IsMapTraceWorld c w) where
+chunk_kept : (c : Setup) (w : World) (h : Chunk) → IsChunkFine c w.map (SomeoneIsPopulating w) h → IsChunkKept c w h
+chunk_kept c w h fine = record {
+  not_stale = fine.clean;
+  populated = λ page e x f. (let u = unit_page c h.base x (page ∷ []) f in
+      subst (IsMapped w.map) (sym u.same) (fine.populated u.page (subst (λ n. slice_get h.populated n ≡ Some true) (only_one page u.page u.among) (populated_at h page e)) u.cpu u.unit u.at));
+  unpopulated = λ page e. elim (fine.spare page e) [
+    | inl bare ↦ inl (λ x f. (let u = unit_page c h.base x (page ∷ []) f in
+        subst (IsUnmapped w.map) (sym u.same) (subst (λ n. IsUnmapped w.map (h.base + u.unit + n)) (only_one page u.page u.among) (bare u.cpu u.unit u.at))))
+    | inr b ↦ inr b
+  ];
+}
+
+module _ (c : Setup) (groups : AreGroups c) (some : 1 ≤ c.block_pages) (w : World) (framed : IsFramed c w) (is : IsTraceWorld c w) where
   caller_kept : (k : ℕ) (l : Local) → slice_get w.locals k ≡ Some l → IsCarried w.map l
   caller_kept k l here =
       let own = framed.own k l here in
-      let place = (is.only.each k l here).place in
-      let holding = is.area.each k l here in
-      let at : IsBlockAt l.setup w.map l.caller l.place = subst (λ d. IsBlockAt d w.map l.caller l.place) (sym own.setup) (is.blocks.each k l here) in
-      let life = held_life c w.map l.caller (areas_once c w framed is k l here) is.full is.blocks.blocks (λ start. (let n = own_names c w framed is k l here start in omega arith)) in record {
-        held_marked = holding.held;
+      let holding : IsHolding c w.map l.caller l.place = subst (λ d. IsHolding d w.map l.caller l.place) own.setup (is.area.each k l here) in
+      let at = is.blocks.each k l here in let chunk = is.chunks.each k l here in
+      let once = areas_once c w framed is k l here in
+      let life = held_life c w.map l.caller once is.full is.blocks.blocks (λ start. (let n = own_names c w framed is k l here start in omega arith)) in record {
+        held_marked = (is.area.each k l here).held;
         flushed_marked = holding.flushed;
-        fresh_bare = fresh_bare l.setup w.map l.caller l.place place holding at;
-        leaving_mapped = leaving_mapped l.setup w.map l.caller l.place place holding at;
-        emptied_unmapped = emptied_unmapped l.setup w.map l.caller l.place place holding at;
-        chunk_out = chunk_none l.setup w.map l.caller l.place place;
-        part_held = part_held l.setup w.map l.caller life l.place place at;
-        object_held = object_none l.setup w.map l.caller l.place place;
-        out_live = λ start h. (let area = out_area c w.map l.caller l.place start (is.blocks.each k l here) (ap (λ starts. is_among starts start) (sym (map_outs l.setup w.map l.caller l.place place)) ∙ h) in
-            (area.area, block_at c w.map l.caller (areas_once c w framed is k l here) is.full start area));
+        fresh_bare = subst (λ d. OnEach (fresh d l.place) (IsBare w.map)) (sym own.setup) (fresh_bare c w.map l.caller l.place holding at chunk);
+        leaving_mapped = leaving_mapped c w.map l.caller l.place holding at;
+        emptied_unmapped = subst (λ d. OnEach (emptied d l.place) (IsUnmapped w.map)) (sym own.setup) (emptied_unmapped c w.map l.caller once l.place holding at chunk);
+        chunk_out = subst (λ d. IsChunkOut d w.map l.place) (sym own.setup) (chunk_left c w.map l.caller l.place chunk);
+        part_held = part_held c w.map l.caller life l.place at;
+        object_held = object_held c w.map l.caller (λ object. object_life c (SomeonePlaces w) w.map.chunks is.objects.fine object (InHand l.caller)) l.place (is.objects.hands k l here);
+        out_live = subst (λ d. (start : ℕ) → is_among (starts_out d l.place) start ≡ true → (a : Area) × (areas_at start w.map.areas ≡ a ∷ [])) (sym own.setup) (λ start h. out_live c w.map l.caller once is.full l.place start at chunk h);
       }
-
-  sum_outs : (start : ℕ) (locals : List Local) → ((k : ℕ) (l : Local) → slice_get locals k ≡ Some l → IsMapPlace l.place) → sum_by (λ (l : Local). count_of start (starts_out l.setup l.place)) locals ≡ sum_by (λ (l : Local). count_of start (block_out l.place)) locals
-  sum_outs start [] all = refl
-  sum_outs start (l ∷ locals) all = omega (
-    arith,
-    sum_by-cons (λ (l : Local). count_of start (starts_out l.setup l.place)) l locals,
-    sum_by-cons (λ (l : Local). count_of start (block_out l.place)) l locals,
-    ap (count_of start) (map_outs l.setup w.map l.caller l.place (all 0 l refl)),
-    sum_outs start locals (λ k x h. all (suc k) x h),
-  )
-
-  no_chunks : (start : ℕ) → count_of start (flat_map (λ (h : Chunk). group_starts c h.base) w.map.chunks) ≡ 0
-  no_chunks start = ap (λ chunks. count_of start (flat_map (λ (h : Chunk). group_starts c h.base) chunks)) is.chunks
 
   pub world_kept : IsKept c w
   world_kept = record {
     purge_turn = is.turns.turns.purge;
     alloc_turn = is.turns.turns.alloc;
     carried = caller_kept;
-    named_once = λ start. (let n = is.blocks.named start in omega (arith, no_chunks start, sum_outs start w.locals (λ k l h. (is.only.each k l h).place)));
+    named_once = λ start. namings_once c groups w (λ page. (let o = is.area.once page in omega arith)) is.full.each is.turns.turns is.chunks is.objects start some is.blocks framed;
     waiting_unmapped = λ page h. (is.area.fine.pages page).waiting h;
     flushing_unmapped = λ page caller h. (is.area.fine.pages page).flushing caller h;
     areas = λ i a h. area_kept w.map a (is.area.fine.areas i a h) a.kind refl;
     blocks = λ i b h. block_kept c w.map b (is.blocks.blocks b (record { place = i; at = h }));
-    chunks = λ i h e. (let no = ap (λ l. slice_get l i) (sym is.chunks) ∙ e in cc);
+    chunks = λ i h e. chunk_kept c w h (is.chunks.chunks h (record { place = i; at = e }));
   }
 
-pub carried_kept : WhatIsCarriedWithoutObjectsIsKept
-carried_kept c opening calls w trace areas reached =
-    let has = has_parts c opening calls trace in
-    let at = legally_lasts c calls (IsMapTraceWorld c) (map_lasts c opening calls areas has) opening (map_first c opening calls areas has) w reached in world_kept c w at.0 at.1
+pub carried_kept : WhatIsCarriedIsKept
+carried_kept c opening calls w trace reached =
+    let at = trace_reached c opening calls trace w reached in world_kept c trace.setup.groups (has_parts c trace.setup).some w at.0 at.1

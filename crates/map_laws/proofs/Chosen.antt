@@ -1,9 +1,10 @@
 -- What a filter, a least element and a row of numbers hold.
-use Rattle.std.proofs.Common.{◌≡◌, ℕ, zero, suc, ◌+◌, ◌<◌, ◌≤◌, Bool, true, false, cond, nat_le, if◌then◌else◌, List, [], ◌∷◌, slice_get, filter, find, sum_by, Option, Some, None, refl, ap, sym, ◌∙◌, arith, ◌==◌, ◌||◌}
+use Rattle.std.proofs.Common.{Bool, List, None, Option, Some, [], ap, arith, cond, false, filter, find, if◌then◌else◌, nat_le, refl, slice_get, suc, sum_by, sym, true, zero, ℕ, ◌+◌, ◌<◌, ◌==◌, ◌||◌, ◌∙◌, ◌∷◌, ◌≡◌, ◌≤◌}
+use Rattle.std.proofs.lemmas.Bool.Decides.{nat_tests}
 use Rattle.std.proofs.lemmas.List.Sums.{sum_by-cons}
 use Rattle.vm_model.specs.Setup.{last_of}
-use Rattle.vm_model.specs.Space.{count_from, least_by, smaller_by, is_among}
-use Rattle.std.proofs.lemmas.Bool.Decides.{nat_tests}
+use Rattle.vm_model.specs.Space.{count_from, is_among, least_by, smaller_by}
+use Rattle.map_laws.proofs.OrTests.{or_right}
 
 pub record IsIn {X : Type 0} (x : X) (xs : List X) : Type 0 where
   pub place : ℕ
@@ -123,11 +124,7 @@ among_in x (y ∷ xs) h = among_by x y xs (y == x) refl h (among_in x xs)
 in_by : (x : ℕ) (xs : List ℕ) (i : ℕ) → slice_get xs i ≡ Some x → is_among xs x ≡ true
 in_by x [] i e = cc
 in_by x (y ∷ xs) zero e = let same : y ≡ x = cc in ap (λ b. b || is_among xs x) (let t : (y == x) ≡ true = grind (arith, nat_tests) in t)
-in_by x (y ∷ xs) (suc i) e = or_more (y == x) (in_by x xs i e)
-  where
-    or_more : (b : Bool) → is_among xs x ≡ true → (b || is_among xs x) ≡ true
-    or_more true f = refl
-    or_more false f = f
+in_by x (y ∷ xs) (suc i) e = or_right (y == x) (is_among xs x) (in_by x xs i e)
 
 pub in_among : (x : ℕ) (xs : List ℕ) → IsIn x xs → is_among xs x ≡ true
 in_among x xs h = in_by x xs h.place h.at

@@ -1,22 +1,23 @@
 -- What is kept of chunks, of their areas and of their pages between two events, and of the chunks at callers' places.
-use Rattle.std.proofs.Common.{◌≡◌, ◌≢◌, ℕ, zero, suc, ◌+◌, ◌<◌, ◌≤◌, ◌⊎◌, inl, inr, Bool, true, false, ◌||◌, ◌==◌, List, [], ◌∷◌, ◌++◌, length, map, slice_get, Some, refl, ap, sym, ◌∙◌, subst, arith, nat_lt, flat_map, option_map}
-use Rattle.std.proofs.lemmas.Option.{slice_get_within, slice_get-map}
-use Rattle.vm_model.specs.declared.areas.AreaKind.TheVariants as kind
-use Rattle.map_laws.proofs.Chosen.{IsIn}
-use Rattle.vm_model.specs.Places.{AddingChunk, Depopulating, Filling, NotingFilled, Populating, SettlingAtomic, SettlingObject, UnlinkingGroups, Zeroing, Place, group_starts}
-use Rattle.vm_model.specs.PlainMap.{Chunk, PlainMap}
-use Rattle.vm_model.specs.Setup.{Setup, pages_in_units, groups_at}
-use Rattle.vm_model.specs.Space.{is_among, covers, count_from, holds, span}
-use Rattle.vm_model.specs.Chunks.{ObjectAt, pages_of_object}
-use Rattle.vm_model.specs.Legal.{OnEach, IsBare, IsMapped, IsUnmapped}
-use Rattle.vm_model.specs.Rules.{AreUnits}
-use Rattle.map_laws.proofs.BlockPlaces.{IsInChunk}
-use Rattle.map_laws.proofs.Spans.{holds_from}
-use Rattle.vm_model.specs.declared.areas.Span.{Span}
-use Rattle.vm_model.specs.declared.areas.Area.{Area}
+use Rattle.std.proofs.Common.{Bool, List, Some, [], ap, arith, false, flat_map, inl, inr, length, map, nat_lt, option_map, refl, slice_get, subst, suc, sym, true, zero, ℕ, ◌++◌, ◌+◌, ◌<◌, ◌==◌, ◌||◌, ◌∙◌, ◌∷◌, ◌≡◌, ◌≢◌, ◌≤◌, ◌⊎◌}
 use Rattle.std.proofs.lemmas.Bool.Decides.{nat_tests}
-use Rattle.map_laws.proofs.BlockFacts.{IsStill, same_test, still_bare, to_same, still_mapped, still_unmapped}
+use Rattle.std.proofs.lemmas.Option.{slice_get-map, slice_get_within}
+use Rattle.vm_model.specs.Chunks.{ObjectAt, pages_of_object}
+use Rattle.vm_model.specs.Legal.{IsBare, IsMapped, IsUnmapped, OnEach}
+use Rattle.vm_model.specs.Places.{AddingChunk, Depopulating, Filling, NotingFilled, Place, Populating, SettlingAtomic, SettlingObject, UnlinkingGroups, Zeroing, group_starts}
+use Rattle.vm_model.specs.PlainMap.{Chunk, PlainMap}
+use Rattle.vm_model.specs.Rules.{AreUnits}
+use Rattle.vm_model.specs.Setup.{Setup, groups_at, pages_in_units}
+use Rattle.vm_model.specs.Space.{count_from, covers, holds, is_among, span}
+use Rattle.vm_model.specs.declared.areas.Area.{Area}
+use Rattle.vm_model.specs.declared.areas.Span.{Span}
+use Rattle.map_laws.proofs.BlockFacts.{IsStill, same_test, still_bare, still_mapped, still_unmapped, to_same}
+use Rattle.map_laws.proofs.BlockPlaces.{IsInChunk}
+use Rattle.map_laws.proofs.Chosen.{IsIn}
 use Rattle.map_laws.proofs.Lists.{same_or}
+use Rattle.map_laws.proofs.OrTests.{or_assoc, or_either, or_right}
+use Rattle.map_laws.proofs.Spans.{holds_from}
+use Rattle.vm_model.specs.declared.areas.AreaKind.TheVariants as kind
 
 -- the live area of a chunk's group
 pub record IsGroupArea (m : PlainMap) (chunk base group : ℕ) (g : Span) : Type 0 where
@@ -65,6 +66,13 @@ pub record IsLacking (c : Setup) (m : PlainMap) (at : ObjectAt) (missing : List 
   pub low : (page : ℕ) → is_among (pages_of_object at) page ≡ true → page < c.unit_pages
   pub either : (page : ℕ) → is_among (pages_of_object at) page ≡ true → (is_among missing page ≡ true) ⊎ (slice_get here.chunk.populated page ≡ Some true)
   pub within : (page : ℕ) → is_among missing page ≡ true → is_among (pages_of_object at) page ≡ true
+  pub lacks : (page : ℕ) → is_among missing page ≡ true → slice_get here.chunk.populated page ≡ Some false
+
+-- a page of a chunk that isn't populated
+pub record IsOpenPage (c : Setup) (m : PlainMap) (number base page : ℕ) : Type 0 where
+  pub of : IsChunkOf m number base
+  pub low : page < c.unit_pages
+  pub unpopulated : slice_get of.chunk.populated page ≡ Some false
 
 -- of the chunk at a caller's place
 abbrev pub IsChunkAt : Setup → PlainMap → Place → Type 0
@@ -77,27 +85,15 @@ IsChunkAt c m (Depopulating base populated) = (number : ℕ) × IsGone c m numbe
     × ((page : ℕ) → is_among populated page ≡ true → (page < c.unit_pages) × OnUnits c base page (IsMapped m))
     × OnEach (groups_at c base) (λ page. is_among (pages_in_units c base populated) page ≡ false → IsUnmapped m page)
 IsChunkAt c m (UnlinkingGroups base) = (number : ℕ) × IsGone c m number base × OnEach (groups_at c base) (IsUnmapped m)
-IsChunkAt c m (Filling chunk base page filled) = IsChunkOf m chunk base × (page < c.unit_pages)
-IsChunkAt c m (NotingFilled chunk page filled) = (base : ℕ) × IsChunkOf m chunk base × (page < c.unit_pages) × OnUnits c base page (IsMapped m)
+IsChunkAt c m (Filling chunk base page filled) = IsOpenPage c m chunk base page
+IsChunkAt c m (NotingFilled chunk page filled) = (base : ℕ) × IsOpenPage c m chunk base page × OnUnits c base page (IsMapped m)
 IsChunkAt c m _ = Unit {0}
 
 -- Pages in units and in groups.
 
-pub or_right : (a b : Bool) → b ≡ true → (a || b) ≡ true
-or_right true b e = refl
-or_right false b e = e
-
-or_either : (a b : Bool) → (a || b) ≡ true → (a ≡ true) ⊎ (b ≡ true)
-or_either true b e = inl refl
-or_either false b e = inr e
-
 pub among_append : (x : ℕ) (xs ys : List ℕ) → is_among (xs ++ ys) x ≡ (is_among xs x || is_among ys x)
 among_append x [] ys = refl
-among_append x (y ∷ xs) ys = ap (λ b. (y == x) || b) (among_append x xs ys) ∙ assoc (y == x) (is_among xs x) (is_among ys x)
-  where
-    assoc : (a b d : Bool) → (a || (b || d)) ≡ ((a || b) || d)
-    assoc true b d = refl
-    assoc false b d = refl
+among_append x (y ∷ xs) ys = ap (λ b. (y == x) || b) (among_append x xs ys) ∙ or_assoc (y == x) (is_among xs x) (is_among ys x)
 
 -- a page of a unit, by its number there
 pub record IsUnitPage (c : Setup) (base : ℕ) (pages : List ℕ) (x : ℕ) : Type 0 where
@@ -275,6 +271,9 @@ module _ (c : Setup) (units : AreUnits c) (m m' : PlainMap) (rows : AreSameRows 
   of_still : (number base page : ℕ) → IsChunkOf m number base → page < c.unit_pages → OnUnits c base page (IsStill m m')
   of_still number base page of low = units_still c units m m' of.chunk.number base (stays of.chunk.number) (subst (AreGroupsLive c m of.chunk.number) of.based (live_of of.chunk of.there)) page low
 
+  open_stays : (number base page : ℕ) → IsOpenPage c m number base page → IsOpenPage c m' number base page
+  open_stays number base page at = let of = of_stays m m' number base rows at.of in record { of = of.0; low = at.low; unpopulated = of.1.populated page ∙ at.unpopulated }
+
   -- what is kept at a place
   pub chunk_at_stays : (p : Place) → IsChunkAt c m p → IsChunkAt c m' p
   chunk_at_stays (AddingChunk base chunk bytes align) at = (
@@ -286,6 +285,7 @@ module _ (c : Setup) (units : AreUnits c) (m m' : PlainMap) (rows : AreSameRows 
     low = at.low;
     either = λ page e. elim (at.either page e) [ inl f ↦ inl f | inr f ↦ inr (of.1.populated page ∙ f) ];
     within = at.within;
+    lacks = λ page e. of.1.populated page ∙ at.lacks page e;
   }
   chunk_at_stays (SettlingObject object) at = (
     (of_stays m m' object.chunk object.base rows at.0).0,
@@ -301,7 +301,7 @@ module _ (c : Setup) (units : AreUnits c) (m m' : PlainMap) (rows : AreSameRows 
   )
   chunk_at_stays (UnlinkingGroups base) at =
       (at.0, gone_stays at.0 base at.1, (λ page e. still_unmapped m m' page (groups_still c units m m' at.0 base (stays at.0) at.1.live page e) (at.2 page e)))
-  chunk_at_stays (Filling chunk base page filled) at = ((of_stays m m' chunk base rows at.0).0, at.1)
+  chunk_at_stays (Filling chunk base page filled) at = open_stays chunk base page at
   chunk_at_stays (NotingFilled chunk page filled) at =
-      (at.0, (of_stays m m' chunk at.0 rows at.1).0, at.2, (λ cpu unit f. still_mapped m m' (at.0 + unit + page) (of_still chunk at.0 page at.1 at.2 cpu unit f) (at.3 cpu unit f)))
+      (at.0, open_stays chunk at.0 page at.1, (λ cpu unit f. still_mapped m m' (at.0 + unit + page) (of_still chunk at.0 page at.1.of at.1.low cpu unit f) (at.2 cpu unit f)))
   chunk_at_stays _ at = tt

@@ -1,12 +1,13 @@
 -- What chunks are worth to a balance: each section but that of a new chunk leaves them worth no more.
-use Rattle.std.proofs.Common.{◌≡◌, ℕ, zero, suc, ◌+◌, ◌*◌, ◌≤◌, Bool, true, false, not, cond, ◌&&◌, ◌==◌, if◌then◌else◌, List, [], ◌∷◌, ◌++◌, filter, slice_get, replicate, sum_by, refl, ap, arith}
-use Rattle.std.proofs.lemmas.List.Sums.{sum_by-cons, sum_by-append}
-use Rattle.vm_model.specs.Space.{one_if, is_open, paint_from}
-use Rattle.vm_model.specs.Setup.{Setup, cpus}
-use Rattle.vm_model.specs.PlainMap.{PlainMap, Chunk, Lives}
-use Rattle.vm_model.specs.Chunks.{ObjectAt, new_chunk, change_chunk, with_object, without_object, with_live_object, with_page}
-use Rattle.vm_model.specs.Events.{Section, AddChunk, PlaceObject, PlaceAtomic, SettleObject, Unplace, FreeObject, Spare, Filled}
+use Rattle.std.proofs.Common.{Bool, List, [], ap, arith, cond, false, filter, if◌then◌else◌, not, refl, replicate, slice_get, suc, sum_by, true, zero, ℕ, ◌&&◌, ◌*◌, ◌++◌, ◌+◌, ◌==◌, ◌∷◌, ◌≡◌, ◌≤◌}
+use Rattle.std.proofs.lemmas.List.Sums.{sum_by-append, sum_by-cons}
+use Rattle.vm_model.specs.Chunks.{ObjectAt, change_chunk, new_chunk, with_live_object, with_object, with_page, without_object}
 use Rattle.vm_model.specs.Effects.{effect_as}
+use Rattle.vm_model.specs.Events.{AddChunk, Filled, FreeObject, PlaceAtomic, PlaceObject, Section, SettleObject, Spare, Unplace}
+use Rattle.vm_model.specs.PlainMap.{Chunk, Lives, PlainMap}
+use Rattle.vm_model.specs.Setup.{Setup, cpus}
+use Rattle.vm_model.specs.Space.{is_open, one_if, paint_from}
+use Rattle.map_laws.proofs.OrTests.{one_if_le}
 
 -- how many pages of a chunk aren't populated
 abbrev pub holes_in : List Bool → ℕ
@@ -37,10 +38,6 @@ pub record IsLower (c : Setup) (number page extra : ℕ) (before after : List Ch
   pub closes : 3 * opens number page before + worth_of c after ≤ 3 * opens number page after + worth_of c before + extra
 
 -- Populating pages.
-
-one_if_le : (b : Bool) → one_if b ≤ 1
-one_if_le true = omega arith
-one_if_le false = omega arith
 
 painted_hole : (t b : Bool) → one_if (not (if t then true else b)) ≤ one_if (not b)
 painted_hole true b = omega arith

@@ -1,31 +1,32 @@
 -- What sections do to chunks and their pages: those that change no chunk's pages, and those that give pages frames.
-use Rattle.std.proofs.Common.{◌≡◌, ◌≢◌, ℕ, zero, suc, ◌+◌, ◌==◌, ◌||◌, ◌<◌, ◌≤◌, ◌⊎◌, inl, inr, Bool, true, false, List, slice_get, Some, None, refl, ap, sym, ◌∙◌, subst, arith}
-use Rattle.vm_model.specs.declared.areas.AreaKind.TheVariants as kind
-use Rattle.map_laws.proofs.Chosen.{IsIn}
-use Rattle.map_laws.proofs.ChunkFacts.{IsChunkFine, IsChunkAt, IsChunkOf, AreSameRows, IsPlacedAt, NumberStays, chunk_stays, chunk_at_stays, AreGroupsLive, OnUnits, unit_page, group_page, or_right, page_in_units, same_page, unit_covered}
-use Rattle.vm_model.specs.Places.{AddingChunk, Depopulating, Filling, NotingFilled, Populating, SettlingAtomic, SettlingObject, UnlinkingGroups, Zeroing, Place}
-use Rattle.vm_model.specs.Next.{Answer, Go, Next}
-use Rattle.vm_model.specs.PlainMap.{PlainMap, Chunk}
-use Rattle.vm_model.specs.Setup.{Setup, pages_in_units}
-use Rattle.vm_model.specs.Space.{is_among, count_from, times}
+use Rattle.std.proofs.Common.{Bool, List, None, Some, ap, arith, false, inl, inr, refl, slice_get, subst, suc, sym, true, zero, ℕ, ◌+◌, ◌<◌, ◌==◌, ◌||◌, ◌∙◌, ◌≡◌, ◌≢◌, ◌≤◌, ◌⊎◌}
+use Rattle.std.proofs.lemmas.Option.{slice_get_within}
+use Rattle.vm_model.specs.Areas.{spans_of}
 use Rattle.vm_model.specs.Carried.{IsBeingPopulated, has_alloc}
 use Rattle.vm_model.specs.Chunks.{ObjectAt}
-use Rattle.vm_model.specs.Rules.{AreUnits}
-use Rattle.vm_model.specs.Areas.{spans_of}
-use Rattle.vm_model.specs.Events.{Section}
-use Rattle.map_laws.proofs.BlockPlaces.{IsInChunk}
-use Rattle.map_laws.proofs.ChunkRows.{AreNumbered, rows_numbered, rows_kept, same_row}
 use Rattle.vm_model.specs.Effects.{effect_as}
-use Rattle.map_laws.proofs.OutMoves.{same_area}
-use Rattle.map_laws.proofs.Places.{OnNext}
+use Rattle.vm_model.specs.Events.{Section}
+use Rattle.vm_model.specs.Frames.{free_frames, give_frames}
 use Rattle.vm_model.specs.Legal.{CanMap, IsMapped, IsUnmapped}
+use Rattle.vm_model.specs.Next.{Answer, Go, Next}
+use Rattle.vm_model.specs.Places.{AddingChunk, Depopulating, Filling, NotingFilled, Place, Populating, SettlingAtomic, SettlingObject, UnlinkingGroups, Zeroing}
+use Rattle.vm_model.specs.PlainMap.{Chunk, PlainMap}
+use Rattle.vm_model.specs.Rules.{AreUnits}
+use Rattle.vm_model.specs.Setup.{Setup, pages_in_units}
+use Rattle.vm_model.specs.Space.{count_from, is_among, times}
 use Rattle.vm_model.specs.declared.areas.Area.{Area}
-use Rattle.vm_model.specs.Frames.{give_frames, free_frames}
-use Rattle.map_laws.proofs.Lists.{same_or}
 use Rattle.map_laws.proofs.BlockFacts.{IsStill, same_test, still_unmapped}
+use Rattle.map_laws.proofs.BlockPlaces.{IsInChunk}
+use Rattle.map_laws.proofs.Chosen.{IsIn}
+use Rattle.map_laws.proofs.ChunkFacts.{AreGroupsLive, AreSameRows, IsChunkAt, IsChunkFine, IsChunkOf, IsPlacedAt, NumberStays, OnUnits, chunk_at_stays, chunk_stays, group_page, page_in_units, same_page, unit_covered, unit_page}
+use Rattle.map_laws.proofs.ChunkRows.{AreNumbered, rows_kept, rows_numbered, same_row}
+use Rattle.map_laws.proofs.Lists.{same_or}
+use Rattle.map_laws.proofs.OrTests.{or_right}
+use Rattle.map_laws.proofs.OutMoves.{same_area}
 use Rattle.map_laws.proofs.PlaceMoves.{given_all, given_still}
+use Rattle.map_laws.proofs.Places.{OnNext}
 use Rattle.map_laws.proofs.Touched.{ungiven}
-use Rattle.std.proofs.lemmas.Option.{slice_get_within}
+use Rattle.vm_model.specs.declared.areas.AreaKind.TheVariants as kind
 
 -- the pages that the place behind a section is populating
 abbrev pub next_busy : Next → ℕ → ℕ → Type 0

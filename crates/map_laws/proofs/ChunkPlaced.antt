@@ -1,17 +1,19 @@
 -- Where an object is placed: its chunk, its pages, and those of them that lack frames.
-use Rattle.std.proofs.Common.{◌≡◌, ℕ, zero, suc, ◌+◌, ◌-◌, ◌*◌, ◌/◌, ◌<◌, ◌≤◌, Bool, true, false, List, length, drop, filter, slice_get, Option, Some, None, is_some, option_map, refl, ap, sym, ◌∙◌, subst, arith, option_and_then, unwrap_or, not, ◌⊎◌, inr, inl}
-use Rattle.map_laws.proofs.Chosen.{IsIn, least_in, filter_has, among_in, filter_in, in_among}
-use Rattle.map_laws.proofs.Places.{IsObjectSize}
+use Rattle.std.proofs.Common.{Bool, List, None, Option, Some, ap, arith, drop, false, filter, inl, inr, is_some, length, not, option_and_then, option_map, refl, slice_get, subst, suc, sym, true, unwrap_or, zero, ℕ, ◌*◌, ◌+◌, ◌-◌, ◌/◌, ◌<◌, ◌∙◌, ◌≡◌, ◌≤◌, ◌⊎◌}
+use Rattle.std.proofs.lemmas.Option.{get_or_from_slice_get, slice_get_within, unwrap_or-slice_get}
 use Rattle.vm_model.proofs.Elements.{slice_get-drop}
-use Rattle.vm_model.specs.Chunks.{offset_fit, ObjectAt, missing_pages, placed_in, placement, chosen, placed_at, pages_of_object, slot, is_populated}
-use Rattle.vm_model.specs.Setup.{Setup, unit_bits}
-use Rattle.vm_model.specs.Space.{begins_free, count_from, lowest, is_among}
-use Rattle.map_laws.proofs.Fits.{lowest_fit}
-use Rattle.map_laws.proofs.PlaceMoves.{begins_free-at}
+use Rattle.vm_model.specs.Chunks.{ObjectAt, chosen, is_populated, missing_pages, offset_fit, pages_of_object, placed_at, placed_in, placement, slot}
 use Rattle.vm_model.specs.PlainMap.{Chunk, PlainMap}
-use Rattle.map_laws.proofs.Touched.{in_row}
-use Rattle.std.proofs.lemmas.Option.{slice_get_within, get_or_from_slice_get, unwrap_or-slice_get}
+use Rattle.vm_model.specs.Setup.{Setup, unit_bits}
+use Rattle.vm_model.specs.Space.{begins_free, count_from, is_among, lowest}
+use Rattle.map_laws.proofs.Chosen.{IsIn, among_in, filter_has, filter_in, in_among, least_in}
 use Rattle.map_laws.proofs.ChunkFacts.{IsChunkOf, IsLacking, IsSameRow}
+use Rattle.map_laws.proofs.ChunkRoom.{hole_is}
+use Rattle.map_laws.proofs.Fits.{lowest_fit}
+use Rattle.map_laws.proofs.Lists.{there}
+use Rattle.map_laws.proofs.PlaceMoves.{begins_free-at}
+use Rattle.map_laws.proofs.Places.{IsObjectSize}
+use Rattle.map_laws.proofs.Touched.{in_row}
 
 -- an object as a choice of a chunk places it
 pub record IsPlacement (c : Setup) (fit : Chunk → Option ℕ) (bytes : ℕ) (chunks : List Chunk) (at : ObjectAt) (missing : List ℕ) : Type 0 where
@@ -103,10 +105,16 @@ module _ (c : Setup) (fit : Chunk → Option ℕ) (bytes : ℕ) (chunks : List C
       inl (ap (λ l. is_among l page) is.lacks ∙ in_among page (missing_pages at is.chunk) (filter_in (λ page. not (is_populated is.chunk page)) (pages_of_object at) page place.place place.at (ap not e)))
 
   -- the placed object in a map that has its chunk
-  pub placed_lacking : (of : IsChunkOf m at.chunk at.base) → IsSameRow is.chunk of.chunk → ((page : ℕ) → is_among (pages_of_object at) page ≡ true → page < c.unit_pages) → IsLacking c m at missing
-  placed_lacking of row low = record {
+  pub placed_lacking : length is.chunk.populated ≡ c.unit_pages → (of : IsChunkOf m at.chunk at.base) → IsSameRow is.chunk of.chunk → ((page : ℕ) → is_among (pages_of_object at) page ≡ true → page < c.unit_pages) → IsLacking c m at missing
+  placed_lacking long of row low = record {
     here = of;
     low = low;
     either = λ page h. elim (either_by page h _ refl) [ inl lacks ↦ inl lacks | inr has ↦ inr (row.populated page ∙ has) ];
     within = missing_within;
+    lacks = λ page h. row.populated page ∙ missing_open page h (low page (missing_within page h));
   }
+    where
+      missing_open : (page : ℕ) → is_among missing page ≡ true → page < c.unit_pages → slice_get is.chunk.populated page ≡ Some false
+      missing_open page h under =
+          let place = among_in page (missing_pages at is.chunk) (ap (λ l. is_among l page) (sym is.lacks) ∙ h) in
+          hole_is is.chunk.populated page (omega (arith, long)) (filter_has (λ page. not (is_populated is.chunk page)) (pages_of_object at) place.place page place.at).passes

@@ -1,26 +1,26 @@
 -- An object is placed in a chunk that has room, and its missing pages get frames.
-use Rattle.std.proofs.Common.{◌≡◌, inl, inr, true, Some, subst, ℕ, zero, suc, ◌≤◌, ◌⊎◌, Bool, List, length, map, refl, ap, sym, slice_get, ◌+◌, ◌<◌, ◌∷◌, []}
-use Rattle.map_laws.proofs.Chosen.{IsIn, in_among}
-use Rattle.map_laws.proofs.ChunkFacts.{IsChunkFine, IsChunkOf, of_stays, IsLacking, page_in_units, IsChunkAt}
-use Rattle.map_laws.proofs.ChunkMoves.{IsChunkMoved, quiet_chunks, given_chunks, given_mapped, mapped_still}
-use Rattle.vm_model.specs.Places.{Choosing, Populating, SettlingObject, Filling, NotingFilled}
-use Rattle.vm_model.specs.Next.{Go}
-use Rattle.vm_model.specs.Events.{PlaceObject, Populate, Fill}
-use Rattle.map_laws.proofs.ChunkRows.{AreNumbered, plain_rows, plain_stays, rows_kept}
-use Rattle.vm_model.specs.Rules.{AreUnits}
-use Rattle.vm_model.specs.PlainMap.{Chunk, PlainMap}
-use Rattle.vm_model.specs.Carried.{IsBeingPopulated}
-use Rattle.vm_model.specs.Legal.{IsLegalAs, IsMapped}
-use Rattle.map_laws.proofs.Places.{IsObjectSize}
-use Rattle.vm_model.specs.Chunks.{ObjectAt, bit_list, plain_fit}
-use Rattle.vm_model.specs.Setup.{Setup, unit_bits}
-use Rattle.vm_model.specs.Space.{count_from, times, is_among}
-use Rattle.vm_model.specs.Effects.{effect_as}
-use Rattle.map_laws.proofs.ChunkPlaced.{object_low, placed_lacking, placement_is, fitting}
+use Rattle.std.proofs.Common.{Bool, List, Some, [], ap, inl, inr, length, map, refl, slice_get, subst, suc, sym, true, zero, ℕ, ◌+◌, ◌<◌, ◌∙◌, ◌∷◌, ◌≡◌, ◌≤◌, ◌⊎◌}
 use Rattle.vm_model.specs.Areas.{spans_of}
+use Rattle.vm_model.specs.Carried.{IsBeingPopulated}
+use Rattle.vm_model.specs.Chunks.{ObjectAt, bit_list, plain_fit}
+use Rattle.vm_model.specs.Effects.{effect_as}
+use Rattle.vm_model.specs.Events.{Fill, PlaceObject, Populate}
+use Rattle.vm_model.specs.Legal.{IsLegalAs, IsMapped}
+use Rattle.vm_model.specs.Next.{Go}
+use Rattle.vm_model.specs.Places.{Choosing, Filling, NotingFilled, Populating, SettlingObject}
+use Rattle.vm_model.specs.PlainMap.{Chunk, PlainMap}
+use Rattle.vm_model.specs.Rules.{AreUnits}
+use Rattle.vm_model.specs.Setup.{Setup, unit_bits}
+use Rattle.vm_model.specs.Space.{count_from, is_among, times}
 use Rattle.map_laws.proofs.BlockWorlds.{only_one}
+use Rattle.map_laws.proofs.Chosen.{IsIn, in_among}
+use Rattle.map_laws.proofs.ChunkFacts.{IsChunkAt, IsChunkFine, IsChunkOf, IsLacking, of_stays, page_in_units}
+use Rattle.map_laws.proofs.ChunkMoves.{IsChunkMoved, given_chunks, given_mapped, mapped_still, quiet_chunks}
+use Rattle.map_laws.proofs.ChunkPlaced.{fitting, object_low, placed_lacking, placement_is}
+use Rattle.map_laws.proofs.ChunkRows.{AreNumbered, plain_rows, plain_stays, rows_kept}
+use Rattle.map_laws.proofs.Places.{IsObjectSize}
 
-bits_long : (test : ℕ → Bool) (n first : ℕ) → length (map test (count_from n first)) ≡ n
+pub bits_long : (test : ℕ → Bool) (n first : ℕ) → length (map test (count_from n first)) ≡ n
 bits_long test zero first = refl
 bits_long test (suc n) first = ap suc (bits_long test n (suc first))
 
@@ -33,7 +33,7 @@ module _ (c : Setup) (units : AreUnits c) (m : PlainMap) (k : ℕ) (numbered : A
       let of : IsChunkOf m at.chunk at.base = record { chunk = is.chunk; there = is.there; numbered = sym is.numbered; based = sym is.based } in
       let after = of_stays m (effect_as c m k (PlaceObject at align missing)) at.chunk at.base rows of in
       quiet_chunks c units m k numbered once busy (Choosing bytes align) all (PlaceObject at align missing) (Go (Populating at missing)) rows (λ number. plain_stays c m k (PlaceObject at align missing) number refl) (λ number page mine. absurd mine)
-      (placed_lacking c (plain_fit c at.bytes align) at.bytes m.chunks (effect_as c m k (PlaceObject at align missing)) at missing is after.0 after.1
+      (placed_lacking c (plain_fit c at.bytes align) at.bytes m.chunks (effect_as c m k (PlaceObject at align missing)) at missing is (all is.chunk is.there).long after.0 after.1
       (λ page h. (object_low c (bit_list c is.chunk) at at.bytes (bits_long _ (unit_bits c) 0) size refl (fitting at.bytes align at.off (bit_list c is.chunk) is.fits) page h).0))
 
 -- Its missing pages get frames.
@@ -59,14 +59,13 @@ module _ (c : Setup) (units : AreUnits c) (m : PlainMap) (k : ℕ) (numbered : A
     (chunk base page filled : ℕ) (all : (h : Chunk) → IsIn h m.chunks → IsChunkFine c m (λ number own. busy number own ⊎ IsBeingPopulated number own (Filling chunk base page filled)) h) (at : IsChunkAt c m (Filling chunk base page filled))
     (legal : IsLegalAs c m k (Fill base page)) where
   low_page : (own : ℕ) → is_among (page ∷ []) own ≡ true → own < c.unit_pages
-  low_page own h = subst (λ i. i < c.unit_pages) (only_one page own h) at.1
+  low_page own h = subst (λ i. i < c.unit_pages) (only_one page own h) at.low
 
   pub fill_moved : IsChunkMoved c m k busy (Filling chunk base page filled) (Fill base page) (Go (NotingFilled chunk page filled))
-  fill_moved = given_chunks c units m k numbered once busy (Filling chunk base page filled) all none (λ number own mine. absurd mine) refl chunk base (page ∷ []) at.0 low_page legal (Fill base page) refl refl refl refl refl (Go (NotingFilled chunk page filled))
+  fill_moved = given_chunks c units m k numbered once busy (Filling chunk base page filled) all none (λ number own mine. absurd mine) refl chunk base (page ∷ []) at.of low_page legal (Fill base page) refl refl refl refl refl (Go (NotingFilled chunk page filled))
       (λ own h. (refl, only_one page own h)) (
         base,
-        (of_stays m (effect_as c m k (Fill base page)) chunk base (rows_kept m (effect_as c m k (Fill base page)) refl refl) at.0).0,
-        at.1,
-        (λ cpu unit e. given_mapped c units m k numbered once busy (Filling chunk base page filled) all none (λ number own mine. absurd mine) refl chunk base (page ∷ []) at.0 low_page legal (Fill base page) refl refl refl refl refl
+        (let of = of_stays m (effect_as c m k (Fill base page)) chunk base (rows_kept m (effect_as c m k (Fill base page)) refl refl) at.of in record { of = of.0; low = at.low; unpopulated = of.1.populated page ∙ at.unpopulated }),
+        (λ cpu unit e. given_mapped c units m k numbered once busy (Filling chunk base page filled) all none (λ number own mine. absurd mine) refl chunk base (page ∷ []) at.of low_page legal (Fill base page) refl refl refl refl refl
             (base + unit + page) (page_in_units c base page cpu unit (page ∷ []) e (in_among page (page ∷ []) (record { place = 0; at = refl })))),
       )

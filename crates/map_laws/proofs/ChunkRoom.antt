@@ -75,7 +75,7 @@ page_is : (h : Chunk) (o : Option ℕ) (p : Chunk × ℕ) → option_map (λ pag
 page_is h None p e = cc
 page_is h (Some page) p e = (let f : (h, page) ≡ p = cc in (ap (λ q. q.0) f, ap (λ q. Some q.1) f))
 
-hole_is : (populated : List Bool) (page : ℕ) → page < length populated → not (slice_index_or populated page false) ≡ true → slice_get populated page ≡ Some false
+pub hole_is : (populated : List Bool) (page : ℕ) → page < length populated → not (slice_index_or populated page false) ≡ true → slice_get populated page ≡ Some false
 hole_is populated page h e =
     let is = there populated page h in
     let value : slice_index_or populated page false ≡ is.0 = get_or_from_slice_get populated page is.0 false is.1 in

@@ -1,79 +1,59 @@
--- Each section that the map gives to a caller without per-CPU objects is legal.
-use Rattle.std.proofs.Common.{◌≡◌, ℕ, zero, suc, ◌+◌, ◌<◌, ◌≤◌, Bool, true, false, ◌==◌, cond, nat_lt, if◌then◌else◌, List, [], ◌∷◌, ◌++◌, length, map, filter, find, flat_map, not, slice_get, sum_by, Option, Some, None, option_map, refl, ap, sym, ◌∙◌, subst, arith, length-append}
+-- Each section that the map gives is legal, where what it needs of chunks and objects holds.
+use Rattle.std.proofs.Common.{Bool, List, None, Option, Some, [], ap, arith, cond, false, filter, flat_map, if◌then◌else◌, length, nat_lt, not, option_map, refl, slice_get, subst, suc, sum_by, sym, true, zero, ℕ, ◌++◌, ◌+◌, ◌<◌, ◌==◌, ◌∙◌, ◌∷◌, ◌≡◌, ◌≤◌}
 use Rattle.std.proofs.lemmas.Bool.Decides.{nat_tests}
 use Rattle.std.proofs.lemmas.List.Sums.{sum_by-cons}
-use Rattle.vm_model.specs.declared.areas.Span.{Span}
-use Rattle.vm_model.specs.declared.areas.Area.{Area}
-use Rattle.vm_model.specs.declared.areas.AreaKind.TheVariants as kind
-use Rattle.vm_model.specs.Space.{span, holds, covers, one_if, times, lowest, is_among}
-use Rattle.vm_model.specs.Setup.{Setup}
-use Rattle.vm_model.specs.PlainMap.{PlainMap, Block, Part, InHand, lives_as, taken}
-use Rattle.vm_model.specs.Areas.{is_area, named_areas, areas_at, mapped_part, spans_of}
+use Rattle.std.proofs.lemmas.Option.{get_or_from_slice_get}
+use Rattle.vm_model.specs.Areas.{areas_at, is_area, mapped_part, named_areas, spans_of}
+use Rattle.vm_model.specs.Blocks.{PartAt, blocks_of, first_page, is_named, life_of_part, mapped_pages, named_in, named_parts, part_to_cut, parts_size, rounded, size_of}
+use Rattle.vm_model.specs.Carried.{count_of, has_alloc, has_purge}
+use Rattle.vm_model.specs.Chunks.{ObjectAt, atomic_bits, atomic_fit, is_live_object, is_populated, life_of_object, new_chunk, object_pages, page_to_fill, pages_of_object, placement, plain_fit, spare_chunk}
+use Rattle.vm_model.specs.Events.{Fill, ForGroups, ForPages, MapPages, NoFrames, Populate, Section, TakeAlloc, TakePurge}
 use Rattle.vm_model.specs.Frames.{free_frames}
-use Rattle.vm_model.specs.Blocks.{PartAt, first_page, mapped_pages, rounded, size_of, parts_size, blocks_of, part_to_cut, life_of_part, is_named, named_in, named_parts}
-use Rattle.vm_model.specs.Legal.{OnEach, IsBare, IsLegalAs, AreStarts}
-use Rattle.vm_model.specs.Events.{Section, ForPages, TakePurge, MapPages, NoFrames}
-use Rattle.vm_model.specs.Places.{Place, Over, Refusing, Finding, FindingAgain, MappingArea, Dropping, SettlingArea, Removing, UnmappingArea, Waiting, PurgeTaking, PurgeFragmenting, PurgeUnlinking, PurgeWaiting, PurgeCollecting, PurgeFlushing, PurgeReturning, PurgeGiving, CuttingPart, SettlingBlock, AddingBlock, MappingPart, SettlingPart, BeginningUnmap, UnmappingPart, Retiring, UnlinkingBlock, LookingAtDirty, block_spans, ask}
-use Rattle.vm_model.specs.Given.{given, carving, removal, cutting, beginning}
-use Rattle.vm_model.specs.History.{World, Local}
-use Rattle.vm_model.specs.Carried.{has_purge, count_of}
-use Rattle.map_laws.specs.MapTraces.{HistoriesWithoutObjectsAreLegal}
-use Rattle.map_laws.proofs.Chosen.{IsIn, in_more, filter_has, filter_in, find_has, sum_by-filter-le}
-use Rattle.map_laws.proofs.Fits.{and_both}
-use Rattle.map_laws.proofs.Frames.{IsFramed, IsStep}
-use Rattle.map_laws.proofs.Places.{IsProper}
-use Rattle.map_laws.proofs.TurnPlaces.{taking_is}
-use Rattle.map_laws.proofs.Spans.{times-cons, covers_one, holds_to, holds_from, in_spans, InSpans, Inside, Outside}
-use Rattle.map_laws.proofs.StepFalls.{has_room}
-use Rattle.map_laws.proofs.GivenMeets.{given_meets, cut_of, begun_of, flat_in}
+use Rattle.vm_model.specs.Given.{beginning, carving, carving_groups, cutting, filling, freeing, given, placing, placing_atomic, placing_new, removal, sparing}
+use Rattle.vm_model.specs.Legal.{AreStarts, CanFill, CanMap, HasGroups, IsBare, IsLegalAs, IsMapped, IsMarked, OnEach, OnPages}
+use Rattle.vm_model.specs.Places.{Adding, AddingBlock, AddingChunk, BeginningUnmap, Choosing, ChoosingAtomic, CuttingPart, Depopulating, Dropping, Filling, Finding, FindingAgain, FreeingObject, GivingAlloc, LookingAtDirty, MappingArea, MappingPart, NextFill, NotingFilled, Over, Place, Populating, PurgeCollecting, PurgeFlushing, PurgeFragmenting, PurgeGiving, PurgeReturning, PurgeTaking, PurgeUnlinking, PurgeWaiting, Refusing, Removing, Retiring, SettlingArea, SettlingAtomic, SettlingBlock, SettlingGroups, SettlingObject, SettlingPart, Sparing, Summing, TakingAlloc, TakingToBalance, UnlinkingBlock, UnlinkingGroups, UnmappingArea, UnmappingPart, Unplacing, Waiting, Zeroing, ask, block_spans, group_starts}
+use Rattle.vm_model.specs.PlainMap.{Block, Chunk, Held, InHand, Lives, Part, PlainMap, lives_as, taken}
+use Rattle.vm_model.specs.Setup.{Setup, groups_at, highest, pages_in_units}
+use Rattle.vm_model.specs.Space.{covers, holds, hull, is_among, lowest, one_if, span, times}
+use Rattle.vm_model.specs.declared.areas.Area.{Area}
+use Rattle.vm_model.specs.declared.areas.Span.{Span}
 use Rattle.map_laws.proofs.AreaFacts.{IsHolding, mapped_covers}
+use Rattle.map_laws.proofs.AreaMoves.{group_spans}
+use Rattle.map_laws.proofs.BlockFacts.{AreStacked, IsBlockArea, IsBlockAt, IsBlockFine, IsOut, IsPartIn, among_count, block_out, block_starts, counted_block, size_cons, to_same}
+use Rattle.map_laws.proofs.BlockMoves.{area_start, part_within, row_of, same_start}
+use Rattle.map_laws.proofs.BlockWorlds.{covered_start, only_one, row_covers, times_count}
+use Rattle.map_laws.proofs.Chosen.{IsIn, filter_has, filter_in, find_has, in_among, in_more, sum_by-filter-le}
+use Rattle.map_laws.proofs.ChunkAtomic.{atomic_pages}
+use Rattle.map_laws.proofs.ChunkPlaced.{fitting, placement_is}
+use Rattle.map_laws.proofs.ChunkRoom.{new_chunk_has_room}
+use Rattle.map_laws.proofs.Fits.{and_both}
+use Rattle.map_laws.proofs.GivenMeets.{begun_of, cut_of, flat_in}
+use Rattle.map_laws.proofs.Lists.{there}
 use Rattle.map_laws.proofs.MapMoves.{times_both}
-use Rattle.map_laws.proofs.AreaWorlds.{IsLegalStep}
-use Rattle.map_laws.proofs.MapPlaces.{IsMapPlace}
-use Rattle.map_laws.proofs.BlockFacts.{IsBlockArea, IsBlockFine, IsPartIn, IsOut, IsBlockAt, AreStacked, block_starts, among_count, counted_block, to_same, size_cons, block_out}
-use Rattle.map_laws.proofs.BlockMoves.{part_within, row_of, same_start, area_start}
 use Rattle.map_laws.proofs.PartMoves.{own_is}
-use Rattle.map_laws.proofs.BlockWorlds.{times_count, row_covers, covered_start, only_one}
-use Rattle.map_laws.proofs.MapLaws.{IsMapTraceWorld, AreFull, own_names, areas_once, map_lasts, map_first, has_parts}
-use Rattle.map_laws.proofs.LegalRuns.{one_legal}
+use Rattle.map_laws.proofs.Places.{IsObjectSize, IsProper}
 use Rattle.map_laws.proofs.Powers.{rounded_some}
+use Rattle.map_laws.proofs.Searched.{find_some, flat_has, length_flat, length_map, sum_le}
+use Rattle.map_laws.proofs.Spans.{InSpans, Inside, Outside, covers_one, holds_from, holds_to, in_spans, times-cons}
+use Rattle.map_laws.proofs.TraceWorlds.{AreFull}
+use Rattle.map_laws.proofs.TurnPlaces.{taking_is}
+use Rattle.vm_model.specs.declared.areas.AreaKind.TheVariants as kind
 
--- Lists that are searched.
-
-find_by : {X : Type 0} (p : X → Bool) (xs : List X) (y x : X) (b : Bool) → p y ≡ b → ((z : X) × (find p xs ≡ Some z)) → (z : X) × (cond b (Some y) (find p xs) ≡ Some z)
-find_by p xs y x true e more = (y, refl)
-find_by p xs y x false e more = more
-
-find_some : {X : Type 0} (p : X → Bool) (xs : List X) (x : X) (i : ℕ) → slice_get xs i ≡ Some x → p x ≡ true → (z : X) × (find p xs ≡ Some z)
-find_some p [] x i h e = cc
-find_some p (y ∷ xs) x zero h e = let same : y ≡ x = cc in (y, ap (λ b. cond b (Some y) (find p xs)) (ap p same ∙ e))
-find_some p (y ∷ xs) x (suc i) h e = find_by p xs y x _ refl (find_some p xs x i h e)
-
-append_second : {X : Type 0} (xs ys : List X) (y : X) → IsIn y ys → IsIn y (xs ++ ys)
-append_second [] ys y there = there
-append_second (x ∷ xs) ys y there = in_more y x (xs ++ ys) (append_second xs ys y there)
-
-append_front : {X : Type 0} (xs ys : List X) (y : X) (i : ℕ) → slice_get xs i ≡ Some y → IsIn y (xs ++ ys)
-append_front [] ys y i h = cc
-append_front (x ∷ xs) ys y zero h = record { place = 0; at = h }
-append_front (x ∷ xs) ys y (suc i) h = in_more y x (xs ++ ys) (append_front xs ys y i h)
-
-flat_has : {X Y : Type 0} (f : X → List Y) (xs : List X) (i : ℕ) (x : X) (y : Y) → slice_get xs i ≡ Some x → IsIn y (f x) → IsIn y (flat_map f xs)
-flat_has f [] i x y h there = cc
-flat_has f (z ∷ xs) zero x y h there = let same : z ≡ x = cc in append_front (f z) (flat_map f xs) y there.place (ap (λ v. slice_get (f v) there.place) same ∙ there.at)
-flat_has f (z ∷ xs) (suc i) x y h there = append_second (f z) (flat_map f xs) y (flat_has f xs i x y h there)
-
-length_flat : {X Y : Type 0} (f : X → List Y) (xs : List X) → length (flat_map f xs) ≡ sum_by (λ x. length (f x)) xs
-length_flat f [] = refl
-length_flat f (x ∷ xs) = omega (arith, length-append (f x) (flat_map f xs), length_flat f xs, sum_by-cons (λ x. length (f x)) x xs)
-
-length_map : {X Y : Type 0} (f : X → Y) (xs : List X) → length (map f xs) ≡ length xs
-length_map f [] = refl
-length_map f (x ∷ xs) = ap suc (length_map f xs)
-
-sum_le : {X : Type 0} (f g : X → ℕ) (xs : List X) → ((x : X) → IsIn x xs → f x ≤ g x) → sum_by f xs ≤ sum_by g xs
-sum_le f g [] h = omega arith
-sum_le f g (x ∷ xs) h = omega (arith, sum_by-cons f x xs, sum_by-cons g x xs, h x (record { place = 0; at = refl }), sum_le f g xs (λ y there. h y (in_more y x xs there)))
+-- what a section needs of chunks and objects
+abbrev pub IsReady : Setup → PlainMap → ℕ → Place → Type 0
+IsReady c m k (AddingChunk base chunk bytes align) = HasGroups c m chunk base × (chunk ≡ m.next_chunk)
+IsReady c m k (Populating at missing) = OnPages (pages_in_units c at.base missing) (IsBare m)
+IsReady c m k (SettlingObject at) = life_of_object at m.chunks ≡ Some (InHand k)
+IsReady c m k (Unplacing at) = life_of_object at m.chunks ≡ Some (InHand k)
+IsReady c m k (Zeroing at) = (life_of_object at m.chunks ≡ Some (InHand k)) × OnPages (object_pages c at) (IsMapped m)
+IsReady c m k (SettlingAtomic at) = life_of_object at m.chunks ≡ Some (InHand k)
+IsReady c m k (Adding at serial cpu index amount) = (life_of_object at m.chunks ≡ Some (Lives serial)) × OnPages (object_pages c at) (IsMapped m)
+IsReady c m k (Summing at serial index) = (life_of_object at m.chunks ≡ Some (Lives serial)) × OnPages (object_pages c at) (IsMapped m)
+IsReady c m k (Depopulating base populated) = OnPages (pages_in_units c base populated) (IsMapped m)
+IsReady c m k (UnlinkingGroups base) = AreStarts m (group_starts c base)
+IsReady c m k (Filling chunk base page filled) = OnPages (pages_in_units c base (page ∷ [])) (IsBare m)
+IsReady c m k (NotingFilled chunk page filled) = CanFill m chunk page
+IsReady c m k _ = Unit {0}
 
 -- Areas of a start.
 
@@ -100,7 +80,7 @@ module _ (c : Setup) (m : PlainMap) (k : ℕ) (once : (page : ℕ) → times pag
   removal_by start serial (a ∷ []) e = e
   removal_by start serial (a ∷ b ∷ list) e = absurd (two_never (is_area start serial) start a b list e (λ x h. to_same x.span.start start (and_both (x.span.start == start) (x.serial == serial) h).0))
 
-  one_at : (start : ℕ) (area : Area) → IsIn area m.areas → area.span.start ≡ start → (list : List Area) → areas_at start m.areas ≡ list → areas_at start m.areas ≡ area ∷ []
+  pub one_at : (start : ℕ) (area : Area) → IsIn area m.areas → area.span.start ≡ start → (list : List Area) → areas_at start m.areas ≡ list → areas_at start m.areas ≡ area ∷ []
   one_at start area there e [] f = absurd (let kept = filter_in (λ (a : Area). a.span.start == start) m.areas area there.place there.at (let t : (area.span.start == start) ≡ true = grind (arith, nat_tests) in t) in
       let no : slice_get (areas_at start m.areas) kept.place ≡ None = ap (λ l. slice_get l kept.place) f in let yes = kept.at in cc)
   one_at start area there e (a ∷ []) f =
@@ -224,55 +204,103 @@ module _ (c : Setup) (m : PlainMap) (k : ℕ) (once : (page : ℕ) → times pag
     low_size : (at : PartAt) → IsPartIn m k at → at.pages ≤ rounded at.pages
     low_size at hand = let z = (part_within c m hand.block hand.part (all hand.block hand.there) hand.part_there).1 in let r = row_of m k at hand in omega (arith, r.1, r.2)
 
-    pub legal_map : (p : Place) (s : Section) → IsMapPlace p → IsProper c p → IsHolding c m k p → IsBlockAt c m k p → ((start : ℕ) → count_of start (block_out p) ≤ 1) → (has_purge p ≡ true → m.purge_turn ≡ Some k) → given c m (ask c p) ≡ Some s → IsLegalAs c m k s
-    legal_map Over s is proper own at few turn e = cc
-    legal_map (Refusing r) s is proper own at few turn e = told_legal s _ e tt
-    legal_map (Finding (ForPages pages align) aim) s is proper own at few turn e = told_legal s _ e (carving_legal pages align (lowest (taken m) pages align) refl)
-    legal_map (FindingAgain (ForPages pages align) aim) s is proper own at few turn e = told_legal s _ e (carving_legal pages align (lowest (taken m) pages align) refl)
-    legal_map (MappingArea place kd) s is proper own at few turn e = told_legal s _ e (frames_legal (mapped_part kd place) _ refl (λ page h. own.bare page (mapped_covers kd place page h)))
-    legal_map (Dropping place) s is proper own at few turn e = told_legal s _ e (own.held, own.bare)
-    legal_map (SettlingArea place kd) s is proper own at few turn e = told_legal s _ e (own.held, refl)
-    legal_map (Removing start serial) s is proper own at few turn e = told_legal s _ e (removal_by start serial (named_areas start serial m.areas) refl)
-    legal_map (UnmappingArea area) s is proper own at few turn e = told_legal s _ e own.mapped
-    legal_map (Waiting spans after) s is proper own at few turn e = told_legal s _ e (own.held, refl)
-    legal_map (PurgeTaking extra after) s is proper own at few turn e = let v = taking_is m.purge_turn TakePurge s e in subst (IsLegalAs c m k) (sym v.1) v.0
-    legal_map (PurgeFragmenting cpu gone extra after) s is proper own at few turn e = told_legal s _ e refl
-    legal_map (PurgeUnlinking gone extra after) s is proper own at few turn e = told_legal s _ e (legal_starts gone at few)
-    legal_map (PurgeWaiting gone extra after) s is proper own at few turn e = told_legal s _ e (own.held, refl)
-    legal_map (PurgeCollecting extra after) s is proper own at few turn e = told_legal s _ e refl
-    legal_map (PurgeFlushing hull waited after) s is proper own at few turn e = told_legal s _ e tt
-    legal_map (PurgeReturning waited after) s is proper own at few turn e = told_legal s _ e (own.flushed, own.bare)
-    legal_map (PurgeGiving after) s is proper own at few turn e = told_legal s _ e (turn refl)
-    legal_map (CuttingPart cpu pages) s is proper own at few turn e = told_legal s _ e (legal_cutting cpu pages (part_to_cut c cpu pages m.blocks) refl)
-    legal_map (SettlingBlock place cpu pages) s is proper own at few turn e = told_legal s _ e (own.held, refl)
-    legal_map (AddingBlock part) s is proper own at few turn e = told_legal s _ e
-        ((at.0.area, block_at part.block at.0, ap (λ (v : Span). v.pages) at.0.span, at.0.kind ∙ ap (λ n. kind.Block n) at.1), proper.0)
-    legal_map (MappingPart part) s is proper own at few turn e = told_legal s _ e
-        (frames_legal (mapped_pages part) _ refl (λ page h. (let r = row_in part page h in let l = low_size part at.0 in at.1 page r.0 (let b = r.1 in omega arith))))
-    legal_map (SettlingPart part) s is proper own at few turn e = told_legal s _ e (held_life part at.0, refl)
-    legal_map (BeginningUnmap cpu page serial) s is proper own at few turn e = told_legal s _ e (legal_beginning cpu page serial (named_parts cpu page serial m.blocks) refl)
-    legal_map (UnmappingPart part) s is proper own at few turn e = told_legal s _ e (λ page h. (let r = row_in part page h in at.1 page r.0 r.1))
-    legal_map (Retiring part r) s is proper own at few turn e = told_legal s _ e (held_life part at.0, refl)
-    legal_map (UnlinkingBlock start r) s is proper own at few turn e = told_legal s _ e (legal_starts (start ∷ []) (λ n h. subst (IsOut c m) (only_one start n h) at) few)
-    legal_map (LookingAtDirty cpu ranges) s is proper own at few turn e = told_legal s _ e refl
-    legal_map _ s is proper own at few turn e = absurd is
+    module _ (wide : 8 ≤ c.unit_pages) where
+      groups_legal : (o : Option ℕ) → highest c (taken m) ≡ o → IsLegalAs c m k (carving_groups o)
+      groups_legal None e = e
+      groups_legal (Some base) e = e
 
-pub trace_legal : (c : Setup) (units : 8 ≤ c.unit_pages) (w : World) (k : ℕ) (l : Local) (s : Section) → IsFramed c w → IsMapTraceWorld c w → IsStep w k l s → IsLegalStep w k l s
-trace_legal c units w k l s framed is step =
-    let own = framed.own k l step.here in
-    let proper = is.turns.proper.each k l step.here in
-    let named : (start : ℕ) → count_of start (block_starts w.map.blocks) + count_of start (block_out l.place) ≤ 1 = own_names c w framed is k l step.here in
-    let gives : given c w.map (ask c l.place) ≡ Some s = subst (λ d. given d w.map (ask d l.place) ≡ Some s) own.setup step.gives in
-    let holding : IsHolding c w.map k l.place = subst (λ d. IsHolding d w.map k l.place) own.setup (subst (λ i. IsHolding l.setup w.map i l.place) own.caller (is.area.each k l step.here)) in
-    let legal : IsLegalAs c w.map k s = legal_map c w.map k (areas_once c w framed is k l step.here) is.full is.blocks.blocks (λ start. (let n = named start in omega arith)) l.place s (is.only.each k l step.here).place
-    (subst (λ d. IsProper d l.place) own.setup proper) holding (subst (λ i. IsBlockAt c w.map i l.place) own.caller (is.blocks.each k l step.here)) (λ start. (let n = named start in omega arith))
-    (λ has. is.turns.turns.purge.mine k l step.here has) gives in record {
-      step = step;
-      meets = given_meets l.setup w.map s (ask l.setup l.place) (has_room l.setup w.map l.place (subst (λ d. 8 ≤ d.unit_pages) (sym own.setup) units) proper) step.gives;
-      legal = subst (λ d. IsLegalAs d w.map k s) (sym own.setup) legal;
-    }
+      filled_legal : (pages : List ℕ) (fills : Section) (b : Bool) → nat_lt (length (free_frames c m.frames)) (length pages) ≡ b → OnPages pages (IsBare m) → (CanMap c m pages → IsLegalAs c m k fills) → IsLegalAs c m k (if b then NoFrames (length pages) else fills)
+      filled_legal pages fills true e bare can = grind (arith, nat_tests)
+      filled_legal pages fills false e bare can = can (bare, (let enough : length pages ≤ length (free_frames c m.frames) = grind (arith, nat_tests) in enough))
 
-pub map_histories : HistoriesWithoutObjectsAreLegal
-map_histories c opening calls picks trace areas =
-    let has = has_parts c opening calls trace in
-    one_legal c calls (IsMapTraceWorld c) (map_lasts c opening calls areas has) (trace_legal c trace.setup.unit_low) opening trace (map_first c opening calls areas has) picks
+      placing_legal : (bytes align : ℕ) (o : Option (ObjectAt × List ℕ)) → placement c (plain_fit c bytes align) bytes m.chunks ≡ o → IsLegalAs c m k (placing bytes align m.next_chunk o)
+      placing_legal bytes align None e = (e, refl)
+      placing_legal bytes align (Some p) e = let is = placement_is c (plain_fit c bytes align) bytes m.chunks p.0 p.1 e in
+          subst (λ n. placement c (plain_fit c n align) n m.chunks ≡ Some p) (sym is.sized) e
+
+      new_legal : (base chunk bytes align : ℕ) → HasGroups c m chunk base → chunk ≡ m.next_chunk → IsObjectSize bytes → (o : Option (ObjectAt × List ℕ)) → placement c (plain_fit c bytes align) bytes (m.chunks ++ new_chunk c chunk base ∷ []) ≡ o
+          → IsLegalAs c m k (placing_new chunk base bytes align o)
+      new_legal base chunk bytes align groups number size None e = (let room = new_chunk_has_room c chunk base bytes align m.chunks wide size.0 in let no = room.1 in cc)
+      new_legal base chunk bytes align groups number size (Some p) e = let is = placement_is c (plain_fit c bytes align) bytes (m.chunks ++ new_chunk c chunk base ∷ []) p.0 p.1 e in
+          (groups, number, subst (λ n. placement c (plain_fit c n align) n (m.chunks ++ new_chunk c chunk base ∷ []) ≡ Some p) (sym is.sized) e)
+
+      none_kept : (pages : List ℕ) (test : ℕ → Bool) → ((page : ℕ) → IsIn page pages → test page ≡ false) → filter test pages ≡ []
+      none_kept [] test none = refl
+      none_kept (p ∷ pages) test none = ap (λ b. cond b (p ∷ filter test pages) (filter test pages)) (none p (record { place = 0; at = refl })) ∙ none_kept pages test (λ page there. none page (in_more page p pages there))
+
+      atomic_legal : (bytes align : ℕ) → IsObjectSize bytes → (o : Option (ObjectAt × List ℕ)) → placement c (atomic_fit c bytes align) bytes m.chunks ≡ o → IsLegalAs c m k (placing_atomic bytes align o)
+      atomic_legal bytes align size None e = e
+      atomic_legal bytes align size (Some p) e =
+          let is = placement_is c (atomic_fit c bytes align) bytes m.chunks p.0 p.1 e in
+          let sized : IsObjectSize p.0.bytes = subst IsObjectSize (sym is.sized) size in
+          let fits : atomic_fit c p.0.bytes align is.chunk ≡ Some p.0.off = subst (λ n. atomic_fit c n align is.chunk ≡ Some p.0.off) (sym is.sized) is.fits in
+          let none : p.1 ≡ [] = is.lacks ∙ none_kept (pages_of_object p.0) (λ page. not (is_populated is.chunk page)) (λ page there.
+          ap not (get_or_from_slice_get is.chunk.populated page true false (atomic_pages c is.chunk p.0 sized (fitting p.0.bytes align p.0.off (atomic_bits c is.chunk) fits) page (in_among page (pages_of_object p.0) there)))) in
+          subst (λ n. placement c (atomic_fit c n align) n m.chunks ≡ Some (p.0, [])) (sym is.sized) (subst (λ missing. placement c (atomic_fit c bytes align) bytes m.chunks ≡ Some (p.0, missing)) none e)
+
+      freeing_legal : (at : ObjectAt) (serial : ℕ) (b : Bool) → is_live_object at serial m.chunks ≡ b → IsLegalAs c m k (freeing at serial b)
+      freeing_legal at serial true e = e
+      freeing_legal at serial false e = e
+
+      sparing_legal : (o : Option Chunk) → spare_chunk m.chunks ≡ o → IsLegalAs c m k (sparing c o)
+      sparing_legal None e = e
+      sparing_legal (Some h) e = (h, e, refl, refl, refl)
+
+      filling_legal : (o : Option (Chunk × ℕ)) → page_to_fill c m.chunks ≡ o → IsLegalAs c m k (filling o)
+      filling_legal None e = e
+      filling_legal (Some p) e = (p.0, e, refl, refl)
+
+      pub legal_section : (p : Place) (s : Section) → IsReady c m k p → IsProper c p → IsHolding c m k p → IsBlockAt c m k p → ((start : ℕ) → count_of start (block_out p) ≤ 1) → (has_purge p ≡ true → m.purge_turn ≡ Some k) → (has_alloc p ≡ true → m.alloc_turn ≡ Some k) → given c m (ask c p) ≡ Some s → IsLegalAs c m k s
+      legal_section Over s is proper own at few turn alloc e = cc
+      legal_section (Refusing r) s is proper own at few turn alloc e = told_legal s _ e tt
+      legal_section (Finding (ForPages pages align) aim) s is proper own at few turn alloc e = told_legal s _ e (carving_legal pages align (lowest (taken m) pages align) refl)
+      legal_section (FindingAgain (ForPages pages align) aim) s is proper own at few turn alloc e = told_legal s _ e (carving_legal pages align (lowest (taken m) pages align) refl)
+      legal_section (MappingArea place kd) s is proper own at few turn alloc e = told_legal s _ e (frames_legal (mapped_part kd place) _ refl (λ page h. own.bare page (mapped_covers kd place page h)))
+      legal_section (Dropping place) s is proper own at few turn alloc e = told_legal s _ e (own.held, own.bare)
+      legal_section (SettlingArea place kd) s is proper own at few turn alloc e = told_legal s _ e (own.held, refl)
+      legal_section (Removing start serial) s is proper own at few turn alloc e = told_legal s _ e (removal_by start serial (named_areas start serial m.areas) refl)
+      legal_section (UnmappingArea area) s is proper own at few turn alloc e = told_legal s _ e own.mapped
+      legal_section (Waiting spans after) s is proper own at few turn alloc e = told_legal s _ e (own.held, refl)
+      legal_section (PurgeTaking extra after) s is proper own at few turn alloc e = let v = taking_is m.purge_turn TakePurge s e in subst (IsLegalAs c m k) (sym v.1) v.0
+      legal_section (PurgeFragmenting cpu gone extra after) s is proper own at few turn alloc e = told_legal s _ e refl
+      legal_section (PurgeUnlinking gone extra after) s is proper own at few turn alloc e = told_legal s _ e (legal_starts gone at few)
+      legal_section (PurgeWaiting gone extra after) s is proper own at few turn alloc e = told_legal s _ e (own.held, refl)
+      legal_section (PurgeCollecting extra after) s is proper own at few turn alloc e = told_legal s _ e refl
+      legal_section (PurgeFlushing hull waited after) s is proper own at few turn alloc e = told_legal s _ e tt
+      legal_section (PurgeReturning waited after) s is proper own at few turn alloc e = told_legal s _ e (own.flushed, own.bare)
+      legal_section (PurgeGiving after) s is proper own at few turn alloc e = told_legal s _ e (turn refl)
+      legal_section (CuttingPart cpu pages) s is proper own at few turn alloc e = told_legal s _ e (legal_cutting cpu pages (part_to_cut c cpu pages m.blocks) refl)
+      legal_section (SettlingBlock place cpu pages) s is proper own at few turn alloc e = told_legal s _ e (own.held, refl)
+      legal_section (AddingBlock part) s is proper own at few turn alloc e = told_legal s _ e
+          ((at.0.area, block_at part.block at.0, ap (λ (v : Span). v.pages) at.0.span, at.0.kind ∙ ap (λ n. kind.Block n) at.1), proper.0)
+      legal_section (MappingPart part) s is proper own at few turn alloc e = told_legal s _ e
+          (frames_legal (mapped_pages part) _ refl (λ page h. (let r = row_in part page h in let l = low_size part at.0 in at.1 page r.0 (let b = r.1 in omega arith))))
+      legal_section (SettlingPart part) s is proper own at few turn alloc e = told_legal s _ e (held_life part at.0, refl)
+      legal_section (BeginningUnmap cpu page serial) s is proper own at few turn alloc e = told_legal s _ e (legal_beginning cpu page serial (named_parts cpu page serial m.blocks) refl)
+      legal_section (UnmappingPart part) s is proper own at few turn alloc e = told_legal s _ e (λ page h. (let r = row_in part page h in at.1 page r.0 r.1))
+      legal_section (Retiring part r) s is proper own at few turn alloc e = told_legal s _ e (held_life part at.0, refl)
+      legal_section (UnlinkingBlock start r) s is proper own at few turn alloc e = told_legal s _ e (legal_starts (start ∷ []) (λ n h. subst (IsOut c m) (only_one start n h) at) few)
+      legal_section (LookingAtDirty cpu ranges) s is proper own at few turn alloc e = told_legal s _ e refl
+      legal_section (Finding ForGroups aim) s is proper own at few turn alloc e = told_legal s _ e (groups_legal (highest c (taken m)) refl)
+      legal_section (FindingAgain ForGroups aim) s is proper own at few turn alloc e = told_legal s _ e (groups_legal (highest c (taken m)) refl)
+      legal_section (TakingAlloc bytes align) s is proper own at few turn alloc e = let v = taking_is m.alloc_turn TakeAlloc s e in subst (IsLegalAs c m k) (sym v.1) v.0
+      legal_section TakingToBalance s is proper own at few turn alloc e = let v = taking_is m.alloc_turn TakeAlloc s e in subst (IsLegalAs c m k) (sym v.1) v.0
+      legal_section (GivingAlloc r made) s is proper own at few turn alloc e = told_legal s _ e (alloc refl)
+      legal_section (Choosing bytes align) s is proper own at few turn alloc e = told_legal s _ e (placing_legal bytes align (placement c (plain_fit c bytes align) bytes m.chunks) refl)
+      legal_section (SettlingGroups base chunk bytes align) s is proper own at few turn alloc e = told_legal s _ e (subst (λ spans. OnEach spans (IsMarked m (Held k))) (sym (group_spans chunk 0 (groups_at c base))) own.held, refl)
+      legal_section (AddingChunk base chunk bytes align) s is proper own at few turn alloc e = told_legal s _ e (new_legal base chunk bytes align is.0 is.1 proper (placement c (plain_fit c bytes align) bytes (m.chunks ++ new_chunk c chunk base ∷ [])) refl)
+      legal_section (Populating object missing) s is proper own at few turn alloc e = told_legal s _ e (filled_legal (pages_in_units c object.base missing) (Populate object missing) _ refl is (λ can. can))
+      legal_section (SettlingObject object) s is proper own at few turn alloc e = told_legal s _ e (is, refl)
+      legal_section (Unplacing object) s is proper own at few turn alloc e = told_legal s _ e is
+      legal_section (ChoosingAtomic bytes align) s is proper own at few turn alloc e = told_legal s _ e (atomic_legal bytes align proper (placement c (atomic_fit c bytes align) bytes m.chunks) refl)
+      legal_section (Zeroing object) s is proper own at few turn alloc e = told_legal s _ e is
+      legal_section (SettlingAtomic object) s is proper own at few turn alloc e = told_legal s _ e (is, refl)
+      legal_section (FreeingObject object serial) s is proper own at few turn alloc e = told_legal s _ e (freeing_legal object serial (is_live_object object serial m.chunks) refl)
+      legal_section (Adding object serial cpu index amount) s is proper own at few turn alloc e = told_legal s _ e is
+      legal_section (Summing object serial index) s is proper own at few turn alloc e = told_legal s _ e (is.0, is.1, refl)
+      legal_section Sparing s is proper own at few turn alloc e = told_legal s _ e (sparing_legal (spare_chunk m.chunks) refl)
+      legal_section (Depopulating base populated) s is proper own at few turn alloc e = told_legal s _ e is
+      legal_section (UnlinkingGroups base) s is proper own at few turn alloc e = told_legal s _ e is
+      legal_section (NextFill filled) s is proper own at few turn alloc e = told_legal s _ e (filling_legal (page_to_fill c m.chunks) refl)
+      legal_section (Filling chunk base page filled) s is proper own at few turn alloc e = told_legal s _ e (filled_legal (pages_in_units c base (page ∷ [])) (Fill base page) _ refl is (λ can. can))
+      legal_section (NotingFilled chunk page filled) s is proper own at few turn alloc e = told_legal s _ e is

@@ -1,39 +1,33 @@
 -- What the sections that settle, remove and unlink areas do to the pages that their caller holds, and to the map.
-use Rattle.std.proofs.Common.{◌≡◌, ◌≢◌, ℕ, zero, suc, ◌+◌, ◌≤◌, ◌⊎◌, inl, inr, Bool, true, false, not, ◌||◌, if◌then◌else◌, List, [], ◌∷◌, length, map, filter, slice_get, sum_by, Some, option_map, refl, ap, sym, ◌∙◌, arith}
-use Rattle.vm_model.specs.declared.areas.Span.{Span}
+use Rattle.std.proofs.Common.{Bool, List, Some, [], ap, arith, false, filter, if◌then◌else◌, inl, inr, length, map, not, option_map, refl, slice_get, suc, sum_by, sym, true, zero, ℕ, ◌+◌, ◌||◌, ◌∙◌, ◌∷◌, ◌≡◌, ◌≢◌, ◌≤◌, ◌⊎◌}
+use Rattle.std.proofs.lemmas.List.Sums.{sum_by-cons}
+use Rattle.vm_model.proofs.Paint.{slice_get-paint}
+use Rattle.vm_model.specs.Areas.{areas_of, areas_starting, mapped_part, mark_live, spans_of, with_areas}
+use Rattle.vm_model.specs.Carried.{flushed, held}
+use Rattle.vm_model.specs.Effects.{effect_as}
+use Rattle.vm_model.specs.Events.{Section, Settle}
+use Rattle.vm_model.specs.Laws.{as_free}
+use Rattle.vm_model.specs.Legal.{IsMapped, IsMarked, IsUnmapped, OnEach}
+use Rattle.vm_model.specs.Next.{Next}
+use Rattle.vm_model.specs.Places.{Place}
+use Rattle.vm_model.specs.PlainMap.{Held, Live, Mark, PlainMap}
+use Rattle.vm_model.specs.Run.{put}
+use Rattle.vm_model.specs.Setup.{Setup}
+use Rattle.vm_model.specs.Space.{covers, holds, one_if, paint, put_by, times}
 use Rattle.vm_model.specs.declared.areas.Area.{Area}
 use Rattle.vm_model.specs.declared.areas.AreaKind.{AreaKind}
-use Rattle.vm_model.specs.Space.{put_by, holds, covers, one_if, times, paint}
-use Rattle.vm_model.specs.Setup.{Setup}
-use Rattle.vm_model.specs.PlainMap.{PlainMap, Mark, Held, Live}
-use Rattle.vm_model.specs.Areas.{areas_starting, areas_of, with_areas, mark_live, spans_of, mapped_part}
-use Rattle.vm_model.specs.Legal.{OnEach, IsMarked, IsUnmapped, IsMapped}
-use Rattle.vm_model.specs.Events.{Section, Settle}
-use Rattle.vm_model.specs.Effects.{effect_as}
-use Rattle.vm_model.specs.Places.{Place}
-use Rattle.vm_model.specs.Next.{Next}
-use Rattle.vm_model.specs.Carried.{held, flushed}
-use Rattle.vm_model.specs.Laws.{as_free}
-use Rattle.vm_model.proofs.Paint.{slice_get-paint}
-use Rattle.map_laws.proofs.Lists.{there, same_or}
-use Rattle.map_laws.proofs.Places.{OnNext, IsPlainKind}
-use Rattle.map_laws.proofs.Chosen.{IsIn, in_more, filter_has, sum_has}
-use Rattle.std.proofs.lemmas.List.Sums.{sum_by-cons}
-use Rattle.map_laws.proofs.Spans.{times-cons, covers_times, none_covers, in_spans, InSpans, Inside, Outside, covers_one}
-use Rattle.map_laws.proofs.Touched.{touch, IsSame, unmarked_live, spans_of-areas_of, untouched, painted}
-use Rattle.map_laws.proofs.AreaFacts.{IsMapFine, own_uses, IsUnbearing}
-use Rattle.map_laws.proofs.AreaFacts.{IsAreaFine, guard_part, area_stays}
-use Rattle.map_laws.proofs.PlaceMoves.{IsMoved, unbearing_uses, unbearing_own}
-use Rattle.map_laws.proofs.MapMoves.{times_areas, times_both, page_by, live_fine, area_times, held_fine, painted_free}
+use Rattle.vm_model.specs.declared.areas.Span.{Span}
+use Rattle.map_laws.proofs.AreaFacts.{IsAreaFine, IsMapFine, IsUnbearing, area_stays, guard_part, own_uses}
+use Rattle.map_laws.proofs.Chosen.{IsIn, filter_has, in_more, sum_has}
+use Rattle.map_laws.proofs.Lists.{same_or, there}
+use Rattle.map_laws.proofs.MapMoves.{area_times, held_fine, live_fine, page_by, painted_free, times_areas, times_both}
+use Rattle.map_laws.proofs.PlaceMoves.{IsMoved, unbearing_own, unbearing_uses}
+use Rattle.map_laws.proofs.Places.{IsPlainKind, OnNext}
+use Rattle.map_laws.proofs.Puts.{put_in, put_sum}
+use Rattle.map_laws.proofs.Spans.{InSpans, Inside, Outside, covers_one, covers_times, in_spans, none_covers, times-cons}
+use Rattle.map_laws.proofs.Touched.{IsSame, painted, spans_of-areas_of, touch, unmarked_live, untouched}
 
 -- Areas put among others.
-
-first_or : (a x : Area) (xs : List Area) → IsIn a (x ∷ xs) → (a ≡ x) ⊎ IsIn a xs
-first_or a x xs h = by_place h.place h.at
-  where
-    by_place : (i : ℕ) → slice_get (x ∷ xs) i ≡ Some a → (a ≡ x) ⊎ IsIn a xs
-    by_place zero e = inl (let same : x ≡ a = cc in sym same)
-    by_place (suc i) e = inr (record { place = i; at = e })
 
 pub times_in : (page : ℕ) (spans : List Span) → 1 ≤ times page spans → covers spans page ≡ true
 times_in page spans h = by_in (in_spans page spans)
@@ -42,31 +36,12 @@ times_in page spans h = by_in (in_spans page spans)
     by_in (Inside e n) = e
     by_in (Outside e n) = absurd (omega arith)
 
-put_by-in : (key : Area → ℕ) (x y : Area) (ys : List Area) (b : Bool) (a : Area) → IsIn a (if b then x ∷ y ∷ ys else y ∷ put_by key x ys) → (IsIn a (put_by key x ys) → (a ≡ x) ⊎ IsIn a ys) → (a ≡ x) ⊎ IsIn a (y ∷ ys)
-put_by-in key x y ys true a h more = first_or a x (y ∷ ys) h
-put_by-in key x y ys false a h more = elim (first_or a y (put_by key x ys) h) [
-  | inl e ↦ inr (record { place = 0; at = ap (λ z. Some z) (sym e) })
-  | inr there ↦ elim (more there) [ inl e ↦ inl e | inr is ↦ inr (in_more a y ys is) ]
-]
-
-put_in : (key : Area → ℕ) (x : Area) (ys : List Area) (a : Area) → IsIn a (put_by key x ys) → (a ≡ x) ⊎ IsIn a ys
-put_in key x [] a h = first_or a x [] h
-put_in key x (y ∷ ys) a h = put_by-in key x y ys _ a h (put_in key x ys a)
-
 pub with_in : (xs areas : List Area) (a : Area) → IsIn a (with_areas xs areas) → IsIn a xs ⊎ IsIn a areas
 with_in [] areas a h = inr h
 with_in (x ∷ xs) areas a h = elim (with_in xs (put_by (λ (b : Area). b.span.start) x areas) a h) [
   | inl there ↦ inl (in_more a x xs there)
   | inr put ↦ elim (put_in (λ (b : Area). b.span.start) x areas a put) [ inl e ↦ inl (record { place = 0; at = ap (λ z. Some z) (sym e) }) | inr is ↦ inr is ]
 ]
-
-put_sum_by : (f : Area → ℕ) (key : Area → ℕ) (x y : Area) (ys : List Area) (b : Bool) → sum_by f (put_by key x ys) ≡ f x + sum_by f ys → sum_by f (if b then x ∷ y ∷ ys else y ∷ put_by key x ys) ≡ f x + sum_by f (y ∷ ys)
-put_sum_by f key x y ys true e = sum_by-cons f x (y ∷ ys)
-put_sum_by f key x y ys false e = omega (arith, sum_by-cons f y (put_by key x ys), sum_by-cons f y ys)
-
-put_sum : (f : Area → ℕ) (key : Area → ℕ) (x : Area) (ys : List Area) → sum_by f (put_by key x ys) ≡ f x + sum_by f ys
-put_sum f key x [] = sum_by-cons f x []
-put_sum f key x (y ∷ ys) = put_sum_by f key x y ys _ (put_sum f key x ys)
 
 with_sum : (f : Area → ℕ) (xs areas : List Area) → sum_by f (with_areas xs areas) ≡ sum_by f xs + sum_by f areas
 with_sum f [] areas = omega arith

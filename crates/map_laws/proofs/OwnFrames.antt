@@ -95,7 +95,7 @@ given_own : (c : Setup) (pages : List ℕ) (frames : List (Option ℕ)) → AreO
 given_own c pages frames is = give_own pages (free_frames c frames) 0 frames (rising_filter (λ frame. not (is_used frame frames)) 0 (count_from c.frames 0) (rising_row c.frames 0)) (unused_filter frames (count_from c.frames 0)) is
 
 -- what is still mapped was mapped
-still_mapped : (test : ℕ → Bool) (frames : List (Option ℕ)) (page f : ℕ) → slice_get (paint test None frames) page ≡ Some (Some f) → slice_get frames page ≡ Some (Some f)
+pub still_mapped : (test : ℕ → Bool) (frames : List (Option ℕ)) (page f : ℕ) → slice_get (paint test None frames) page ≡ Some (Some f) → slice_get frames page ≡ Some (Some f)
 still_mapped test frames page f h = by_test (test page) refl
   where
     painted_none : (o : Option (Option ℕ)) → option_map (λ (y : Option ℕ). if true then None else y) o ≡ Some (Some f) → ⊥
@@ -178,7 +178,7 @@ pub record AreFramesClean (m : PlainMap) : Type 0 where
 pub clean_section : (c : Setup) (m : PlainMap) (k : ℕ) (s : Section) → IsLegalAs c m k s → AreFramesClean m → AreFramesClean (effect_as c m k s)
 clean_section c m k s legal is = record { own = own_section c m k s is.own; stale = stale_section c m k s is.long legal is.stale; long = long_section c m k s is.long }
 
-replicate-at : {X : Type 0} (n : ℕ) (x y : X) (i : ℕ) → slice_get (replicate n x) i ≡ Some y → y ≡ x
+pub replicate-at : {X : Type 0} (n : ℕ) (x y : X) (i : ℕ) → slice_get (replicate n x) i ≡ Some y → y ≡ x
 replicate-at zero x y i h = cc
 replicate-at (suc n) x y zero h = cc
 replicate-at (suc n) x y (suc i) h = replicate-at n x y i h

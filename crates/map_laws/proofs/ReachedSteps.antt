@@ -6,12 +6,10 @@ use Rattle.vm_model.specs.Events.{Event}
 use Rattle.vm_model.specs.History.{World, step, finish, most_events, opening_world, with_callers}
 use Rattle.vm_model.specs.LegalHistory.{IsReached, IsRun, world_after, callers_world}
 use Rattle.vm_model.specs.Rules.{IsTrace}
-use Rattle.map_laws.specs.MapTraces.{AreWithoutObjects, StepsWithoutObjectsAreReached}
-use Rattle.map_laws.proofs.Frames.{IsFramed}
-use Rattle.map_laws.proofs.AreaWorlds.{legally_lasts}
+use Rattle.map_laws.specs.Steps.{StepsAreReached}
 use Rattle.map_laws.proofs.LegalRuns.{IsRunTo, run_append, after_append, step_led, picked_reached}
-use Rattle.map_laws.proofs.MapLaws.{IsMapTraceWorld, map_lasts, map_first, has_parts}
-use Rattle.map_laws.proofs.MapLegal.{trace_legal}
+use Rattle.map_laws.proofs.TraceWorlds.{IsTraceWorld, trace_lasts, trace_first, trace_reached}
+use Rattle.map_laws.proofs.ObjectsReady.{trace_legal}
 
 -- a run on from a reached world leads to another
 runs_on : (c : Setup) (opening : List Call) (calls : List (List Call)) (w v : World) → IsReached c opening calls w → IsRunTo w v → IsReached c opening calls v
@@ -27,18 +25,13 @@ runs_on c opening calls w v (inr r) on = inr (
   on.ends ∙ ap (λ x. world_after x on.made) r.3 ∙ sym (after_append (callers_world c opening calls r.0) r.1 on.made),
 )
 
-step_reached : (c : Setup) (opening : List Call) (calls : List (List Call)) (w : World) (k : ℕ) → IsTrace c opening calls → AreWithoutObjects opening calls → IsReached c opening calls w
-    → IsReached c opening calls (step w k)
-step_reached c opening calls w k trace areas reached =
-    let has = has_parts c opening calls trace in
-    let is = legally_lasts c calls (IsMapTraceWorld c) (map_lasts c opening calls areas has) opening (map_first c opening calls areas has) w reached in
-    runs_on c opening calls w (step w k) reached (step_led c calls (IsMapTraceWorld c) (map_lasts c opening calls areas has) (trace_legal c trace.setup.unit_low) w k is.0 is.1).runs
+step_reached : (c : Setup) (opening : List Call) (calls : List (List Call)) (w : World) (k : ℕ) → IsTrace c opening calls → IsReached c opening calls w → IsReached c opening calls (step w k)
+step_reached c opening calls w k trace reached =
+    let is = trace_reached c opening calls trace w reached in
+    runs_on c opening calls w (step w k) reached (step_led c calls (IsTraceWorld c) (trace_lasts c opening calls trace) (trace_legal c trace.setup) w k is.0 is.1).runs
 
-started_reached : (c : Setup) (opening : List Call) (calls : List (List Call)) → IsTrace c opening calls → AreWithoutObjects opening calls
-    → IsReached c opening calls (with_callers c calls (finish most_events (opening_world c opening calls)))
-started_reached c opening calls trace areas =
-    let has = has_parts c opening calls trace in
-    picked_reached c calls (IsMapTraceWorld c) (map_lasts c opening calls areas has) (trace_legal c trace.setup.unit_low) opening trace (map_first c opening calls areas has) []
+started_reached : (c : Setup) (opening : List Call) (calls : List (List Call)) → IsTrace c opening calls → IsReached c opening calls (with_callers c calls (finish most_events (opening_world c opening calls)))
+started_reached c opening calls trace = picked_reached c calls (IsTraceWorld c) (trace_lasts c opening calls trace) (trace_legal c trace.setup) opening trace (trace_first c opening calls trace) []
 
-pub steps_reached : StepsWithoutObjectsAreReached
-steps_reached c opening calls trace areas = record { started = started_reached c opening calls trace areas; steps = λ w k. step_reached c opening calls w k trace areas }
+pub steps_reached : StepsAreReached
+steps_reached c opening calls trace = record { started = started_reached c opening calls trace; steps = λ w k. step_reached c opening calls w k trace }

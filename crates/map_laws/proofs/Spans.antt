@@ -1,9 +1,10 @@
 -- In how many spans a page is, and whether it is in one.
-use Rattle.std.proofs.Common.{◌≡◌, ℕ, ◌+◌, ◌<◌, ◌≤◌, Bool, true, false, ◌||◌, List, [], ◌∷◌, ◌++◌, Option, Some, None, refl, ap, sym, ◌∙◌, subst, arith}
+use Rattle.std.proofs.Common.{Bool, List, None, Option, Some, [], ap, arith, false, refl, subst, sym, true, ℕ, ◌++◌, ◌+◌, ◌<◌, ◌||◌, ◌∙◌, ◌∷◌, ◌≡◌, ◌≤◌}
 use Rattle.std.proofs.lemmas.Bool.Decides.{nat_tests}
-use Rattle.std.proofs.lemmas.List.Sums.{sum_by-cons, sum_by-append}
+use Rattle.std.proofs.lemmas.List.Sums.{sum_by-append, sum_by-cons}
+use Rattle.vm_model.specs.Space.{covers, holds, hull, one_if, times, wider}
 use Rattle.vm_model.specs.declared.areas.Span.{Span}
-use Rattle.vm_model.specs.Space.{holds, covers, one_if, times, hull, wider}
+use Rattle.map_laws.proofs.OrTests.{or_assoc, or_false}
 
 pub one_le : (b : Bool) → one_if b ≤ 1
 one_le true = omega arith
@@ -55,10 +56,6 @@ none_covers page spans z = not_covered page spans (in_spans page spans) z
 
 pub covers_one : (s : Span) (page : ℕ) → covers (s ∷ []) page ≡ holds s page
 covers_one s page = or_false (holds s page)
-  where
-    or_false : (b : Bool) → (b || false) ≡ b
-    or_false true = refl
-    or_false false = refl
 
 pub holds_times : (s : Span) (page : ℕ) → holds s page ≡ true → one_if (holds s page) ≡ 1
 holds_times s page h = ap one_if h
@@ -72,10 +69,6 @@ holds_from s page a b = grind (arith, nat_tests)
 pub covers_append : (page : ℕ) (xs ys : List Span) → covers (xs ++ ys) page ≡ (covers xs page || covers ys page)
 covers_append page [] ys = refl
 covers_append page (x ∷ xs) ys = ap (λ b. holds x page || b) (covers_append page xs ys) ∙ or_assoc (holds x page) (covers xs page) (covers ys page)
-  where
-    or_assoc : (a b c : Bool) → (a || (b || c)) ≡ ((a || b) || c)
-    or_assoc true b c = refl
-    or_assoc false b c = refl
 
 -- The hull covers each of its spans.
 

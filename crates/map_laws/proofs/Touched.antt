@@ -1,18 +1,19 @@
 -- Which pages a section touches; all others are as before.
-use Rattle.std.proofs.Common.{◌≡◌, ◌≢◌, ℕ, zero, suc, ◌+◌, ◌<◌, ◌≤◌, Bool, true, false, ◌||◌, ◌==◌, if◌then◌else◌, List, [], ◌∷◌, map, slice_get, slice_set, Option, Some, None, option_map, refl, ap, ◌∙◌, arith}
+use Rattle.std.proofs.Common.{Bool, List, None, Option, Some, [], ap, arith, false, if◌then◌else◌, map, option_map, refl, slice_get, slice_set, suc, true, zero, ℕ, ◌+◌, ◌<◌, ◌==◌, ◌||◌, ◌∙◌, ◌∷◌, ◌≡◌, ◌≢◌, ◌≤◌}
 use Rattle.std.proofs.lemmas.Bool.Decides.{nat_tests}
-use Rattle.vm_model.specs.declared.areas.Span.{Span}
+use Rattle.vm_model.proofs.Paint.{slice_get-paint}
+use Rattle.vm_model.specs.Areas.{areas_of, areas_starting, mark_live, spans_of}
+use Rattle.vm_model.specs.Effects.{effect_as}
+use Rattle.vm_model.specs.Events.{Carve, CarveGroups, Depopulate, Drop, Fill, Flush, MapPages, Populate, Remove, Return, Section, Settle, TakeWaiting, Unlink, Unmap, Wait}
+use Rattle.vm_model.specs.Frames.{free_frames, give_frames}
+use Rattle.vm_model.specs.PlainMap.{Live, Mark, PlainMap}
+use Rattle.vm_model.specs.Setup.{Setup, groups_at, pages_in_units}
+use Rattle.vm_model.specs.Space.{count_from, covers, holds, is_among, pages_of, paint}
 use Rattle.vm_model.specs.declared.areas.Area.{Area}
 use Rattle.vm_model.specs.declared.areas.AreaKind.{AreaKind}
-use Rattle.vm_model.specs.Space.{holds, covers, is_among, count_from, pages_of, paint}
-use Rattle.vm_model.specs.Setup.{Setup, groups_at, pages_in_units}
-use Rattle.vm_model.specs.PlainMap.{PlainMap, Mark, Live}
-use Rattle.vm_model.specs.Areas.{areas_starting, spans_of, areas_of, mark_live}
-use Rattle.vm_model.specs.Frames.{free_frames, give_frames}
-use Rattle.vm_model.specs.Events.{Section, Carve, CarveGroups, Drop, Return, Settle, Remove, Unlink, Wait, TakeWaiting, MapPages, Populate, Fill, Unmap, Depopulate, Flush}
-use Rattle.vm_model.specs.Effects.{effect_as}
-use Rattle.vm_model.proofs.Paint.{slice_get-paint}
+use Rattle.vm_model.specs.declared.areas.Span.{Span}
 use Rattle.map_laws.proofs.Lists.{set_other}
+use Rattle.map_laws.proofs.OrTests.{or_none}
 use Rattle.map_laws.proofs.Spans.{holds_from}
 
 abbrev pub touch : Setup → PlainMap → Section → ℕ → Bool
@@ -63,10 +64,6 @@ unmarked_live [] marks page e = refl
 unmarked_live (a ∷ areas) marks page e =
     let both = or_none (holds a.span page) (covers (spans_of areas) page) e in
     unmarked_live areas (paint (holds a.span) (Live a.serial) marks) page both.1 ∙ unpainted (holds a.span) (Live a.serial) marks page both.0
-  where
-    or_none : (a b : Bool) → (a || b) ≡ false → (a ≡ false) × (b ≡ false)
-    or_none true b h = cc
-    or_none false b h = (refl, h)
 
 pub spans_of-areas_of : (k first : ℕ) (areas : List (Span × AreaKind)) → spans_of (areas_of k first areas) ≡ map (λ a. a.0) areas
 spans_of-areas_of k first [] = refl
@@ -83,10 +80,6 @@ ungiven (p ∷ pages) (frame ∷ free) frames page e =
     let both = or_none (p == page) (is_among pages page) e in
     ungiven pages free (slice_set frames p (Some frame)) page both.1 ∙ set_other frames p page (Some frame) (differ both.0)
   where
-    or_none : (a b : Bool) → (a || b) ≡ false → (a ≡ false) × (b ≡ false)
-    or_none true b h = cc
-    or_none false b h = (refl, h)
-
     differ : (p == page) ≡ false → page ≢ p
     differ h f = grind (arith, nat_tests)
 

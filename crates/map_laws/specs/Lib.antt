@@ -1,4 +1,4 @@
 pub mod Turns
 pub mod Ends
-pub mod MapTraces
-pub mod EveryTrace
+pub mod Waits
+pub mod Steps

@@ -1,11 +1,11 @@
 //! Laws of the plain map: what holds after each event of every legal history.
 #![tactic(auto)]
 
-ghost use Rattle.vm_model.specs.Laws.{ThePurgeTurnIsTakenLast, MoreFuelChangesNothing};
+ghost use Rattle.vm_model.specs.Laws.{ThePurgeTurnIsTakenLast, MoreFuelChangesNothing, AreasAreDisjointAndAligned, TheGuardIsNeverMapped, FreePagesAreClean, PagesWaitBeforeReuse, PartsOfABlockAreDisjoint, ObjectsAreMappedInEveryUnit, WhatIsCarriedIsKept, HistoriesAreLegal};
 ghost use Rattle.map_laws.specs.Turns.{TheTurnsAreKept};
 ghost use Rattle.map_laws.specs.Ends.{EveryRunEnds, HistoriesAreShort};
-ghost use Rattle.map_laws.specs.EveryTrace.{AreasAreAligned, FramesAreOwned};
-ghost use Rattle.map_laws.specs.MapTraces.{AreasWithoutObjectsAreDisjointAndAligned, TheGuardWithoutObjectsIsNeverMapped, FreePagesAreCleanWithoutObjects, PartsWithoutObjectsAreDisjoint, WhatIsCarriedWithoutObjectsIsKept, HistoriesWithoutObjectsAreLegal, StepsWithoutObjectsAreReached};
+ghost use Rattle.map_laws.specs.Steps.{StepsAreReached};
+ghost use Rattle.map_laws.specs.Waits.{FreedPagesHaveWaited};
 
 /// Each of the two turns is with the one caller whose place has it, and the purge turn is taken last.
 pub fn turns()
@@ -21,21 +21,20 @@ pub fn ends()
     ensures more_fuel { MoreFuelChangesNothing }
 {}
 
-/// In every trace areas start where their kind and their call want it, a frame is one page's, and a stale page has none.
+/// In every trace areas are disjoint and start where their kind and their call want it, a guard is never mapped, free pages
+/// are clean and a frame is one page's, pages wait before they are used again, the parts of a block are disjoint, and a
+/// live object is mapped in every unit and shares no byte with another. What callers carry between two sections is kept,
+/// the history is one legal history in which every caller ends, and each step leads from a world of legal histories to
+/// another.
 pub fn every_trace()
-    ensures aligned { AreasAreAligned }
-    ensures owned { FramesAreOwned }
-{}
-
-/// In traces whose calls use no per-CPU object: areas are disjoint and aligned, a guard is never mapped, free pages are
-/// clean, the parts of a block are disjoint, what callers carry is kept, the history is one legal history in which every
-/// caller ends, and each step of a caller leads from a world of legal histories to another.
-pub fn traces_without_objects()
-    ensures apart { AreasWithoutObjectsAreDisjointAndAligned }
-    ensures guard { TheGuardWithoutObjectsIsNeverMapped }
-    ensures clean { FreePagesAreCleanWithoutObjects }
-    ensures parts { PartsWithoutObjectsAreDisjoint }
-    ensures carried { WhatIsCarriedWithoutObjectsIsKept }
-    ensures legal { HistoriesWithoutObjectsAreLegal }
-    ensures steps { StepsWithoutObjectsAreReached }
+    ensures apart { AreasAreDisjointAndAligned }
+    ensures guard { TheGuardIsNeverMapped }
+    ensures clean { FreePagesAreClean }
+    ensures waits { PagesWaitBeforeReuse }
+    ensures waited { FreedPagesHaveWaited }
+    ensures parts { PartsOfABlockAreDisjoint }
+    ensures objects { ObjectsAreMappedInEveryUnit }
+    ensures carried { WhatIsCarriedIsKept }
+    ensures legal { HistoriesAreLegal }
+    ensures steps { StepsAreReached }
 {}

@@ -69,10 +69,10 @@ module _ (c : Setup) (blocks : List Block) (some : 1 ≤ c.block_pages) (once : 
       by_test old false e was now = was
 
   has_after : (start : ℕ) (change : Block → Block) (at : PartAt) (life life' : Life) → ((b : Block) → (change b).start ≡ b.start) → ((b : Block) → (change b).cpu ≡ b.cpu) → (has : HasPart blocks at life)
-      → (p : Part) (j : ℕ) → p.offset ≡ at.offset → p.life ≡ life'
+      → (p : Part) (j : ℕ) → p.offset ≡ at.offset → p.pages ≡ at.pages → p.life ≡ life'
       → slice_get (if has.block.start == start then change has.block else has.block).parts j ≡ Some p
       → HasPart (change_block start change blocks) at life'
-  has_after start change at life life' keeps keeps_cpu has p j offset lives within = record {
+  has_after start change at life life' keeps keeps_cpu has p j offset pages lives within = record {
     block = if has.block.start == start then change has.block else has.block;
     number = has.number;
     there = slice_get-map (λ (b : Block). if b.start == start then change b else b) blocks has.number ∙ ap (option_map (λ (b : Block). if b.start == start then change b else b)) has.there;
@@ -82,6 +82,7 @@ module _ (c : Setup) (blocks : List Block) (some : 1 ≤ c.block_pages) (once : 
     place = j;
     within = within;
     offset = offset;
+    pages = pages;
     lives = lives;
   }
 
@@ -123,7 +124,7 @@ module _ (c : Setup) (blocks : List Block) (some : 1 ≤ c.block_pages) (once : 
 
   pub cut_others : (k : ℕ) (at at' : PartAt) (life : Life) → HasPart blocks at' life → HasPart (change_block at.block (with_part k at) blocks) at' life
   cut_others k at at' life has =
-      has_after at.block (with_part k at) at' life life (λ b. refl) (λ b. refl) has has.part has.place has.offset has.lives (by_test (has.block.start == at.block))
+      has_after at.block (with_part k at) at' life life (λ b. refl) (λ b. refl) has has.part has.place has.offset has.pages has.lives (by_test (has.block.start == at.block))
     where
       by_test : (t : Bool) → slice_get (if t then with_part k at has.block else has.block).parts has.place ≡ Some has.part
       by_test true = append_first has.block.parts _ has.place has.part has.within
@@ -146,6 +147,7 @@ module _ (c : Setup) (blocks : List Block) (some : 1 ≤ c.block_pages) (once : 
           place = length cut.block.parts;
           within = append_last cut.block.parts new;
           offset = refl;
+          pages = refl;
           lives = refl;
         },
       )
@@ -172,7 +174,7 @@ module _ (c : Setup) (blocks : List Block) (some : 1 ≤ c.block_pages) (once : 
   -- other parts keep theirs
   pub life_others : AreWhole c blocks → (at at' : PartAt) (old new life : Life) → HasPart blocks at old → life ≢ old → HasPart blocks at' life → HasPart (set_life at new blocks) at' life
   life_others whole at at' old new life has other has' =
-      has_after at.block (with_life at new) at' life life (λ b. refl) (λ b. refl) has' has'.part has'.place has'.offset has'.lives (by_test (has'.block.start == at.block) refl)
+      has_after at.block (with_life at new) at' life life (λ b. refl) (λ b. refl) has' has'.part has'.place has'.offset has'.pages has'.lives (by_test (has'.block.start == at.block) refl)
     where
       by_test : (t : Bool) → (has'.block.start == at.block) ≡ t → slice_get (if t then with_life at new has'.block else has'.block).parts has'.place ≡ Some has'.part
       by_test true e = life_within at new has'.block has'.place has'.part has'.part has'.within
@@ -181,7 +183,7 @@ module _ (c : Setup) (blocks : List Block) (some : 1 ≤ c.block_pages) (once : 
 
   pub life_own : (at : PartAt) (old new : Life) → HasPart blocks at old → HasPart (set_life at new blocks) at new
   life_own at old new has =
-      has_after at.block (with_life at new) at old new (λ b. refl) (λ b. refl) has (record has.part { life = new }) has.place has.offset refl
+      has_after at.block (with_life at new) at old new (λ b. refl) (λ b. refl) has (record has.part { life = new }) has.place has.offset has.pages refl
       (ap (λ t. slice_get (if t then with_life at new has.block else has.block).parts has.place) (is_equal has.block.start at.block has.start)
       ∙ life_within at new has.block has.place has.part (record has.part { life = new }) has.within (life_at at new has.part has.offset))
 
@@ -193,7 +195,7 @@ module _ (c : Setup) (blocks : List Block) (some : 1 ≤ c.block_pages) (once : 
   pub filter_has : (stays : Block → Bool) (at : PartAt) (life : Life) → (has : HasPart blocks at life) → stays has.block ≡ true → HasPart (filter stays blocks) at life
   filter_has stays at life has e =
       let w = filter_keeps stays blocks has.number has.block has.there e in
-      record { block = has.block; number = w.0; there = w.1; start = has.start; cpu = has.cpu; part = has.part; place = has.place; within = has.within; offset = has.offset; lives = has.lives }
+      record { block = has.block; number = w.0; there = w.1; start = has.start; cpu = has.cpu; part = has.part; place = has.place; within = has.within; offset = has.offset; pages = has.pages; lives = has.lives }
 
   -- a block with a part that hasn't ended isn't among the fragmented ones
   not_both : (a b : Bool) → (b ≡ true → ⊥) → not (a && b) ≡ true
@@ -245,6 +247,7 @@ module _ (c : Setup) (blocks : List Block) (some : 1 ≤ c.block_pages) (once : 
           place = within.0;
           within = within.1;
           offset = ap (λ (a : PartAt). a.offset) made.2;
+          pages = ap (λ (a : PartAt). a.pages) made.2;
           lives = lives_is serial made.0.life (both_true _ _ (filter_passes (is_named page serial b) b.parts j made.0 made.1)).1;
         };
       })
@@ -278,7 +281,7 @@ module _ (c : Setup) (blocks : List Block) (some : 1 ≤ c.block_pages) (once : 
       let row = ended_row at life' whole has.number has.block has.there in
       let unspent = unspent_with c has.block has.place has.part row.within has.within (ap is_ended has.lives ∙ goes) in
       let w = filter_keeps (λ (b : Block). not (is_spent c b)) (set_life at life' blocks) has.number has.block has.there (ap not unspent) in
-      record { block = has.block; number = w.0; there = w.1; start = has.start; cpu = has.cpu; part = has.part; place = has.place; within = has.within; offset = has.offset; lives = has.lives }
+      record { block = has.block; number = w.0; there = w.1; start = has.start; cpu = has.cpu; part = has.part; place = has.place; within = has.within; offset = has.offset; pages = has.pages; lives = has.lives }
 
   pub retire_others : (at at' : PartAt) (old life : Life) → AreWhole c blocks → HasPart blocks at old → life ≢ old → is_ended life ≡ false → HasPart blocks at' life
       → HasPart (without_spent c (set_life at Ended blocks)) at' life

@@ -155,6 +155,7 @@ module _ (c : Setup) (m : PlainMap) (k : ℕ) (whole : IsWhole c m) where
       place = has.place;
       within = has.within;
       offset = has.offset;
+      pages = has.pages;
       lives = has.lives;
     })
 
@@ -171,6 +172,7 @@ module _ (c : Setup) (m : PlainMap) (k : ℕ) (whole : IsWhole c m) where
           place = 0;
           within = refl;
           offset = refl;
+          pages = refl;
           lives = refl;
         }
 

@@ -79,7 +79,7 @@ first_locals : (c : Setup) (m : PlainMap) (l : Local) → IsSoundLocal c m 0 l �
 first_locals c m l sound zero x at = let same : l ≡ x = cc in subst (IsSoundLocal c m 0) same sound
 first_locals c m l sound (suc j) x at = absurd cc
 
-opening_keeps : (c : Setup) (opening : List Call) (calls : List (List Call)) → IsTrace c opening calls → KeepsApart c (opening_world c opening calls)
+pub opening_keeps : (c : Setup) (opening : List Call) (calls : List (List Call)) → IsTrace c opening calls → KeepsApart c (opening_world c opening calls)
 opening_keeps c opening calls trace =
     let room : ℕ = placing_calls (opening ∷ calls) in
     let start : IsStarted c (at_first c room) 0 (started c [] 0 opening) = starts c (at_first c room) [] 0 opening trace.setup (λ i answer at. absurd cc) (sound_calls c [] [] opening trace.opening_ruled) in
@@ -147,7 +147,7 @@ module _ (c : Setup) (opening : List Call) (calls : List (List Call)) (w : World
     | inr v ↦ let number : 1 + v.0 ≡ j = omega arith in subst (λ n. IsSoundLocal c w.map n l) number (caller_started v.0 l v.2).sound
   ]
 
-  callers_keep : KeepsApart c (with_callers c calls w)
+  pub callers_keep : KeepsApart c (with_callers c calls w)
   callers_keep = record { whole = kept.whole; owners = subst (HaveOneOwner c (pool_of w.map)) (λ i counts page. all_owners counts page i) kept.owners; locals = all_sound }
 
 pub reached_worlds_keep_apart : ReachedWorldsKeepApart

@@ -36,6 +36,7 @@ pub record HasPart (blocks : List Block) (at : PartAt) (life : Life) : Type 0 wh
   pub place : ℕ
   pub within : slice_get block.parts place ≡ Some part
   pub offset : part.offset ≡ at.offset
+  pub pages : part.pages ≡ at.pages
   pub lives : part.life ≡ life
 
 -- a serial that was given, and not to an area of a block or a chunk

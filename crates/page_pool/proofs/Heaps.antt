@@ -9,15 +9,15 @@ use Rattle.std.specs.Ordering.{nat_cmp, is_lt}
 use Rattle.std.specs.declared.cmp.Ordering.TheVariants.{Less, Equal, Greater}
 use Rattle.std.specs.BinaryHeap.{IsUpperBound}
 use Rattle.std.specs.declared.cmp.Reverse.{Reverse}
-use Rattle.vm_model.specs.Space.{count_from, one_if, put_by}
+use Rattle.vm_model.specs.Space.{count_from, is_among, one_if, put_by}
 use Rattle.page_pool.specs.FrameList.{FrameList, holds_frame, times_held, lowest_first}
-use Rattle.page_pool.proofs.Rows.{one_if-below, one_if-above, one_if-cond, filter-alike, filter-all, filter-none, length-put_by, put_by-least, filter-puts}
+use Rattle.page_pool.proofs.Rows.{one_if-below, one_if-above, one_if-cond, filter-alike, filter-all, filter-none, length-put_by, put_by-least, filter-puts, among, length-filter-fewer, same_or_apart}
 
 -- each frame is in the heap at most once, and only frames of memory
-abbrev pub IsOnce : ℕ → List (Reverse ℕ) → Type 0
+abbrev IsOnce : ℕ → List (Reverse ℕ) → Type 0
 IsOnce memory items = (frame : ℕ) → times_held frame items ≤ one_if (nat_lt frame memory)
 
-abbrev frame_list : List ℕ → ℕ → FrameList
+abbrev pub frame_list : List ℕ → ℕ → FrameList
 frame_list numbers memory = record { numbers = numbers; memory = memory }
 
 -- How often a frame is in a heap.
@@ -112,3 +112,38 @@ times_pushed frame old new r moved each = sum_by_pushed (λ (r : Reverse ℕ). c
 
 pub lowest_first-all : (memory : ℕ) (items : List (Reverse ℕ)) → ((f : ℕ) → times_held f items ≡ one_if (nat_lt f memory)) → lowest_first items memory ≡ record { numbers = count_from memory 0; memory = memory }
 lowest_first-all memory items each = ap (λ numbers. frame_list numbers memory) (filter-all (holds_frame items) memory 0 (λ i a b. held_from i items (omega (arith, each i, one_if-below i memory (omega arith)))))
+
+-- A frame is put back.
+
+untaken : (memory frame : ℕ) (items : List (Reverse ℕ)) → frame < memory → is_among (lowest_first items memory).numbers frame ≡ false → holds_frame items frame ≡ false
+untaken memory frame items within taken = false_from_ne_true (holds_frame items frame) (λ held. false≢true (sym taken ∙ among (holds_frame items) frame memory 0 held (omega arith) (omega arith)))
+
+pub fewer_held : (memory frame : ℕ) (items : List (Reverse ℕ)) → IsOnce memory items → frame < memory → is_among (lowest_first items memory).numbers frame ≡ false → length items < memory
+fewer_held memory frame items once within taken =
+    omega (arith, length-lowest_first memory items once, length-filter-fewer (holds_frame items) frame memory (untaken memory frame items within taken) within)
+
+none_held : (frame : ℕ) (items : List (Reverse ℕ)) → holds_frame items frame ≡ false → times_held frame items ≡ 0
+none_held frame items h = elim (cases_lt 0 (times_held frame items)) [
+  | inl some ↦ absurd (false≢true (sym h ∙ held_from frame items some))
+  | inr none ↦ omega arith
+]
+
+pub once_pushed : (memory : ℕ) (r : Reverse ℕ) (old new : List (Reverse ℕ)) → IsPermutation (r ∷ old) new → IsOnce memory old → r.0 < memory → is_among (lowest_first old memory).numbers r.0 ≡ false → IsOnce memory new
+once_pushed memory r old new moved once within taken frame =
+    let more : times_held frame new ≡ cond (r.0 == frame) 1 0 + times_held frame old = sum_by_pushed (λ (r : Reverse ℕ). cond (r.0 == frame) 1 0) r old new moved in
+    elim (same_or_apart r.0 frame) [
+      | inl same ↦
+          let here : one_if (r.0 == frame) ≡ 1 = ap one_if (let e : (r.0 == frame) ≡ true = grind (arith, nat_tests) in e) in
+          let none : times_held frame old ≡ 0 = ap (λ f. times_held f old) (sym same) ∙ none_held r.0 old (untaken memory r.0 old within taken) in
+          omega (arith, one_if-cond (r.0 == frame), one_if-below frame memory (omega arith))
+      | inr apart ↦
+          let other : one_if (r.0 == frame) ≡ 0 = ap one_if (let e : (r.0 == frame) ≡ false = grind (arith, nat_tests) in e) in
+          omega (arith, one_if-cond (r.0 == frame), once frame)
+    ]
+
+pub lowest_first-pushed : (memory : ℕ) (r : Reverse ℕ) (old new : List (Reverse ℕ)) → IsPermutation (r ∷ old) new → r.0 < memory → is_among (lowest_first old memory).numbers r.0 ≡ false
+    → lowest_first new memory ≡ record { numbers = put_by (λ n. n) r.0 (lowest_first old memory).numbers; memory = memory }
+lowest_first-pushed memory r old new moved within taken =
+    ap (λ numbers. frame_list numbers memory)
+    (filter-alike (holds_frame new) (holds_frame (r ∷ old)) memory 0 (λ i a b. sym (list_any-IsPermutation (λ (r : Reverse ℕ). r.0 == i) (r ∷ old) new moved))
+    ∙ filter-puts (holds_frame old) r.0 memory 0 (untaken memory r.0 old within taken) (omega arith) (omega arith))

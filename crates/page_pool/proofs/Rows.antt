@@ -1,9 +1,10 @@
 -- The numbers of a row that pass a test.
-use Rattle.std.proofs.Common.{◌≡◌, ◌≢◌, ℕ, zero, suc, ◌+◌, ◌<◌, ◌≤◌, inl, inr, Bool, true, false, ◌||◌, ◌==◌, cond, nat_lt, if◌then◌else◌, List, [], ◌∷◌, length, filter, refl, ap, sym, ◌∙◌, subst, arith}
-use Rattle.std.proofs.lemmas.Bool.{cases_lt}
+use Rattle.std.proofs.Common.{◌≡◌, ◌≢◌, ℕ, zero, suc, ◌+◌, ◌<◌, ◌≤◌, ◌⊎◌, inl, inr, Bool, true, false, ◌||◌, ◌==◌, cond, nat_lt, if◌then◌else◌, List, [], ◌∷◌, length, filter, take, drop, ◌++◌, refl, ap, sym, ◌∙◌, subst, arith}
+use Rattle.std.proofs.lemmas.Bool.{cases_lt, or_right, false≢true}
 use Rattle.std.proofs.lemmas.Bool.Decides.{nat_tests}
+use Rattle.std.proofs.lemmas.List.{drop_all, take_all, append-nil}
 use Rattle.std.proofs.lemmas.List.Sums.{length-filter, count_by-le-length}
-use Rattle.vm_model.specs.Space.{count_from, one_if, put_by}
+use Rattle.vm_model.specs.Space.{count_from, is_among, one_if, put_by}
 use Rattle.vm_model.proofs.Search.{length-count_from}
 
 pub one_if-below : (n m : ℕ) → n < m → one_if (nat_lt n m) ≡ 1
@@ -39,6 +40,19 @@ filter-none p n first h = filter-alike p (λ i. false) n first (λ i a b. h i) �
 
 pub length-filter-row : (p : ℕ → Bool) (n first : ℕ) → length (filter p (count_from n first)) ≤ n
 length-filter-row p n first = omega (arith, length-filter p (count_from n first), count_by-le-length p (count_from n first), length-count_from n first)
+
+-- a part of a `Vec` that is the whole, after it was written to
+pub written_back : {X : Type 0} (n : ℕ) (new old : List X) → n ≡ length old → length new ≡ length old → take n (new ++ drop (length new) old) ≡ new
+written_back n new old whole same =
+    ap (λ rest. take n (new ++ rest)) (drop_all (length new) old (omega arith)) ∙ ap (take n) (append-nil new) ∙ take_all n new (omega arith)
+
+-- two numbers are the same, or apart
+same_if : (x y : ℕ) (b : Bool) → (x == y) ≡ b → (x ≡ y) ⊎ (x ≢ y)
+same_if x y true e = inl (let same : x ≡ y = grind (arith, nat_tests) in same)
+same_if x y false e = inr (λ same. let other : x ≡ y = same in grind (arith, nat_tests))
+
+pub same_or_apart : (x y : ℕ) → (x ≡ y) ⊎ (x ≢ y)
+same_or_apart x y = same_if x y _ refl
 
 -- A number that is put among those that pass.
 
@@ -89,3 +103,46 @@ filter-puts q x (suc n) first fails low high = elim (cases_lt first x) [
       let same : x ≡ first = omega arith in
       subst (λ i. filter (λ j. (x == j) || q j) (count_from (suc n) i) ≡ put_by (λ n. n) x (filter q (count_from (suc n) i))) same (put_here q x n fails)
 ]
+
+-- Which numbers are among those that pass.
+
+passes_among : (p : ℕ → Bool) (x y : ℕ) (ys : List ℕ) (b : Bool) → p y ≡ b → p x ≡ false → is_among (filter p ys) x ≡ false → is_among (cond b (y ∷ filter p ys) (filter p ys)) x ≡ false
+passes_among p x y ys true e fails rest = elim (same_or_apart y x) [
+  | inl same ↦ absurd (false≢true (sym (ap p same ∙ fails) ∙ e))
+  | inr apart ↦ test_adds (is_among (filter p ys)) y x apart ∙ rest
+]
+passes_among p x y ys false e fails rest = rest
+
+pub not_among : (p : ℕ → Bool) (x : ℕ) (ys : List ℕ) → p x ≡ false → is_among (filter p ys) x ≡ false
+not_among p x [] fails = refl
+not_among p x (y ∷ ys) fails = passes_among p x y ys _ refl fails (not_among p x ys fails)
+
+first_among : (x : ℕ) (ys : List ℕ) → is_among (x ∷ ys) x ≡ true
+first_among x ys = let e : (x == x) ≡ true = grind (arith, nat_tests) in ap (λ b. b || is_among ys x) e
+
+still_among : (x y : ℕ) (ys : List ℕ) (b : Bool) → is_among ys x ≡ true → is_among (cond b (y ∷ ys) ys) x ≡ true
+still_among x y ys true h = or_right _ _ h
+still_among x y ys false h = h
+
+pub among : (p : ℕ → Bool) (x n first : ℕ) → p x ≡ true → first ≤ x → x < first + n → is_among (filter p (count_from n first)) x ≡ true
+among p x zero first passes low high = absurd (omega arith)
+among p x (suc n) first passes low high = elim (same_or_apart first x) [
+  | inl same ↦ ap (λ b. is_among (cond b (first ∷ filter p (count_from n (suc first))) (filter p (count_from n (suc first)))) x) (ap p same ∙ passes)
+      ∙ subst (λ i. is_among (i ∷ filter p (count_from n (suc first))) x ≡ true) (sym same) (first_among x (filter p (count_from n (suc first))))
+  | inr apart ↦ still_among x first (filter p (count_from n (suc first))) (p first) (among p x n (suc first) passes (omega arith) (omega arith))
+]
+
+-- the first that passes
+first_if : (p : ℕ → Bool) (n first x : ℕ) (rest : List ℕ) (b : Bool) → p first ≡ b → cond b (first ∷ filter p (count_from n (suc first))) (filter p (count_from n (suc first))) ≡ x ∷ rest
+    → (filter p (count_from n (suc first)) ≡ x ∷ rest → (p x ≡ true) × (x < suc first + n)) → (p x ≡ true) × (x < first + suc n)
+first_if p n first x rest true e h more = let same : first ≡ x = cc in (ap p (sym same) ∙ e, omega arith)
+first_if p n first x rest false e h more = let later = more h in (later.0, omega arith)
+
+pub first_passes : (p : ℕ → Bool) (n first x : ℕ) (rest : List ℕ) → filter p (count_from n first) ≡ x ∷ rest → (p x ≡ true) × (x < first + n)
+first_passes p zero first x rest h = absurd (let e : length (x ∷ rest) ≡ 0 = ap length (sym h) in omega arith)
+first_passes p (suc n) first x rest h = first_if p n first x rest _ refl h (first_passes p n (suc first) x rest)
+
+-- fewer pass where one does not
+pub length-filter-fewer : (p : ℕ → Bool) (x n : ℕ) → p x ≡ false → x < n → length (filter p (count_from n 0)) < n
+length-filter-fewer p x n fails low =
+    omega (arith, ap length (filter-puts p x n 0 fails (omega arith) (omega arith)), length-put_by x (filter p (count_from n 0)), length-filter-row (λ i. (x == i) || p i) n 0)

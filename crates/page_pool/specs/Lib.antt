@@ -2,3 +2,4 @@ pub mod Pages
 pub mod FrameList
 pub mod StaleList
 pub mod Words
+pub mod Sections

@@ -1,6 +1,6 @@
 //! The free frames of memory.
-ghost use Rattle.std.specs.Prelude.{◌≡◌, ◌<◌, ◌∷◌, IfOk, length};
-ghost use Rattle.vm_model.specs.Space.{count_from};
+ghost use Rattle.std.specs.Prelude.{◌≡◌, ◌<◌, ◌∷◌, false, IfOk, length};
+ghost use Rattle.vm_model.specs.Space.{count_from, is_among, put_by};
 ghost use Rattle.page_pool.specs.FrameList.{FrameList};
 
 use std::alloc::{AllocError, Global};
@@ -54,5 +54,16 @@ impl FreeFrames {
             Some(Reverse(frame)) => frame,
             None => unreachable!(),
         }
+    }
+
+    /// Gives a frame back.
+    pub(crate) fn put_back(&mut self, frame: u32)
+        requires memory { frame < self.old.memory }
+        requires taken { is_among self.old.numbers frame ≡ false }
+        ensures { self.new ≡ record self.old { numbers = put_by (λ n. n) frame self.old.numbers } }
+    {
+        let Ok(()) = self.heap.push(Reverse(frame)) else {
+            unreachable!();
+        };
     }
 }

@@ -3,6 +3,7 @@
 
 mod cells;
 mod free_frames;
+pub mod laws;
 mod page_side;
 mod stale_pages;
 

@@ -6,7 +6,6 @@ use Rattle.vm_model.specs.Carried.{held, fresh}
 use Rattle.vm_model.specs.Legal.{OnEach}
 use Rattle.std.proofs.lemmas.Option.{slice_get-map, slice_get_within}
 use Rattle.vm_model.specs.declared.calls.Call.{Call}
-use Rattle.vm_model.specs.declared.calls.Call.TheVariants.{Vmalloc}
 use Rattle.vm_model.specs.declared.areas.Span.{Span}
 use Rattle.vm_model.specs.Space.{span, holds, covers, runs, end_of, is_open, count_from}
 use Rattle.vm_model.specs.Setup.{Setup, cpus}
@@ -14,14 +13,12 @@ use Rattle.vm_model.specs.PlainMap.{PlainMap, Mark, Held, is_free, taken, free_r
 use Rattle.vm_model.specs.Legal.{IsMarked}
 use Rattle.vm_model.specs.Places.{Place, Dropping, MappingArea}
 use Rattle.vm_model.specs.History.{World, Local, most_events}
-use Rattle.vm_model.specs.Rules.{IsVmallocCall}
 use Rattle.vm_model.specs.Carried.{IsKept}
 use Rattle.vm_model.specs.Parts.{Region, Desk, PurgeTurn, AllocTurn, FreeRuns, LiveAreas, WaitingSpans, Pages, Percpu, CpuBlocks, regions_of, cpu_blocks, wants}
 use Rattle.vm_model.specs.Run.{StandTogether}
 use Rattle.vm_model.proofs.Runs.{covers-runs}
 use Rattle.map_parts.specs.Kept.{KeepsApart, IsSoundLocal}
 use Rattle.map_parts.proofs.ReachedKept.{reached_worlds_keep_apart}
-use Rattle.map_laws.specs.MapTraces.{AreWithoutObjects, IsMapCall}
 use Rattle.map_laws.proofs.CarriedKept.{carried_kept}
 use Rattle.map_laws.proofs.EndProofs.{histories_short}
 use Rattle.section_core.specs.declared.place.Place.{Place as Code}
@@ -70,17 +67,6 @@ holds_last s some = grind (arith, nat_tests)
 holds_front : (s : Span) (page : ℕ) → holds (span s.start (s.pages - 1)) page ≡ true → holds s page ≡ true
 holds_front s page h = grind (arith, nat_tests)
 
--- calls of the built words use no object
-map_call : (call : Call) → IsVmallocCall (Some call) → IsMapCall call
-map_call (Vmalloc bytes align) is = tt
-map_call _ is = absurd is
-
-pub without_objects : (c : Setup) (opening : List Call) (calls : List (List Call)) (w : World) → IsRunning c opening calls w → AreWithoutObjects opening calls
-without_objects c opening calls w is = record {
-  of_opening = λ i call h. map_call call (is.opening_built i call h);
-  of_callers = λ k own h i call at. map_call call (is.callers_built k own h i call at);
-}
-
 -- a caller of a run
 module _ (c : Setup) (opening : List Call) (calls : List (List Call)) (w : World) (is : IsRunning c opening calls w) (k : ℕ) (l : Local) (here : slice_get w.locals k ≡ Some l) where
   apart : KeepsApart c w
@@ -90,7 +76,7 @@ module _ (c : Setup) (opening : List Call) (calls : List (List Call)) (w : World
   sound = apart.locals k l here
 
   kept : IsKept c w
-  kept = carried_kept c opening calls w is.trace (without_objects c opening calls w is) is.reached
+  kept = carried_kept c opening calls w is.trace is.reached
 
   -- it has made fewer events than 32 bits can count
   pub few_events : l.events + 1 < 2 ^ 32

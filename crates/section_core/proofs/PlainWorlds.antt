@@ -1,31 +1,26 @@
 -- A world of vmalloc calls: nothing waits, and there is no block and no chunk.
-use Rattle.std.proofs.Common.{filter, not, ◌&&◌, ◌==◌, ◌≡◌, ℕ, zero, suc, ◌+◌, ◌<◌, inl, inr, Bool, true, false, nat_lt, if◌then◌else◌, List, [], ◌∷◌, ◌++◌, length, slice_get, Option, Some, None, refl, ap, sym, ◌∙◌, subst, arith}
+use Rattle.std.proofs.Common.{filter, not, ◌&&◌, ◌==◌, ◌≡◌, ℕ, zero, suc, ◌<◌, inl, inr, Bool, true, false, nat_lt, if◌then◌else◌, List, [], ◌∷◌, length, slice_get, Option, Some, None, refl, ap, sym, subst}
 use Rattle.vm_model.specs.declared.areas.Span.{Span}
 use Rattle.vm_model.specs.declared.areas.AreaKind.{AreaKind}
 use Rattle.vm_model.specs.declared.calls.Call.{Call}
-use Rattle.vm_model.specs.declared.calls.Call.TheVariants.{Vmalloc, Vfree, MapRam, UnmapRam, UnmapAliases, AllocPercpu, AllocAtomic, FreePercpu, Add, Sum, Balance}
-use Rattle.vm_model.specs.declared.calls.Reply.TheVariants as reply
+use Rattle.vm_model.specs.declared.calls.Call.TheVariants.{Vmalloc}
 use Rattle.vm_model.specs.Space.{lowest, is_among}
 use Rattle.vm_model.specs.Setup.{Setup, cpus}
 use Rattle.vm_model.specs.PlainMap.{PlainMap, Block, taken}
 use Rattle.vm_model.specs.Blocks.{fragmented}
-use Rattle.vm_model.specs.Frames.{free_frames}
-use Rattle.vm_model.specs.Events.{Section, Search, ForPages, ForGroups, Refuse, TakePurge, GivePurge, Carve, NoHole, Drop, Settle, TakeWaiting, MapPages, NoFrames, Fragment}
+use Rattle.vm_model.specs.Events.{Section, Search, ForPages, Refuse, TakePurge, GivePurge, Carve, NoHole, Drop, Settle, TakeWaiting, MapPages, NoFrames, Fragment}
 use Rattle.vm_model.specs.Effects.{effect_as}
-use Rattle.vm_model.specs.Told.{had_frames}
-use Rattle.vm_model.specs.Places.{Place, Over, Refusing, Finding, FindingAgain, MappingArea, Dropping, SettlingArea, PurgeTaking, PurgeFragmenting, PurgeCollecting, PurgeGiving, Made, Aim, ForArea, ForBlock, ForChunk, Then, SearchAgain, ask}
-use Rattle.vm_model.specs.Next.{Next, Go, Answer, next, found, after_fragments}
-use Rattle.vm_model.specs.Calls.{Answered, begin, begin_call, begin_vmalloc, is_bad_vmalloc_size, is_bad_vmalloc_align}
-use Rattle.vm_model.specs.Given.{given, carving, taking, with_frames}
-use Rattle.vm_model.specs.History.{World, Local, started, moved_to, made_by, opening_world, opening_answers, callers_from, with_callers}
-use Rattle.vm_model.specs.LegalHistory.{IsReached}
+use Rattle.vm_model.specs.Places.{Place, Over, Refusing, Finding, FindingAgain, MappingArea, Dropping, SettlingArea, PurgeTaking, PurgeFragmenting, PurgeCollecting, PurgeGiving, Aim, ForArea, Then, SearchAgain, ask}
+use Rattle.vm_model.specs.Next.{Next, Go, Answer, next}
+use Rattle.vm_model.specs.Calls.{Answered, begin, is_bad_vmalloc_size, is_bad_vmalloc_align}
+use Rattle.vm_model.specs.Given.{given, carving, taking}
+use Rattle.vm_model.specs.History.{World, Local, started, moved_to, made_by, opening_world, opening_answers, callers_from}
 use Rattle.vm_model.specs.Rules.{IsVmallocCall}
 use Rattle.map_laws.proofs.Lists.{set_cases, append_cases}
 use Rattle.map_laws.proofs.Frames.{IsFramed, IsStep, IsLasting, lasts, not_over, has_call}
 use Rattle.map_laws.proofs.Places.{OnNext, answers_call, either_next, either_place}
 use Rattle.section_core.specs.Locals.{AreVmalloc}
 use Rattle.section_core.specs.Lawful.{IsRunning}
-use Rattle.section_core.proofs.Answered.{is_vmalloc}
 
 -- a search for pages of an area, and a purge with nothing in hand before it
 abbrev pub IsAreaSearch : Search → Aim → Type 0

@@ -27,7 +27,6 @@ use Rattle.section_core.specs.declared.region.Stepped.TheVariants.{Moved, Stays,
 use Rattle.section_core.specs.Sections.{IsMoved, HasStayed, Answers}
 use Rattle.section_core.specs.Lawful.{IsRunning, IsLawful}
 use Rattle.section_core.specs.Kernels.{KernelState, IsStanding, IsSomewhere, IsSteppedAs, SectionAs, movers}
-use Rattle.section_core.proofs.LawfulRegions.{without_objects}
 
 set_there : {X : Type 0} (xs : List X) (i : ℕ) (x : X) → slice_get xs i ≡ Some x → slice_set xs i x ≡ xs
 set_there [] i x at = cc
@@ -87,7 +86,7 @@ module _ (c : Setup) (opening : List Call) (calls : List (List Call)) (w : World
     trace = is.trace;
     opening_built = is.opening_built;
     callers_built = is.callers_built;
-    reached = (steps_reached c opening calls is.trace (without_objects c opening calls w is)).steps w k is.reached;
+    reached = (steps_reached c opening calls is.trace).steps w k is.reached;
   }
 
   pub next_state : (k : ℕ) → section_by wants moves after (state_of c w) k (slice_get w.locals k) ≡ state_of c (step w k)

@@ -1,22 +1,19 @@
 -- Where a kernel starts.
-use Rattle.std.proofs.Common.{slice_index_or, ◌≡◌, ℕ, zero, suc, ◌+◌, ◌<◌, ◌≤◌, inl, inr, Bool, true, false, not, List, [], ◌∷◌, ◌++◌, length, map, replicate, take, drop, remove, slice_get, sum_by, count_by, cond, Option, Some, None, refl, ap, sym, ◌∙◌, subst, arith, append_assoc, length-append, add-one}
+use Rattle.std.proofs.Common.{slice_index_or, ◌≡◌, ℕ, zero, suc, ◌+◌, ◌≤◌, inl, false, not, List, [], ◌∷◌, ◌++◌, length, map, replicate, remove, slice_get, sum_by, count_by, cond, Some, refl, ap, sym, ◌∙◌, arith, append_assoc, length-append, add-one}
 use Rattle.std.proofs.lemmas.Option.{slice_get_read}
 use Rattle.std.proofs.lemmas.List.Sums.{sum_by-cons}
 use Rattle.vm_model.specs.declared.calls.Call.{Call}
-use Rattle.vm_model.specs.declared.calls.Call.TheVariants.{Vmalloc, Vfree, MapRam, UnmapRam, UnmapAliases, AllocPercpu, AllocAtomic, FreePercpu, Add, Sum, Balance}
+use Rattle.vm_model.specs.declared.calls.Call.TheVariants.{Vmalloc}
 use Rattle.vm_model.specs.Space.{runs}
 use Rattle.vm_model.specs.Setup.{Setup}
-use Rattle.vm_model.specs.PlainMap.{PlainMap, Mark, Free, is_free, at_first}
+use Rattle.vm_model.specs.PlainMap.{Free, is_free, at_first}
 use Rattle.vm_model.specs.Calls.{Answered, can_place}
-use Rattle.vm_model.specs.History.{World, Local, started, placing_calls, opening_world, callers_from, opening_answers, with_callers, finish, most_events}
+use Rattle.vm_model.specs.History.{World, Local, started, placing_calls, opening_world, callers_from, opening_answers, finish, most_events}
 use Rattle.vm_model.specs.Parts.{Region, regions_of}
-use Rattle.vm_model.specs.Rules.{IsVmallocCall, IsTrace}
-use Rattle.map_laws.specs.MapTraces.{AreWithoutObjects}
+use Rattle.vm_model.specs.Rules.{IsVmallocCall}
 use Rattle.map_laws.proofs.ReachedSteps.{steps_reached}
 use Rattle.section_core.specs.Locals.{AreVmalloc}
-use Rattle.section_core.specs.Lawful.{IsRunning}
 use Rattle.section_core.specs.Kernels.{KernelState, IsStanding, CanStart, CanJoin, start_of, opening_of, callers_of}
-use Rattle.section_core.proofs.LawfulRegions.{without_objects}
 
 map-replicate : {X Y : Type 0} (f : X → Y) (n : ℕ) (x : X) → map f (replicate n x) ≡ replicate n (f x)
 map-replicate f zero x = refl
@@ -66,7 +63,7 @@ stands_joined c sections old new callers can regions locals moved =
         trace = can.can.trace;
         opening_built = st.running.opening_built;
         callers_built = st.running.callers_built;
-        reached = (steps_reached c (opening_of sections) (callers_of sections) can.can.trace (without_objects c (opening_of sections) (callers_of sections) w st.running)).started;
+        reached = (steps_reached c (opening_of sections) (callers_of sections) can.can.trace).started;
       };
       regions = regions ∙ st.regions;
       locals = locals ∙ ap (λ ls. ls ++ callers) st.locals ∙ ap (λ xs. w.locals ++ xs) same;

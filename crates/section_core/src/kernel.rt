@@ -22,8 +22,8 @@ use std::alloc::{AllocError, Global};
 use std::marker::Model;
 use std::sync::Arc;
 use vm_model::{
-    BlockList, CallerCalls, CallsList, ChunkAuditList, ChunkList, Config, Entry, EntryList, HintList,
-    ObjectList, PartList, Span, SpanList, Tables,
+    BlockList, CallerCalls, CallsList, ChunkAuditList, ChunkList, Config, Entry, EntryList,
+    HintList, ObjectList, PartList, Span, SpanList, Tables,
 };
 
 /// More events than any trace makes.

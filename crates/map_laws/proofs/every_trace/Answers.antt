@@ -1,5 +1,10 @@
-use Rattle.map_laws.proofs.EveryTraceProofs.{areas_aligned, frames_owned}
+use Rattle.map_laws.proofs.MapLaws.{areas_apart, guard_unmapped, free_clean, parts_disjoint}
+use Rattle.map_laws.proofs.ObjectLaws.{objects_mapped}
+use Rattle.map_laws.proofs.CarriedKept.{carried_kept}
+use Rattle.map_laws.proofs.ObjectsReady.{histories_legal}
+use Rattle.map_laws.proofs.ReachedSteps.{steps_reached}
+use Rattle.map_laws.proofs.WaitReached.{pages_wait, freed_pages_waited}
 use Rattle.map_laws.proofs.every_trace.Goals as goal
 
 pub returns : goal.returns
-returns c = record { aligned = areas_aligned; owned = frames_owned }
+returns c = record { apart = areas_apart; guard = guard_unmapped; clean = free_clean; waits = pages_wait; waited = freed_pages_waited; parts = parts_disjoint; objects = objects_mapped; carried = carried_kept; legal = histories_legal; steps = steps_reached }

@@ -1,8 +1,8 @@
-use Rattle.std.proofs.Common.{◌≡◌, ◌<◌, ◌+◌, ◌-◌, ◌++◌, ◌∷◌, [], ℕ, Some, option_map, slice_get, slice_index_or, map, take, length, sym, ◌∙◌, ap, subst, refl, arith, add-one, length-append}
-use Rattle.std.proofs.lemmas.List.{map-append, take_all}
+use Rattle.std.proofs.Common.{◌≡◌, ◌+◌, ◌-◌, option_map, slice_get, map, length, sym, ◌∙◌, ap, arith, length-append}
+use Rattle.std.proofs.lemmas.List.{take_all}
 use Rattle.std.proofs.lemmas.Option.{slice_get-get_or}
 use Rattle.history_book.specs.declared.noted.Noted.{Noted}
-use Rattle.section_core.specs.Locals.{answer_of, answer_with, answers_with}
+use Rattle.section_core.specs.Locals.{answer_of, answers_with}
 use Rattle.section_core.proofs.Answered.{answers_at, told_more, row_by, length-answers_with}
 use Rattle.section_core.proofs.local.answers_noted.Goals as goal
 
@@ -14,11 +14,11 @@ loop-index-preserved c = record {
       let calls = c.requires.calls in
       let i : c.loop-index.index + 1 - 1 ≡ c.loop-index.index = omega arith in
       let row = row_by (slice_get c.args.book.now.rows c.loop-index.index) c.reply_at.result c.own_event_at.result
-          (ap (λ n. option_map (λ (x : Noted). x.reply) (slice_get c.args.book.now.rows n)) (sym i) ∙ c.reply_at.ensures)
-          (ap (λ n. option_map (λ (x : Noted). x.own_event) (slice_get c.args.book.now.rows n)) (sym i) ∙ c.own_event_at.ensures.place) in
+      (ap (λ n. option_map (λ (x : Noted). x.reply) (slice_get c.args.book.now.rows n)) (sym i) ∙ c.reply_at.ensures)
+      (ap (λ n. option_map (λ (x : Noted). x.own_event) (slice_get c.args.book.now.rows n)) (sym i) ∙ c.own_event_at.ensures.place) in
       told_more c.loop-index.answers.items _ c.push_reserved.new.self.items (answers_with c.args.calls.now c.args.book.now.rows c.args.made.now) c.loop-index.index c.push_reserved.ensures.items c.loop-index.invariant.told
       (answers_at c.args.calls.now c.args.book.now.rows c.args.made.now c.loop-index.index _ (record { reply = c.reply_at.result; own_event = c.own_event_at.result }) _
-          (slice_get-get_or c.args.calls.now c.loop-index.index _ (omega arith)) row (slice_get-get_or c.args.made.now c.loop-index.index _ inside));
+      (slice_get-get_or c.args.calls.now c.loop-index.index _ (omega arith)) row (slice_get-get_or c.args.made.now c.loop-index.index _ inside));
   count = ap length c.push_reserved.ensures.items ∙ length-append c.loop-index.answers.items _ ∙ ap (λ n. n + 1) c.loop-index.invariant.count;
   room = let same = c.push_reserved.ensures.capacity in let had = c.loop-index.invariant.room in omega arith;
 }

@@ -1,12 +1,11 @@
-use Rattle.std.proofs.Common.{◌≡◌, ◌<◌, ◌≤◌, ◌+◌, ◌∷◌, ◌++◌, [], ℕ, suc, zero, List, Some, map, length, slice_get, sym, ◌∙◌, ap, subst, arith, refl, length-append, add-one}
-use Rattle.std.proofs.lemmas.Option.{slice_get-get_or, slice_get_read}
+use Rattle.std.proofs.Common.{◌≡◌, ◌<◌, ◌+◌, ◌∷◌, ◌++◌, [], suc, List, Some, map, length, slice_get, sym, ◌∙◌, ap, arith, refl, length-append}
+use Rattle.std.proofs.lemmas.Option.{slice_get_read}
 use Rattle.std.proofs.lemmas.Bool.Decides.{nat_tests}
 use Rattle.std.specs.Arc.{arc_value}
-use Rattle.vm_model.specs.declared.calls.Call.{Call}
 use Rattle.vm_model.specs.Config.{setup_of}
-use Rattle.vm_model.specs.History.{callers_from, started}
+use Rattle.vm_model.specs.History.{started}
 use Rattle.section_core.specs.declared.answers.Answered.{Answered as Code}
-use Rattle.section_core.specs.Locals.{answer_of, AreVmalloc}
+use Rattle.section_core.specs.Locals.{answer_of}
 use Rattle.section_core.proofs.Starts.{removed_first, callers_next}
 use Rattle.section_core.proofs.local.first_callers.Goals as goal
 

@@ -1,4 +1,4 @@
-use Rattle.std.proofs.Common.{◌≡◌, ◌∙◌, sym, ap, ℕ}
+use Rattle.std.proofs.Common.{◌∙◌, sym, ap}
 use Rattle.vm_model.specs.Parts as parts
 use Rattle.vm_model.specs.Parts.{Region, FreeRuns, LiveAreas}
 use Rattle.page_pool.specs.Pages as pool

@@ -1,7 +1,7 @@
-use Rattle.std.proofs.Common.{◌≡◌, ℕ, List, take, flat_map}
+use Rattle.std.proofs.Common.{◌≡◌, List, take}
 use Rattle.vm_model.specs.declared.calls.Call.{Call}
 use Rattle.vm_model.specs.Setup.{Setup}
-use Rattle.vm_model.specs.History.{World, Local}
+use Rattle.vm_model.specs.History.{World}
 use Rattle.vm_model.specs.Tables.{entries_of}
 use Rattle.section_core.specs.Kernels.{IsStanding}
 use Rattle.section_core.proofs.kernel.Kernel.entries.Given as goal

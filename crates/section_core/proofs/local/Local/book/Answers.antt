@@ -1,4 +1,4 @@
-use Rattle.std.proofs.Common.{◌≡◌, ◌≤◌, map, length, sym, ◌∙◌, ap, arith}
+use Rattle.std.proofs.Common.{map, sym, ◌∙◌, ap, arith}
 use Rattle.vm_model.specs.History.{Local}
 use Rattle.history_book.specs.Entries.{note_of}
 use Rattle.section_core.proofs.Answered.{noted_again}

@@ -1,0 +1,5 @@
+pub mod DrawnAreasProofs
+pub mod DrawnBlocksProofs
+pub mod DrawnObjectsProofs
+pub mod DrawnCallsProofs
+pub mod LawTestProofs

@@ -1,0 +1,240 @@
+-- The words of objects: no two of them share a cell, and an add changes one.
+use Rattle.std.proofs.Common.{◌≡◌, ℕ, suc, ◌+◌, ◌-◌, ◌*◌, ◌/◌, ◌<◌, ◌≤◌, inl, inr, Bool, true, false, ◌&&◌, ◌==◌, List, flat_map, slice_get, sum_by, Some, refl, ap, sym, ◌∙◌, subst, arith, ℤ, ◌+ℤ◌}
+use Rattle.std.proofs.lemmas.Bool.Decides.{nat_tests}
+use Rattle.std.proofs.lemmas.Option.{same_Some, get_or_from_slice_get}
+use Rattle.vm_model.specs.Space.{span, holds, times, one_if, is_among}
+use Rattle.vm_model.specs.Setup.{Setup}
+use Rattle.vm_model.specs.PlainMap.{PlainMap, Chunk, Object, Life}
+use Rattle.vm_model.specs.Frames.{word_at, add_word}
+use Rattle.vm_model.specs.Chunks.{ObjectAt, pages_of_object, object_pages, copy_at}
+use Rattle.vm_model.specs.Events.{AddWord}
+use Rattle.vm_model.specs.Legal.{OnPages, IsMapped}
+use Rattle.vm_model.specs.Effects.{effect_as}
+use Rattle.vm_model.specs.Laws.{object_at, copies_of, all_copies, word_of, is_word, grown_if}
+use Rattle.map_laws.proofs.Lists.{same_or}
+use Rattle.map_laws.proofs.Chosen.{sum_has}
+use Rattle.map_laws.proofs.Spans.{holds_from}
+use Rattle.map_laws.proofs.OutMoves.{sum_two}
+use Rattle.map_laws.proofs.ChunkFacts.{page_in_units}
+use Rattle.map_laws.proofs.ChunkMoves.{counted}
+use Rattle.map_laws.proofs.ObjectFacts.{IsObject, AreChunksFine, same_chunk, times_map}
+use Rattle.map_laws.proofs.ObjectLaws.{times_flat}
+use Rattle.map_laws.proofs.Words.{IsWord, AreCells, HasFrame, added_own, added_other}
+
+-- a copy of an object that has the byte, by the places of its chunk, of itself and of its processor
+pub record IsHit (c : Setup) (chunks : List Chunk) (byte i j cpu : ℕ) : Type 0 where
+  pub chunk : Chunk
+  pub at_chunk : slice_get chunks i ≡ Some chunk
+  pub object : Object
+  pub at_object : slice_get chunk.objects j ≡ Some object
+  pub unit : ℕ
+  pub at_unit : slice_get c.units cpu ≡ Some unit
+  pub has : holds (span (copy_at (object_at chunk object) unit) object.bytes) byte ≡ true
+
+module _ (c : Setup) (byte : ℕ) where
+  abbrev of_unit : Chunk → Object → ℕ → ℕ
+  of_unit h o unit = one_if (holds (span (copy_at (object_at h o) unit) o.bytes) byte)
+
+  abbrev of_object : Chunk → Object → ℕ
+  of_object h o = times byte (copies_of c (object_at h o))
+
+  abbrev of_chunk : Chunk → ℕ
+  of_chunk h = times byte (flat_map (λ o. copies_of c (object_at h o)) h.objects)
+
+  units_sum : (h : Chunk) (o : Object) → of_object h o ≡ sum_by (of_unit h o) c.units
+  units_sum h o = times_map (λ unit. span (copy_at (object_at h o) unit) o.bytes) byte c.units
+
+  objects_sum : (h : Chunk) → of_chunk h ≡ sum_by (of_object h) h.objects
+  objects_sum h = times_flat (λ o. copies_of c (object_at h o)) byte h.objects
+
+  chunks_sum : (chunks : List Chunk) → times byte (all_copies c chunks) ≡ sum_by of_chunk chunks
+  chunks_sum chunks = times_flat (λ (h : Chunk). flat_map (λ o. copies_of c (object_at h o)) h.objects) byte chunks
+
+  module _ (chunks : List Chunk) (once : times byte (all_copies c chunks) ≤ 1) where
+    object_counts : (i j cpu : ℕ) (hit : IsHit c chunks byte i j cpu) → 1 ≤ of_object hit.chunk hit.object
+    object_counts i j cpu hit = omega (arith, units_sum hit.chunk hit.object, sum_has (of_unit hit.chunk hit.object) c.units hit.unit cpu hit.at_unit, ap one_if hit.has)
+
+    chunk_counts : (i j cpu : ℕ) (hit : IsHit c chunks byte i j cpu) → 1 ≤ of_chunk hit.chunk
+    chunk_counts i j cpu hit = omega (arith, objects_sum hit.chunk, sum_has (of_object hit.chunk) hit.chunk.objects hit.object j hit.at_object, object_counts i j cpu hit)
+
+    chunk_once : (i j cpu : ℕ) (hit : IsHit c chunks byte i j cpu) → of_chunk hit.chunk ≤ 1
+    chunk_once i j cpu hit = omega (arith, chunks_sum chunks, sum_has of_chunk chunks hit.chunk i hit.at_chunk)
+
+    object_once : (i j cpu : ℕ) (hit : IsHit c chunks byte i j cpu) → of_object hit.chunk hit.object ≤ 1
+    object_once i j cpu hit = omega (arith, objects_sum hit.chunk, sum_has (of_object hit.chunk) hit.chunk.objects hit.object j hit.at_object, chunk_once i j cpu hit)
+
+    same_cpu : (i j cpu cpu' : ℕ) (hit : IsHit c chunks byte i j cpu) (hit' : IsHit c chunks byte i j cpu') → hit.chunk ≡ hit'.chunk → hit.object ≡ hit'.object → cpu ≡ cpu'
+    same_cpu i j cpu cpu' hit hit' e f = elim (same_or cpu cpu') [
+      | inl same ↦ same
+      | inr apart ↦ absurd (let has' = ap (λ (h : Chunk). holds (span (copy_at (object_at h hit.object) hit'.unit) hit.object.bytes) byte) e ∙ ap (λ (o : Object). holds (span (copy_at (object_at hit'.chunk o) hit'.unit) o.bytes) byte) f ∙ hit'.has in
+          omega (arith, units_sum hit.chunk hit.object, object_once i j cpu hit, sum_two (of_unit hit.chunk hit.object) c.units cpu cpu' hit.unit hit'.unit hit.at_unit hit'.at_unit apart, ap one_if hit.has, ap one_if has'))
+    ]
+
+    same_object_place : (i j j' cpu cpu' : ℕ) (hit : IsHit c chunks byte i j cpu) (hit' : IsHit c chunks byte i j' cpu') → hit.chunk ≡ hit'.chunk → j ≡ j'
+    same_object_place i j j' cpu cpu' hit hit' e = elim (same_or j j') [
+      | inl same ↦ same
+      | inr apart ↦ absurd (let there' : slice_get hit.chunk.objects j' ≡ Some hit'.object = ap (λ (h : Chunk). slice_get h.objects j') e ∙ hit'.at_object in
+          let counts' : 1 ≤ of_object hit.chunk hit'.object = subst (λ (h : Chunk). 1 ≤ of_object h hit'.object) (sym e) (object_counts i j' cpu' hit') in
+          omega (arith, objects_sum hit.chunk, chunk_once i j cpu hit, sum_two (of_object hit.chunk) hit.chunk.objects j j' hit.object hit'.object hit.at_object there' apart, object_counts i j cpu hit))
+    ]
+
+    same_chunk_place : (i i' j j' cpu cpu' : ℕ) → IsHit c chunks byte i j cpu → IsHit c chunks byte i' j' cpu' → i ≡ i'
+    same_chunk_place i i' j j' cpu cpu' hit hit' = elim (same_or i i') [
+      | inl same ↦ same
+      | inr apart ↦ absurd (omega (arith, chunks_sum chunks, sum_two of_chunk chunks i i' hit.chunk hit'.chunk hit.at_chunk hit'.at_chunk apart, chunk_counts i j cpu hit, chunk_counts i' j' cpu' hit'))
+    ]
+
+    -- two copies with one byte are one
+    pub record IsOneHit (i i' j j' cpu cpu' : ℕ) (hit : IsHit c chunks byte i j cpu) (hit' : IsHit c chunks byte i' j' cpu') : Type 0 where
+      pub chunk : hit.chunk ≡ hit'.chunk
+      pub object : hit.object ≡ hit'.object
+      pub same : cpu ≡ cpu'
+
+    one_by : (i i' j j' cpu cpu' : ℕ) (hit : IsHit c chunks byte i j cpu) (hit' : IsHit c chunks byte i' j' cpu') → i ≡ i' → IsOneHit i i' j j' cpu cpu' hit hit'
+    one_by i i' j j' cpu cpu' hit hit' e =
+        let chunk : hit.chunk ≡ hit'.chunk = same_Some hit.chunk hit'.chunk (sym hit.at_chunk ∙ ap (slice_get chunks) e ∙ hit'.at_chunk) in
+        let moved : IsHit c chunks byte i j' cpu' = record { chunk = hit'.chunk; at_chunk = ap (slice_get chunks) e ∙ hit'.at_chunk; object = hit'.object; at_object = hit'.at_object; unit = hit'.unit; at_unit = hit'.at_unit; has = hit'.has } in
+        let place : j ≡ j' = same_object_place i j j' cpu cpu' hit moved chunk in
+        let object : hit.object ≡ hit'.object =
+        same_Some hit.object hit'.object (sym hit.at_object ∙ ap (λ (h : Chunk). slice_get h.objects j) chunk ∙ ap (slice_get hit'.chunk.objects) place ∙ hit'.at_object) in
+        let again : IsHit c chunks byte i j cpu' = record {
+          chunk = hit'.chunk;
+          at_chunk = ap (slice_get chunks) e ∙ hit'.at_chunk;
+          object = hit'.object;
+          at_object = ap (slice_get hit'.chunk.objects) place ∙ hit'.at_object;
+          unit = hit'.unit;
+          at_unit = hit'.at_unit;
+          has = hit'.has;
+        } in
+        record { chunk = chunk; object = object; same = same_cpu i j cpu cpu' hit again chunk object }
+
+    pub one_hit : (i i' j j' cpu cpu' : ℕ) (hit : IsHit c chunks byte i j cpu) (hit' : IsHit c chunks byte i' j' cpu') → IsOneHit i i' j j' cpu cpu' hit hit'
+    one_hit i i' j j' cpu cpu' hit hit' = one_by i i' j j' cpu cpu' hit hit' (same_chunk_place i i' j j' cpu cpu' hit hit')
+
+-- A word of an object, by its processor and index.
+
+pub record IsWordOf (c : Setup) (at : ObjectAt) (cpu index byte : ℕ) : Type 0 where
+  pub unit : ℕ
+  pub at_unit : slice_get c.units cpu ≡ Some unit
+  pub inside : 4 * index < at.bytes
+  pub is : byte ≡ copy_at at unit + 4 * index
+
+-- an object of whole words
+pub record IsWordy (at : ObjectAt) : Type 0 where
+  pub start : IsWord at.off
+  pub long : IsWord at.bytes
+
+pub word_whole : (c : Setup) (at : ObjectAt) (cpu index byte : ℕ) → IsWordy at → IsWordOf c at cpu index byte → IsWord byte
+word_whole c at cpu index byte wordy is = record { word = 1024 * (at.base + is.unit) + wordy.start.word + index; at = (let a = wordy.start.at in let e = is.is in omega arith) }
+
+abbrev hit_of : (c : Setup) (chunks : List Chunk) (at : ObjectAt) (life : Life) (cpu index byte : ℕ) (is : IsObject chunks at life) → IsWordOf c at cpu index byte → IsHit c chunks byte is.there.place is.object_there.place cpu
+hit_of c chunks at life cpu index byte is word = record {
+  chunk = is.chunk;
+  at_chunk = is.there.at;
+  object = is.object;
+  at_object = is.object_there.at;
+  unit = word.unit;
+  at_unit = word.at_unit;
+  has = (let b = is.based in let o = is.off in let l = is.bytes in let e = word.is in let low = word.inside in holds_from (span (copy_at (object_at is.chunk is.object) word.unit) is.object.bytes) byte (omega arith) (omega arith));
+}
+
+-- words with one byte are one
+pub record IsOneWord (at own : ObjectAt) (cpu cpu' index index' : ℕ) : Type 0 where
+  pub chunk : at.chunk ≡ own.chunk
+  pub off : at.off ≡ own.off
+  pub same_cpu : cpu ≡ cpu'
+  pub same_index : index ≡ index'
+
+pub one_word : (c : Setup) (chunks : List Chunk) (at own : ObjectAt) (life life' : Life) (cpu cpu' index index' byte : ℕ) → times byte (all_copies c chunks) ≤ 1 → IsObject chunks at life → IsObject chunks own life' → IsWordOf c at cpu index byte
+    → IsWordOf c own cpu' index' byte → IsOneWord at own cpu cpu' index index'
+one_word c chunks at own life life' cpu cpu' index index' byte once is is' word word' =
+    let hit = hit_of c chunks at life cpu index byte is word in let hit' = hit_of c chunks own life' cpu' index' byte is' word' in
+    let one = one_hit c byte chunks once is.there.place is'.there.place is.object_there.place is'.object_there.place cpu cpu' hit hit' in
+    let units : Some word.unit ≡ Some word'.unit = sym word.at_unit ∙ ap (slice_get c.units) one.same ∙ word'.at_unit in
+    let unit : word.unit ≡ word'.unit = same_Some word.unit word'.unit units in
+    let based : at.base ≡ own.base = sym is.based ∙ ap (λ (h : Chunk). h.base) one.chunk ∙ is'.based in
+    let off : at.off ≡ own.off = sym is.off ∙ ap (λ (o : Object). o.off) one.object ∙ is'.off in
+    record {
+      chunk = sym is.numbered ∙ ap (λ (h : Chunk). h.number) one.chunk ∙ is'.numbered;
+      off = off;
+      same_cpu = one.same;
+      same_index = (let e = word.is in let f = word'.is in omega arith);
+    }
+
+-- Its page, and its word.
+
+pub word_mapped : (c : Setup) (m : PlainMap) (at : ObjectAt) (cpu index byte : ℕ) → IsWordy at → IsWordOf c at cpu index byte → OnPages (object_pages c at) (IsMapped m) → (frame : ℕ) × HasFrame m.frames byte frame
+word_mapped c m at cpu index byte wordy word mapped =
+    let a = wordy.start.at in let b = wordy.long.at in let e = word.is in let low = word.inside in
+    let page : ℕ = (at.off + 4 * index) / 4096 in
+    let among : is_among (pages_of_object at) page ≡ true = counted (suc ((at.off + at.bytes - 1) / 4096) - at.off / 4096) (at.off / 4096) page (omega arith) (omega arith) in
+    let there : is_among (object_pages c at) (at.base + word.unit + page) ≡ true = page_in_units c at.base page cpu word.unit (pages_of_object at) word.at_unit among in
+    let same : byte / 4096 ≡ at.base + word.unit + page = omega arith in
+    let is = mapped (at.base + word.unit + page) there in (is.0, ap (slice_get m.frames) same ∙ is.1)
+
+pub word_read : (c : Setup) (m : PlainMap) (at : ObjectAt) (cpu index byte : ℕ) → IsWordOf c at cpu index byte → word_of c m at cpu index ≡ word_at m.frames m.cells byte
+word_read c m at cpu index byte word = ap (word_at m.frames m.cells) (ap (λ u. copy_at at u + 4 * index) (get_or_from_slice_get c.units cpu word.unit 0 word.at_unit) ∙ sym word.is)
+
+-- An add changes one word.
+
+module _ (c : Setup) (m : PlainMap) (k : ℕ) (copies : (byte : ℕ) → times byte (all_copies c m.chunks) ≤ 1) (cells : AreCells c.frames m.frames m.cells) (placing : ℕ → ℕ → Type 0) (fine : AreChunksFine c placing m.chunks) where
+  same_base : (at own : ObjectAt) (life life' : Life) → IsObject m.chunks at life → IsObject m.chunks own life' → at.chunk ≡ own.chunk → at.base ≡ own.base
+  same_base at own life life' is is' e =
+      let one = same_chunk m.chunks is.chunk is'.chunk fine.once is.there is'.there (is.numbered ∙ e ∙ sym is'.numbered) in sym is.based ∙ ap (λ (h : Chunk). h.base) one ∙ is'.based
+
+  module _ (at : ObjectAt) (life : Life) (is : IsObject m.chunks at life) (wordy : IsWordy at) (mapped : OnPages (object_pages c at) (IsMapped m)) (serial cpu index byte : ℕ) (amount : ℤ) (word : IsWordOf c at cpu index byte) where
+    added_map : (effect_as c m k (AddWord at serial cpu index amount)).cells ≡ add_word m.frames byte amount m.cells
+    added_map = ap (λ b. add_word m.frames b amount m.cells) (ap (λ u. copy_at at u + 4 * index) (get_or_from_slice_get c.units cpu word.unit 0 word.at_unit) ∙ sym word.is)
+
+    test_by : (a b : ℕ) (t : Bool) → (a == b) ≡ t → a ≡ b → t ≡ true
+    test_by a b true e f = refl
+    test_by a b false e f = let g : (a == b) ≡ true = grind (arith, nat_tests) in cc
+
+    all_same : (own : ObjectAt) (cpu' index' : ℕ) → IsOneWord at own cpu cpu' index index' → is_word at cpu index own cpu' index' ≡ true
+    all_same own cpu' index' one =
+        four_true (at.chunk == own.chunk) (at.off == own.off) (cpu == cpu') (index == index') (test_by at.chunk own.chunk (at.chunk == own.chunk) refl one.chunk) (test_by at.off own.off (at.off == own.off) refl one.off)
+        (test_by cpu cpu' (cpu == cpu') refl one.same_cpu) (test_by index index' (index == index') refl one.same_index)
+      where
+        four_true : (a b d e : Bool) → a ≡ true → b ≡ true → d ≡ true → e ≡ true → (a && b && d && e) ≡ true
+        four_true true true true true x y z w = refl
+        four_true false b d e x y z w = cc
+        four_true true false d e x y z w = cc
+        four_true true true false e x y z w = cc
+        four_true true true true false x y z w = cc
+
+    same_all : (own : ObjectAt) (cpu' index' : ℕ) → is_word at cpu index own cpu' index' ≡ true → IsOneWord at own cpu cpu' index index'
+    same_all own cpu' index' h =
+        let is = and_four (at.chunk == own.chunk) (at.off == own.off) (cpu == cpu') (index == index') h in
+        let a = is.0 in let b = is.1 in let d = is.2 in let e = is.3 in
+        record { chunk = (let x : at.chunk ≡ own.chunk = grind (arith, nat_tests) in x); off = (let x : at.off ≡ own.off = grind (arith, nat_tests) in x); same_cpu = (let x : cpu ≡ cpu' = grind (arith, nat_tests) in x); same_index = (let x : index ≡ index' = grind (arith, nat_tests) in x) }
+      where
+        and_four : (a b d e : Bool) → (a && b && d && e) ≡ true → (a ≡ true) × (b ≡ true) × (d ≡ true) × (e ≡ true)
+        and_four true true true true x = (refl, refl, refl, refl)
+        and_four false b d e x = cc
+        and_four true false d e x = cc
+        and_four true true false e x = cc
+        and_four true true true false x = cc
+
+    frame : (f : ℕ) × HasFrame m.frames byte f
+    frame = word_mapped c m at cpu index byte wordy word mapped
+
+    grown_by : (own : ObjectAt) (life' : Life) (cpu' index' byte' : ℕ) (b : Bool) → is_word at cpu index own cpu' index' ≡ b → IsObject m.chunks own life' → IsWordy own → OnPages (object_pages c own) (IsMapped m) → IsWordOf c own cpu' index' byte'
+        → word_at m.frames (add_word m.frames byte amount m.cells) byte' ≡ grown_if b (word_at m.frames m.cells byte') amount
+    grown_by own life' cpu' index' byte' true e is' wordy' mapped' word' =
+        let one = same_all own cpu' index' e in
+        let base = same_base at own life life' is is' one.chunk in
+        let units : Some word.unit ≡ Some word'.unit = sym word.at_unit ∙ ap (slice_get c.units) one.same_cpu ∙ word'.at_unit in
+        let unit : word.unit ≡ word'.unit = same_Some word.unit word'.unit units in
+        let same : byte ≡ byte' = (let off = one.off in let index = one.same_index in let f = word.is in let g = word'.is in omega arith) in
+        subst (λ n. word_at m.frames (add_word m.frames byte amount m.cells) n ≡ (word_at m.frames m.cells n +ℤ amount)) same (added_own c.frames m.frames m.cells cells byte frame.0 amount frame.1)
+    grown_by own life' cpu' index' byte' false e is' wordy' mapped' word' =
+        let frame' = word_mapped c m own cpu' index' byte' wordy' word' mapped' in
+        added_other c.frames m.frames m.cells cells byte frame.0 amount frame.1 byte' frame'.0 frame'.1 (word_whole c at cpu index byte wordy word) (word_whole c own cpu' index' byte' wordy' word')
+        (λ same. (let one = one_word c m.chunks at own life life' cpu cpu' index index' byte (copies byte) is is' word (subst (IsWordOf c own cpu' index') same word') in let yes = all_same own cpu' index' one in cc))
+
+    -- the word of an object behind the add
+    pub grown : (own : ObjectAt) (life' : Life) (cpu' index' byte' : ℕ) → IsObject m.chunks own life' → IsWordy own → OnPages (object_pages c own) (IsMapped m) → IsWordOf c own cpu' index' byte'
+        → word_of c (effect_as c m k (AddWord at serial cpu index amount)) own cpu' index' ≡ grown_if (is_word at cpu index own cpu' index') (word_of c m own cpu' index') amount
+    grown own life' cpu' index' byte' is' wordy' mapped' word' =
+        word_read c (effect_as c m k (AddWord at serial cpu index amount)) own cpu' index' byte' word' ∙ ap (λ l. word_at m.frames l byte') added_map
+        ∙ grown_by own life' cpu' index' byte' (is_word at cpu index own cpu' index') refl is' wordy' mapped' word' ∙ ap (λ v. grown_if (is_word at cpu index own cpu' index') v amount) (sym (word_read c m own cpu' index' byte' word'))

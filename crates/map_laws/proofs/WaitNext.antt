@@ -1,0 +1,242 @@
+-- Where a caller goes with pages that it carved, took or flushed.
+use Rattle.std.proofs.Common.{◌≡◌, ℕ, ◌<◌, inl, inr, true, false, List, [], ◌∷◌, ◌++◌, length, Option, Some, None, refl, ap, sym, ◌∙◌, subst, arith, option_to_list}
+use Rattle.vm_model.specs.declared.areas.Span.{Span}
+use Rattle.vm_model.specs.declared.areas.Area.{Area}
+use Rattle.vm_model.specs.declared.areas.AreaKind.{AreaKind}
+use Rattle.vm_model.specs.Space.{span, holds, covers}
+use Rattle.vm_model.specs.Setup.{Setup}
+use Rattle.vm_model.specs.PlainMap.{PlainMap, Free, Flushing}
+use Rattle.vm_model.specs.Areas.{mapped_part}
+use Rattle.vm_model.specs.Events.{Section, Event, Search, ForPages, ForGroups, Carve, CarveGroups, NoHole, TakeWaiting, Flush, Return, NoFrames}
+use Rattle.vm_model.specs.Legal.{IsMarked, IsUnmapped, IsBare, IsLegalAs}
+use Rattle.vm_model.specs.Effects.{effect_as}
+use Rattle.vm_model.specs.Told.{removed, carved, carved_base, had_frames, spans_taken}
+use Rattle.vm_model.specs.Carried.{flushed}
+use Rattle.vm_model.specs.Places.{Place, Finding, FindingAgain, MappingArea, Dropping, Removing, UnmappingArea, PurgeUnlinking, PurgeCollecting, PurgeFlushing, PurgeReturning, UnlinkingBlock, UnlinkingGroups, Aim, ForArea, ForBlock, ForChunk, Then, ask}
+use Rattle.vm_model.specs.Next.{Next, Go, Answer, next, found, with_span, with_base, without_space, after_remove, after_collecting, after_flush}
+use Rattle.vm_model.specs.LegalHistory.{Meets}
+use Rattle.vm_model.specs.Laws.{map_after}
+use Rattle.map_parts.proofs.SearchedPages.{found_free}
+use Rattle.map_parts.proofs.Tests.{or_first}
+use Rattle.map_laws.proofs.Places.{OnNext, either_next}
+use Rattle.map_laws.proofs.AreaFacts.{IsUnbearing, nothing_flushed}
+use Rattle.map_laws.proofs.Quiet.{unbearing_next}
+use Rattle.map_laws.proofs.Spans.{hull_is, covers_append}
+use Rattle.map_laws.proofs.Touched.{painted}
+use Rattle.map_laws.proofs.BarePages.{count_free}
+use Rattle.map_laws.proofs.Stories.{map_at-more, map_at-end, event_last, event_low}
+use Rattle.map_laws.proofs.WaitStories.{IsTakenSince, IsBehind, IsCarvedBy, IsStoried, taken_more, carved_more}
+
+-- nothing was carved for a place that holds nothing
+unbearing_storied : (c : Setup) (m : PlainMap) (events : List Event) (k : ℕ) (p : Place) → IsUnbearing p → IsStoried c m events k p
+unbearing_storied c m events k (MappingArea s kd) h = cc
+unbearing_storied c m events k (Dropping s) h = cc
+unbearing_storied c m events k _ h = tt
+
+unbearing_next_storied : (c : Setup) (m : PlainMap) (events : List Event) (k : ℕ) (n : Next) → OnNext IsUnbearing n → OnNext (IsStoried c m events k) n
+unbearing_next_storied c m events k (Go p) h = unbearing_storied c m events k p h
+unbearing_next_storied c m events k (Answer reply made) h = tt
+
+-- over a map to which the events so far led, and in which free pages are bare
+module _ (c : Setup) (first m : PlainMap) (events : List Event) (story : m ≡ map_after c first events) (clean : (page : ℕ) → IsMarked m Free page → IsBare m page) (k : ℕ) where
+  abbrev more : Section → List Event
+  more s = events ++ (record { caller = k; section = s }) ∷ []
+
+  -- A place that was found.
+
+  found_unmapped : (start pages align page : ℕ) → IsLegalAs c m k (Carve (span start pages) align) → holds (span start pages) page ≡ true → IsUnmapped m page
+  found_unmapped start pages align page legal on = (clean page (count_free m page (let one = found_free m pages align start page legal on in omega arith))).unmapped
+
+  carved_now : (start pages align : ℕ) → IsLegalAs c m k (Carve (span start pages) align) → IsCarvedBy c first (more (Carve (span start pages) align)) k (span start pages)
+  carved_now start pages align legal = record {
+    carve = length events;
+    section = Carve (span start pages) align;
+    carves = event_last events k (Carve (span start pages) align);
+    pages = λ page on. on;
+    unmapped = λ page n on a b. subst (λ x. IsUnmapped x page) (sym (map_at-more c first events (record { caller = k; section = Carve (span start pages) align }) n a))
+        (subst (λ x. IsUnmapped (effect_as c x k (Carve (span start pages) align)) page) story (found_unmapped start pages align page legal on));
+  }
+
+  span_storied : (aim : Aim) (start pages align : ℕ) → IsLegalAs c m k (Carve (span start pages) align) → OnNext (IsStoried c first (more (Carve (span start pages) align)) k) (with_span aim (span start pages))
+  span_storied (ForArea kd) start pages align legal = carved_now start pages align legal
+  span_storied (ForBlock cpu asked) start pages align legal = tt
+  span_storied (ForChunk chunk bytes to) start pages align legal = tt
+
+  base_storied : (aim : Aim) (base : ℕ) (es : List Event) → OnNext (IsStoried c first es k) (with_base aim base)
+  base_storied (ForArea kd) base es = tt
+  base_storied (ForBlock cpu asked) base es = tt
+  base_storied (ForChunk chunk bytes to) base es = tt
+
+  no_space_storied : (aim : Aim) (es : List Event) → OnNext (IsStoried c first es k) (without_space aim)
+  no_space_storied (ForArea kd) es = tt
+  no_space_storied (ForBlock cpu asked) es = tt
+  no_space_storied (ForChunk chunk bytes to) es = tt
+
+  find_storied : (search : Search) (aim : Aim) (s : Section) → Meets c (ask c (Finding search aim)) s → IsLegalAs c m k s → OnNext (IsStoried c first (more s) k) (next c (Finding search aim) s)
+  find_storied (ForPages pages align) aim s (inl w) legal =
+      subst (λ x. OnNext (IsStoried c first (more x) k) (next c (Finding (ForPages pages align) aim) x)) (sym w.1) (span_storied aim w.0 pages align (subst (IsLegalAs c m k) w.1 legal))
+  find_storied (ForPages pages align) aim s (inr w) legal = subst (λ x. OnNext (IsStoried c first (more x) k) (next c (Finding (ForPages pages align) aim) x)) (sym w) tt
+  find_storied ForGroups aim s (inl w) legal = subst (λ x. OnNext (IsStoried c first (more x) k) (next c (Finding ForGroups aim) x)) (sym w.1) (base_storied aim w.0 (more (CarveGroups w.0)))
+  find_storied ForGroups aim s (inr w) legal = subst (λ x. OnNext (IsStoried c first (more x) k) (next c (Finding ForGroups aim) x)) (sym w) tt
+
+  again_storied : (search : Search) (aim : Aim) (s : Section) → Meets c (ask c (FindingAgain search aim)) s → IsLegalAs c m k s → OnNext (IsStoried c first (more s) k) (next c (FindingAgain search aim) s)
+  again_storied (ForPages pages align) aim s (inl w) legal =
+      subst (λ x. OnNext (IsStoried c first (more x) k) (next c (FindingAgain (ForPages pages align) aim) x)) (sym w.1) (span_storied aim w.0 pages align (subst (IsLegalAs c m k) w.1 legal))
+  again_storied (ForPages pages align) aim s (inr w) legal =
+      subst (λ x. OnNext (IsStoried c first (more x) k) (next c (FindingAgain (ForPages pages align) aim) x)) (sym w) (no_space_storied aim (more (NoHole (ForPages pages align))))
+  again_storied ForGroups aim s (inl w) legal = subst (λ x. OnNext (IsStoried c first (more x) k) (next c (FindingAgain ForGroups aim) x)) (sym w.1) (base_storied aim w.0 (more (CarveGroups w.0)))
+  again_storied ForGroups aim s (inr w) legal = subst (λ x. OnNext (IsStoried c first (more x) k) (next c (FindingAgain ForGroups aim) x)) (sym w) (no_space_storied aim (more (NoHole ForGroups)))
+
+  -- A place that gets no frames.
+
+  pub still_unmapped : (place : Span) → IsCarvedBy c first events k place → (page : ℕ) → holds place page ≡ true → IsUnmapped m page
+  still_unmapped place is page on =
+      let low = event_low events is.carve k is.section is.carves in
+      subst (λ x. IsUnmapped x page) (map_at-end c first events (length events) (omega arith) ∙ sym story) (is.unmapped page (length events) on low (omega arith))
+
+  map_storied : (place : Span) (kd : AreaKind) (s : Section) → Meets c (ask c (MappingArea place kd)) s → IsCarvedBy c first events k place → OnNext (IsStoried c first (more s) k) (next c (MappingArea place kd) s)
+  map_storied place kd s (inl w) is = subst (λ x. OnNext (IsStoried c first (more x) k) (next c (MappingArea place kd) x)) (sym w) tt
+  map_storied place kd s (inr w) is = subst (λ x. OnNext (IsStoried c first (more x) k) (next c (MappingArea place kd) x)) (sym w)
+      (carved_more c first events (record { caller = k; section = NoFrames (mapped_part kd place).pages }) k place (λ page on. subst (λ x. IsUnmapped x page) story (still_unmapped place is page on)) is)
+
+  removed_storied : (o : Option Area) (es : List Event) → OnNext (IsStoried c first es k) (after_remove o)
+  removed_storied None es = tt
+  removed_storied (Some area) es = tt
+
+  collected_storied : (waited : List Span) (o : Option Span) (after : Then) (es : List Event) → OnNext (IsStoried c first es k) (after_collecting waited o after)
+  collected_storied waited None after es = tt
+  collected_storied waited (Some h) after es = tt
+
+  flushed_storied : (waited : List Span) (after : Then) (es : List Event) → OnNext (IsStoried c first es k) (after_flush waited after)
+  flushed_storied [] after es = tt
+  flushed_storied (x ∷ waited) after es = tt
+
+  pub storied_next : (p : Place) (s : Section) → Meets c (ask c p) s → IsLegalAs c m k s → IsStoried c first events k p → OnNext (IsStoried c first (more s) k) (next c p s)
+  storied_next (Finding search aim) s meets legal is = find_storied search aim s meets legal
+  storied_next (FindingAgain search aim) s meets legal is = again_storied search aim s meets legal
+  storied_next (MappingArea place kd) s meets legal is = map_storied place kd s meets is
+  storied_next (Removing start serial) s meets legal is = removed_storied (removed s) (more s)
+  storied_next (UnmappingArea area) s meets legal is = tt
+  storied_next (PurgeUnlinking gone extra after) s meets legal is = tt
+  storied_next (UnlinkingBlock start reply) s meets legal is = tt
+  storied_next (UnlinkingGroups base) s meets legal is = tt
+  storied_next (PurgeCollecting extra after) s meets legal is = collected_storied (spans_taken s) _ after (more s)
+  storied_next (PurgeFlushing h waited after) s meets legal is = flushed_storied waited after (more s)
+  storied_next p s meets legal is = unbearing_next_storied c first (more s) k (next c p s) (unbearing_next c p s refl)
+
+-- Where pages go that were taken.
+
+-- a place behind a section, with what holds there
+pub record IsLedTo (P : Place → Type 0) (n : Next) : Type 0 where
+  pub place : Place
+  pub goes : n ≡ Go place
+  pub there : P place
+
+module _ (c : Setup) (m : PlainMap) (events : List Event) (k i page : ℕ) where
+  collected_by : (all : List Span) (extra : Option Span) (after : Then) → i < length events → covers all page ≡ true
+      → IsLedTo (IsBehind (events ++ (record { caller = k; section = TakeWaiting all }) ∷ []) i k page) (next c (PurgeCollecting extra after) (TakeWaiting all))
+  collected_by all extra after low on =
+      let h = (hull_is (all ++ option_to_list extra)).covered page (covers_append page all (option_to_list extra) ∙ or_first (covers all page) (covers (option_to_list extra) page) on) in
+      record {
+        place = PurgeFlushing h.0 all after;
+        goes = ap (λ o. after_collecting all o after) h.1;
+        there = (on, h.2, record { taken = length events; all = all; after = low; takes = event_last events k (TakeWaiting all); took = on });
+      }
+
+  -- the waiting pages are taken
+  pub collected_next : (extra : Option Span) (after : Then) (all : List Span) → i < length events → covers m.waiting page ≡ true → IsLegalAs c m k (TakeWaiting all)
+      → IsLedTo (IsBehind (events ++ (record { caller = k; section = TakeWaiting all }) ∷ []) i k page) (next c (PurgeCollecting extra after) (TakeWaiting all))
+  collected_next extra after all low on legal = collected_by all extra after low (ap (λ l. covers l page) legal ∙ on)
+
+  flush_by : (h : Span) (waited : List Span) (after : Then) → covers waited page ≡ true → holds h page ≡ true → IsTakenSince events i k page
+      → IsLedTo (IsBehind (events ++ (record { caller = k; section = Flush h }) ∷ []) i k page) (after_flush waited after)
+  flush_by h [] after on inside since = cc
+  flush_by h (x ∷ waited) after on inside since = record {
+    place = PurgeReturning (x ∷ waited) after;
+    goes = refl;
+    there = (
+      on,
+      record {
+        since = taken_more events (record { caller = k; section = Flush h }) i k page since;
+        flush = length events;
+        flushed = h;
+        after = event_low events since.taken k (TakeWaiting since.all) since.takes;
+        flushes = event_last events k (Flush h);
+        flushed_page = inside;
+      },
+    );
+  }
+
+  return_frees : (spans : List Span) → covers spans page ≡ true → IsLegalAs c m k (Return spans) → IsMarked (effect_as c m k (Return spans)) Free page
+  return_frees spans on legal = painted (covers spans) Free (Flushing k) m.marks page on (legal.0 page on)
+
+  -- taken pages are flushed, and then returned
+  pub behind_next : (p : Place) (s : Section) → Meets c (ask c p) s → IsLegalAs c m k s → (IsMarked (effect_as c m k s) Free page → ⊥) → IsBehind events i k page p
+      → IsLedTo (IsBehind (events ++ (record { caller = k; section = s }) ∷ []) i k page) (next c p s)
+  behind_next (PurgeFlushing h waited after) s meets legal taken is =
+      subst (λ x. IsLedTo (IsBehind (events ++ (record { caller = k; section = x }) ∷ []) i k page) (next c (PurgeFlushing h waited after) x)) (sym meets) (flush_by h waited after is.0 is.1 is.2)
+  behind_next (PurgeReturning waited after) s meets legal taken is =
+      absurd (taken (subst (λ x. IsMarked (effect_as c m k x) Free page) (sym meets) (return_frees waited is.0 (subst (IsLegalAs c m k) meets legal))))
+  behind_next _ s meets legal taken is = absurd is
+
+-- Which pages a caller flushes behind a section: those that it took, or flushed before.
+
+unbearing_flushed : (page : ℕ) (n : Next) → OnNext IsUnbearing n → OnNext (λ p. covers (flushed p) page ≡ false) n
+unbearing_flushed page (Go p) h = ap (λ l. covers l page) (nothing_flushed p h)
+unbearing_flushed page (Answer reply made) h = tt
+
+module _ (c : Setup) (m : PlainMap) (k page : ℕ) (Q : Type 0) (of_waiting : covers m.waiting page ≡ true → Q) where
+  abbrev IsFlushed : Next → Type 0
+  IsFlushed n = OnNext (λ p. covers (flushed p) page ≡ true → Q) n
+
+  none_flushed : (n : Next) → OnNext (λ p. covers (flushed p) page ≡ false) n → IsFlushed n
+  none_flushed (Go p) h = λ e. cc
+  none_flushed (Answer reply made) h = tt
+
+  span_flushed : (aim : Aim) (s : Span) → IsFlushed (with_span aim s)
+  span_flushed (ForArea kd) s = λ e. cc
+  span_flushed (ForBlock cpu asked) s = λ e. cc
+  span_flushed (ForChunk chunk bytes to) s = tt
+
+  base_flushed : (aim : Aim) (base : ℕ) → IsFlushed (with_base aim base)
+  base_flushed (ForArea kd) base = tt
+  base_flushed (ForBlock cpu asked) base = tt
+  base_flushed (ForChunk chunk bytes to) base = λ e. cc
+
+  found_flushed : (aim : Aim) (o : Option Span) (base : Option ℕ) (otherwise : Next) → IsFlushed otherwise → IsFlushed (found aim o base otherwise)
+  found_flushed aim (Some s) base otherwise h = span_flushed aim s
+  found_flushed aim None (Some base) otherwise h = base_flushed aim base
+  found_flushed aim None None otherwise h = h
+
+  no_space_flushed : (aim : Aim) → IsFlushed (without_space aim)
+  no_space_flushed (ForArea kd) = tt
+  no_space_flushed (ForBlock cpu asked) = tt
+  no_space_flushed (ForChunk chunk bytes to) = λ e. cc
+
+  removed_flushed : (o : Option Area) → IsFlushed (after_remove o)
+  removed_flushed None = tt
+  removed_flushed (Some area) = λ e. cc
+
+  collected_flushed : (waited : List Span) (o : Option Span) (after : Then) → (covers waited page ≡ true → Q) → IsFlushed (after_collecting waited o after)
+  collected_flushed waited None after h = λ e. cc
+  collected_flushed waited (Some s) after h = h
+
+  after_flush_flushed : (waited : List Span) (after : Then) → (covers waited page ≡ true → Q) → IsFlushed (after_flush waited after)
+  after_flush_flushed [] after h = λ e. cc
+  after_flush_flushed (x ∷ waited) after h = h
+
+  collect_told : (all : List Span) (s : Section) → s ≡ TakeWaiting all → IsLegalAs c m k s → covers (spans_taken s) page ≡ true → Q
+  collect_told all s e legal on = let legal' = subst (IsLegalAs c m k) e legal in of_waiting (ap (λ l. covers l page) (sym legal') ∙ ap (λ x. covers (spans_taken x) page) (sym e) ∙ on)
+
+  pub flushed_next : (p : Place) (s : Section) → Meets c (ask c p) s → IsLegalAs c m k s → (covers (flushed p) page ≡ true → Q) → IsFlushed (next c p s)
+  flushed_next (Finding search aim) s meets legal was = found_flushed aim (carved s) (carved_base s) _ (λ e. cc)
+  flushed_next (FindingAgain search aim) s meets legal was = found_flushed aim (carved s) (carved_base s) _ (no_space_flushed aim)
+  flushed_next (MappingArea place kd) s meets legal was = either_next (λ p. covers (flushed p) page ≡ true → Q) (had_frames s) _ _ (λ e. cc) (λ e. cc)
+  flushed_next (Removing start serial) s meets legal was = removed_flushed (removed s)
+  flushed_next (UnmappingArea area) s meets legal was = λ e. cc
+  flushed_next (PurgeUnlinking gone extra after) s meets legal was = λ e. cc
+  flushed_next (UnlinkingBlock start reply) s meets legal was = λ e. cc
+  flushed_next (UnlinkingGroups base) s meets legal was = λ e. cc
+  flushed_next (PurgeCollecting extra after) s meets legal was = collected_flushed (spans_taken s) _ after (collect_told meets.0 s meets.1 legal)
+  flushed_next (PurgeFlushing h waited after) s meets legal was = after_flush_flushed waited after was
+  flushed_next p s meets legal was = none_flushed (next c p s) (unbearing_flushed page (next c p s) (unbearing_next c p s refl))

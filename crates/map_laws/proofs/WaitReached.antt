@@ -1,0 +1,187 @@
+-- Pages wait before they are used again, in every trace.
+use Rattle.std.proofs.Common.{◌≡◌, ℕ, zero, suc, ◌<◌, inl, inr, true, false, List, [], ◌∷◌, ◌++◌, length, replicate, slice_get, slice_set, Some, None, refl, ap, sym, ◌∙◌, subst, arith}
+use Rattle.std.proofs.lemmas.List.{length-replicate}
+use Rattle.std.proofs.lemmas.Option.{slice_get_within}
+use Rattle.vm_model.specs.declared.calls.Call.{Call}
+use Rattle.vm_model.specs.Space.{covers}
+use Rattle.vm_model.specs.Setup.{Setup}
+use Rattle.vm_model.specs.PlainMap.{PlainMap, Free, at_first}
+use Rattle.vm_model.specs.Events.{Section}
+use Rattle.vm_model.specs.Legal.{IsMarked, IsBare, IsLegalAs}
+use Rattle.vm_model.specs.Effects.{effect_as}
+use Rattle.vm_model.specs.Carried.{flushed}
+use Rattle.vm_model.specs.Places.{Place, ask}
+use Rattle.vm_model.specs.Next.{Go, next}
+use Rattle.vm_model.specs.Calls.{Answered}
+use Rattle.vm_model.specs.LegalHistory.{Meets, IsReached}
+use Rattle.vm_model.specs.History.{World, Local, started, made_by, made_if, moved_to, step_of, placing_calls, opening_world, opening_answers, callers_from, with_callers}
+use Rattle.vm_model.specs.Rules.{IsTrace}
+use Rattle.vm_model.specs.Laws.{IsFreedAt, PagesWaitBeforeReuse}
+use Rattle.vm_model.proofs.Elements.{slice_get-replicate}
+use Rattle.map_parts.specs.Kept.{KeepsApart}
+use Rattle.map_parts.proofs.StepKeeps.{steps_keep_apart}
+use Rattle.map_parts.proofs.ReachedKept.{opening_keeps, callers_keep}
+use Rattle.map_laws.specs.Waits.{FreedPagesHaveWaited}
+use Rattle.map_laws.proofs.Lists.{append_cases, append_first}
+use Rattle.map_laws.proofs.Frames.{IsFramed, not_over, has_call}
+use Rattle.map_laws.proofs.Places.{IsProper, OnNext, HaveBeginnings, begins_with, moved_has}
+use Rattle.map_laws.proofs.AreaWorlds.{IsLegalStep, IsLegallyLasting, legally_lasts}
+use Rattle.map_laws.proofs.TurnProofs.{AreTurnsProper, turns_first, turns_last}
+use Rattle.map_laws.proofs.Stories.{map_at-end}
+use Rattle.map_laws.proofs.WaitStories.{IsStoried}
+use Rattle.map_laws.proofs.SitedChunks.{IsSited}
+use Rattle.map_laws.proofs.WaitWorlds.{Follows, Waiting, Taken, IsWaiting, IsWaitWorld, is_idle, idle_sited, idle_storied, idle_flushed, wait_section}
+
+idle_begins : (P : Place → Type 0) (c : Setup) → ((p : Place) → is_idle p ≡ true → P p) → HaveBeginnings P c
+idle_begins P c have = record {
+  over = have _ refl;
+  refused = λ r. have _ refl;
+  area = λ pages align k plain some. have _ refl;
+  part = λ cpu pages e f. have _ refl;
+  dirty = have _ refl;
+  object = λ bytes align few. have _ refl;
+  atomic = λ bytes align few. have _ refl;
+  remove = λ start serial. have _ refl;
+  unmap = λ cpu page serial. have _ refl;
+  free = λ at serial. have _ refl;
+  add = λ at serial cpu index amount. have _ refl;
+  sum = λ at serial index. have _ refl;
+  balance = have _ refl;
+}
+
+pub record IsWaitedWorld (c : Setup) (first : PlainMap) (w : World) : Type 0 where
+  pub proper : AreTurnsProper w
+  pub waits : IsWaitWorld c first w
+
+-- Each legal section keeps it.
+
+module _ (c : Setup) (opening : List Call) (calls : List (List Call)) (trace : IsTrace c opening calls) (first : PlainMap) where
+  module _ (w : World) (k : ℕ) (l : Local) (s : Section) (framed : IsFramed c w) (kept : IsWaitedWorld c first w) (legal : IsLegalStep w k l s) where
+    setup : l.setup ≡ c
+    setup = (framed.own k l legal.step.here).setup
+
+    caller : l.caller ≡ k
+    caller = (framed.own k l legal.step.here).caller
+
+    abbrev moved : Local
+    moved = moved_to l (next l.setup l.place s)
+
+    abbrev by : Setup → ℕ → World
+    by d i = record { map = effect_as d w.map i s; locals = slice_set w.locals i (moved_to l (next l.setup l.place s)); events = w.events ++ (record { caller = i; section = s }) ∷ [] }
+
+    same : made_by w l s ≡ by c k
+    same = ap (λ d. by d l.caller) setup ∙ ap (by c) caller
+
+    apart_now : KeepsApart c (made_by w l s)
+    apart_now = subst (KeepsApart c) (ap (step_of w) legal.step.here ∙ ap (made_if w l) legal.step.gives) (steps_keep_apart c w k trace.setup kept.waits.apart)
+
+    proper_now : AreTurnsProper (made_by w l s)
+    proper_now = (turns_last c calls).steps w k l s framed kept.proper legal.step
+
+    placed : (P : Place → Type 0) → OnNext P (next c l.place s) → ((p : Place) → is_idle p ≡ true → P p) → P moved.place
+    placed P on have = moved_has P l (idle_begins P l.setup have) (has_call c k l (framed.own k l legal.step.here) (not_over l.setup w.map l.place s legal.step.gives)) (next l.setup l.place s) (subst (λ d. OnNext P (next d l.place s)) (sym setup) on)
+
+    goes : (q : Place) → next c l.place s ≡ Go q → moved.place ≡ q
+    goes q e = ap (λ n. (moved_to l n).place) (ap (λ d. next d l.place s) setup ∙ e)
+
+    wait_step : IsWaitedWorld c first (made_by w l s)
+    wait_step = record {
+      proper = proper_now;
+      waits = subst (IsWaitWorld c first) (sym same)
+          (wait_section c first trace.setup w kept.waits k l s legal.step.here (subst (λ d. IsProper d l.place) setup (kept.proper.proper.each k l legal.step.here)) (subst (λ d. Meets d (ask d l.place) s) setup legal.meets)
+          (subst (λ d. IsLegalAs d w.map k s) setup legal.legal) moved goes placed (subst (KeepsApart c) same apart_now) (subst AreTurnsProper same proper_now).turns);
+    }
+
+  -- More callers begin without any of this.
+
+  idle_starts : (answers : List Answered) (number : ℕ) (more : List (List Call)) (j : ℕ) (l : Local) → slice_get (callers_from c answers number more) j ≡ Some l → is_idle l.place ≡ true
+  idle_starts answers number [] j l h = cc
+  idle_starts answers number (own ∷ more) zero l h = let e : started c answers number own ≡ l = cc in
+      subst (λ (x : Local). is_idle x.place ≡ true) e (begins_with (λ p. is_idle p ≡ true) c (idle_begins (λ p. is_idle p ≡ true) c (λ p idle. idle)) answers [] (slice_get own 0))
+  idle_starts answers number (own ∷ more) (suc j) l h = idle_starts answers (suc number) more j l h
+
+  module _ (w : World) (one : length w.locals ≡ 1) (kept : IsWaitWorld c first w) where
+    abbrev joined : World
+    joined = with_callers c calls w
+
+    by_local : (P : ℕ → Place → Type 0) → ((k : ℕ) (l : Local) → slice_get w.locals k ≡ Some l → P k l.place) → ((k : ℕ) (p : Place) → is_idle p ≡ true → P k p) → (k : ℕ) (l : Local) → slice_get joined.locals k ≡ Some l → P k l.place
+    by_local P old new k l at = elim (append_cases w.locals (callers_from c (opening_answers w.locals) 1 calls) k l at) [ inl e ↦ old k l e | inr e ↦ new k l.place (idle_starts (opening_answers w.locals) 1 calls e.0 l e.2) ]
+
+    follows_more : (i page : ℕ) → Follows w i page → Follows joined i page
+    follows_more i page (Waiting on) = Waiting on
+    follows_more i page (Taken k l at is) = Taken k l (append_first w.locals (callers_from c (opening_answers w.locals) 1 calls) k l at) is
+
+    waiting_joins : (page : ℕ) → IsWaiting c first w page → IsWaiting c first joined page
+    waiting_joins page is = record { wait = is.wait; waits = is.waits; since = is.since }
+
+    wait_joins : AreTurnsProper joined → IsWaitWorld c first joined
+    wait_joins turns = record {
+      apart = callers_keep c opening calls w trace kept.apart one;
+      turns = turns.turns;
+      sited = by_local (λ k p. IsSited c w.map.chunks p) kept.sited (λ k p idle. idle_sited c w.map.chunks p idle);
+      clean = kept.clean;
+      story = kept.story;
+      storied = by_local (IsStoried c first w.events) kept.storied (λ k p idle. idle_storied c first w.events k p idle);
+      followed = λ i page waits since. follows_more i page (kept.followed i page waits since);
+      waited = λ page on. waiting_joins page (kept.waited page on);
+      flushed = by_local (λ k p. (page : ℕ) → covers (flushed p) page ≡ true → IsWaiting c first joined page) (λ k l at page on. waiting_joins page (kept.flushed k l at page on))
+          (λ k p idle page on. (let none = idle_flushed page p idle in cc));
+      waits = kept.waits;
+      freed = kept.freed;
+    }
+
+  wait_lasts : IsLegallyLasting c calls (IsWaitedWorld c first)
+  wait_lasts = record {
+    steps = wait_step;
+    joins = λ w framed one kept over. (let turns = (turns_last c calls).joins w framed one kept.proper over in record { proper = turns; waits = wait_joins w one kept.waits turns });
+  }
+
+-- The first world.
+
+module _ (c : Setup) (opening : List Call) (calls : List (List Call)) (trace : IsTrace c opening calls) where
+  abbrev at_start : PlainMap
+  at_start = at_first c (placing_calls (opening ∷ calls))
+
+  free_within : (page : ℕ) → IsMarked at_start Free page → page < c.space
+  free_within page h = omega (arith, slice_get_within (replicate c.space Free) page Free h, length-replicate c.space Free)
+
+  bare_first : (page : ℕ) → IsMarked at_start Free page → IsBare at_start page
+  bare_first page h = record { unmapped = slice_get-replicate c.space page None (free_within page h); not_stale = slice_get-replicate c.space page false (free_within page h) }
+
+  first_idle : (P : ℕ → Place → Type 0) → ((k : ℕ) (p : Place) → is_idle p ≡ true → P k p) → (k : ℕ) (l : Local) → slice_get (opening_world c opening calls).locals k ≡ Some l → P k l.place
+  first_idle P have zero l h = let e : started c [] 0 opening ≡ l = cc in subst (λ (x : Local). P 0 x.place) e (begins_with (P 0) c (idle_begins (P 0) c (have 0)) [] [] (slice_get opening 0))
+  first_idle P have (suc k) l h = cc
+
+  none_freed : (page k : ℕ) → IsFreedAt c at_start [] page k → ⊥
+  none_freed page k at = at.0 (subst (λ x. IsMarked x Free page) (map_at-end c at_start [] (suc k) (omega arith) ∙ sym (map_at-end c at_start [] k (omega arith))) at.1)
+
+  wait_first : IsWaitedWorld c at_start (opening_world c opening calls)
+  wait_first = record {
+    proper = turns_first c opening calls;
+    waits = record {
+      apart = opening_keeps c opening calls trace;
+      turns = (turns_first c opening calls).turns;
+      sited = first_idle (λ k p. IsSited c [] p) (λ k p idle. idle_sited c [] p idle);
+      clean = bare_first;
+      story = refl;
+      storied = first_idle (IsStoried c at_start []) (λ k p idle. idle_storied c at_start [] k p idle);
+      followed = λ i page waits since. (let at = waits.waits in cc);
+      waited = λ page on. cc;
+      flushed = first_idle (λ k p. (page : ℕ) → covers (flushed p) page ≡ true → IsWaiting c at_start (opening_world c opening calls) page) (λ k p idle page on. (let none = idle_flushed page p idle in cc));
+      waits = λ page i k less waits since at. absurd (none_freed page k at);
+      freed = λ page k at. absurd (none_freed page k at);
+    };
+  }
+
+  wait_reached : (w : World) → IsReached c opening calls w → IsWaitWorld c at_start w
+  wait_reached w reached = (legally_lasts c calls (IsWaitedWorld c at_start) (wait_lasts c opening calls trace at_start) opening wait_first w reached).1.waits
+
+pub pages_wait : PagesWaitBeforeReuse
+pages_wait c opening calls w trace reached =
+    let is = wait_reached c opening calls trace w reached in record {
+      waits = λ page i k caller waiting spans less at on since freed. is.waits page i k less (record { caller = caller; waiting = waiting; spans = spans; waits = at; waited = on }) since freed;
+      else_dropped = λ page k freed. elim (is.freed page k freed) [ inl has ↦ inl (has.0, has.1.returned) | inr has ↦ inr has ];
+    }
+
+pub freed_pages_waited : FreedPagesHaveWaited
+freed_pages_waited c opening calls w trace reached = (wait_reached c opening calls trace w reached).freed

@@ -1,0 +1,466 @@
+-- Pages wait before they are used again, in each reached world.
+use Rattle.std.proofs.Common.{◌≡◌, ◌≢◌, ℕ, zero, suc, ◌<◌, ◌≤◌, ◌⊎◌, inl, inr, Bool, true, false, List, [], ◌∷◌, ◌++◌, length, slice_get, slice_set, Some, refl, ap, sym, ◌∙◌, subst, arith}
+use Rattle.std.proofs.lemmas.Option.{same_Some}
+use Rattle.vm_model.specs.declared.areas.Span.{Span}
+use Rattle.vm_model.specs.declared.areas.AreaKind.{AreaKind}
+use Rattle.vm_model.specs.Space.{holds, covers, times, one_if}
+use Rattle.vm_model.specs.Setup.{Setup}
+use Rattle.vm_model.specs.PlainMap.{PlainMap, Chunk, Free}
+use Rattle.vm_model.specs.Events.{Section, Event, Wait, TakeWaiting, Drop, Return, Flush, Spare}
+use Rattle.vm_model.specs.Legal.{IsMarked, IsUnmapped, IsBare, IsLegalAs}
+use Rattle.vm_model.specs.Effects.{effect_as}
+use Rattle.vm_model.specs.Carried.{held, flushed, has_alloc}
+use Rattle.vm_model.specs.Places.{Place, MappingArea, Dropping, PurgeCollecting, PurgeFlushing, PurgeReturning, Populating, Filling, Then, ask}
+use Rattle.vm_model.specs.Next.{Go, next}
+use Rattle.vm_model.specs.LegalHistory.{Meets}
+use Rattle.vm_model.specs.History.{World, Local}
+use Rattle.vm_model.specs.Rules.{IsSetup}
+use Rattle.vm_model.specs.Laws.{map_after, map_at, as_free, IsEvent, IsTakenFrom, IsFreedAt, IsReturned, IsDropped}
+use Rattle.map_parts.specs.Owners.{every, of_place}
+use Rattle.map_parts.specs.Kept.{KeepsApart}
+use Rattle.map_parts.proofs.Sums.{member-le}
+use Rattle.map_parts.proofs.PoolMoves.{covers-le-times}
+use Rattle.map_laws.specs.Turns.{AreTurnsKept}
+use Rattle.map_laws.specs.Waits.{IsWaitOf, HasWaited, IsFreedWell}
+use Rattle.map_laws.proofs.Lists.{same_or, set_cases, set_same, set_other}
+use Rattle.map_laws.proofs.Spans.{times-one, covers_one}
+use Rattle.map_laws.proofs.OutMoves.{sum_two}
+use Rattle.map_laws.proofs.Places.{IsProper, OnNext}
+use Rattle.map_laws.proofs.Deeds.{Spares, deed, spares_at, drops_at, returns_at, collects_at}
+use Rattle.map_laws.proofs.Stories.{map_after-append, map_at-last, map_at-before, map_at-more, more_events, event_first, event_last, event_low, WhichEvent, Before, Last, which_event}
+use Rattle.map_laws.proofs.BarePages.{IsFreed, Still, Dropped, Returned, freed, free_count, gains, unmapped_stays, bare_stays, waiting_from, waiting_to, waits_now}
+use Rattle.map_laws.proofs.SitedChunks.{IsSited, sited_stays, sited_next}
+use Rattle.map_laws.proofs.MappedPages.{IsOwnPage, own_page}
+use Rattle.map_laws.proofs.WaitStories.{IsBehind, behind_flushed, IsCarvedBy, IsStoried, behind_more, returned_more, taken_before, freed_before, dropped_more, storied_more}
+use Rattle.map_laws.proofs.WaitNext.{still_unmapped, storied_next, IsLedTo, collected_next, behind_next, flushed_next}
+
+-- a page that waits, or that a caller is about to flush or to return since event i
+pub data Follows (w : World) (i page : ℕ) : Type 0 where
+  Waiting : covers w.map.waiting page ≡ true → Follows w i page
+  Taken : (k : ℕ) (l : Local) → slice_get w.locals k ≡ Some l → IsBehind w.events i k page l.place → Follows w i page
+
+-- the page waits since event i
+pub record IsWaiting (c : Setup) (first : PlainMap) (w : World) (page : ℕ) : Type 0 where
+  pub wait : ℕ
+  pub waits : IsWaitOf w.events wait page
+  pub since : IsTakenFrom c first w.events page (suc wait) (length w.events)
+
+-- what each event keeps of the pages that wait, are taken or were carved, beside who has each page
+pub record IsWaitWorld (c : Setup) (first : PlainMap) (w : World) : Type 0 where
+  pub apart : KeepsApart c w
+  pub turns : AreTurnsKept w
+  pub sited : (k : ℕ) (l : Local) → slice_get w.locals k ≡ Some l → IsSited c w.map.chunks l.place
+  pub clean : (page : ℕ) → IsMarked w.map Free page → IsBare w.map page
+  pub story : w.map ≡ map_after c first w.events
+  pub storied : (k : ℕ) (l : Local) → slice_get w.locals k ≡ Some l → IsStoried c first w.events k l.place
+  pub followed : (i page : ℕ) → IsWaitOf w.events i page → IsTakenFrom c first w.events page (suc i) (length w.events) → Follows w i page
+  pub waited : (page : ℕ) → covers w.map.waiting page ≡ true → IsWaiting c first w page
+  pub flushed : (k : ℕ) (l : Local) → slice_get w.locals k ≡ Some l → (page : ℕ) → covers (flushed l.place) page ≡ true → IsWaiting c first w page
+  pub waits : (page i k : ℕ) → i < k → IsWaitOf w.events i page → IsTakenFrom c first w.events page (suc i) k → IsFreedAt c first w.events page k → IsReturned w.events page i k
+  pub freed : (page k : ℕ) → IsFreedAt c first w.events page k → IsFreedWell c first w.events page k
+
+-- Who has a page has it alone.
+
+module _ (c : Setup) (w : World) (kept : KeepsApart c w) where
+  abbrev places : ℕ → Local → ℕ
+  places page x = of_place c x.place every page
+
+  flushed_least : (p : Place) (page : ℕ) → covers (flushed p) page ≡ true → 1 ≤ of_place c p every page
+  flushed_least p page on = omega (arith, covers-le-times (flushed p) page, ap one_if on)
+
+  pub waiting_free : (page : ℕ) → covers w.map.waiting page ≡ true → IsMarked w.map Free page → ⊥
+  waiting_free page on free = let once = kept.owners.once page in omega (arith, covers-le-times w.map.waiting page, ap one_if on, free_count w.map page free)
+
+  pub flushed_free : (k : ℕ) (l : Local) (page : ℕ) → slice_get w.locals k ≡ Some l → covers (flushed l.place) page ≡ true → IsMarked w.map Free page → ⊥
+  flushed_free k l page here on free =
+      let once = kept.owners.once page in omega (arith, member-le (places page) w.locals k l here, flushed_least l.place page on, free_count w.map page free)
+
+  pub waiting_had : (k : ℕ) (l : Local) (page : ℕ) → slice_get w.locals k ≡ Some l → covers w.map.waiting page ≡ true → 1 ≤ of_place c l.place every page → ⊥
+  waiting_had k l page here on n = let once = kept.owners.once page in omega (arith, covers-le-times w.map.waiting page, ap one_if on, member-le (places page) w.locals k l here)
+
+  pub two_had : (k j : ℕ) (l x : Local) (page : ℕ) → slice_get w.locals k ≡ Some l → slice_get w.locals j ≡ Some x → k ≢ j → 1 ≤ of_place c l.place every page → 1 ≤ of_place c x.place every page → ⊥
+  two_had k j l x page here there apart n o = let once = kept.owners.once page in omega (arith, sum_two (places page) w.locals k j l x here there apart)
+
+  -- a page that is followed is nobody else's
+  pub follows_none : (k : ℕ) (l : Local) (i page : ℕ) → slice_get w.locals k ≡ Some l → 1 ≤ of_place c l.place every page → covers (flushed l.place) page ≡ false → Follows w i page → ⊥
+  follows_none k l i page here n none (Waiting on) = waiting_had k l page here on n
+  follows_none k l i page here n none (Taken j x at is) = elim (same_or k j) [
+    | inl same ↦ (let e : l ≡ x = same_Some l x (sym here ∙ ap (slice_get w.locals) same ∙ at) in let on = ap (λ (y : Local). covers (flushed y.place) page) e ∙ behind_flushed w.events i j page x.place is in cc)
+    | inr apart ↦ two_had k j l x page here at apart n (flushed_least x.place page (behind_flushed w.events i j page x.place is))
+  ]
+
+  -- and a page that a caller flushes is followed by that caller alone
+  pub follows_own : (k : ℕ) (l : Local) (i page : ℕ) → slice_get w.locals k ≡ Some l → covers (flushed l.place) page ≡ true → Follows w i page → IsBehind w.events i k page l.place
+  follows_own k l i page here on (Waiting e) = absurd (waiting_had k l page here e (flushed_least l.place page on))
+  follows_own k l i page here on (Taken j x at is) = elim (same_or k j) [
+    | inl same ↦ (let e : x ≡ l = same_Some x l (sym at ∙ ap (slice_get w.locals) (sym same) ∙ here) in subst (λ n. IsBehind w.events i n page l.place) (sym same) (subst (λ (y : Local). IsBehind w.events i j page y.place) e is))
+    | inr apart ↦ absurd (two_had k j l x page here at apart (flushed_least l.place page on) (flushed_least x.place page (behind_flushed w.events i j page x.place is)))
+  ]
+
+-- Places of callers that have none of this.
+
+abbrev pub is_idle : Place → Bool
+is_idle (MappingArea s kd) = false
+is_idle (Dropping s) = false
+is_idle (PurgeFlushing h waited after) = false
+is_idle (PurgeReturning waited after) = false
+is_idle (Populating at missing) = false
+is_idle (Filling chunk base page filled) = false
+is_idle _ = true
+
+pub idle_sited : (c : Setup) (chunks : List Chunk) (p : Place) → is_idle p ≡ true → IsSited c chunks p
+idle_sited c chunks (Populating at missing) h = cc
+idle_sited c chunks (Filling chunk base page filled) h = cc
+idle_sited c chunks _ h = tt
+
+pub idle_storied : (c : Setup) (m : PlainMap) (events : List Event) (k : ℕ) (p : Place) → is_idle p ≡ true → IsStoried c m events k p
+idle_storied c m events k (MappingArea s kd) h = cc
+idle_storied c m events k (Dropping s) h = cc
+idle_storied c m events k _ h = tt
+
+pub idle_flushed : (page : ℕ) (p : Place) → is_idle p ≡ true → covers (flushed p) page ≡ false
+idle_flushed page (PurgeFlushing h waited after) e = cc
+idle_flushed page (PurgeReturning waited after) e = cc
+idle_flushed page _ e = refl
+
+-- only a caller with the alloc turn has a chunk that must stay
+sited_or : (c : Setup) (p : Place) → (has_alloc p ≡ true) ⊎ ((chunks : List Chunk) → IsSited c chunks p)
+sited_or c (Populating at missing) = inl refl
+sited_or c (Filling chunk base page filled) = inl refl
+sited_or c _ = inr (λ chunks. tt)
+
+pub data SpareOr : Section → Type 0 where
+  IsSpare : (chunk base : ℕ) (populated : List ℕ) → SpareOr (Spare chunk base populated)
+  NoSpare : (s : Section) → deed s ≢ Spares → SpareOr s
+
+spare_or : (s : Section) → SpareOr s
+spare_or (Spare chunk base populated) = IsSpare chunk base populated
+spare_or s = NoSpare s (λ e. cc)
+
+le_or : (a b : ℕ) → (a ≤ b) ⊎ (b < a)
+le_or zero b = inl (omega arith)
+le_or (suc a) zero = inr (omega arith)
+le_or (suc a) (suc b) = elim (le_or a b) [ inl h ↦ inl (omega arith) | inr h ↦ inr (omega arith) ]
+
+pub data Order (a b : ℕ) : Type 0 where
+  Below : a < b → Order a b
+  Same : a ≡ b → Order a b
+  Above : b < a → Order a b
+
+order : (a b : ℕ) → Order a b
+order a b = elim (le_or a b) [
+  | inl low ↦ elim (le_or b a) [ inl high ↦ Same (omega arith) | inr less ↦ Below less ]
+  | inr more ↦ Above more
+]
+
+-- Free pages stay bare, since none of them gets a frame.
+
+module _ (c : Setup) (m : PlainMap) (k page : ℕ) (clean : IsMarked m Free page → IsBare m page) where
+  still_bare : (s : Section) (b : Bool) → gains c s page ≡ b → IsLegalAs c m k s → (gains c s page ≡ true → as_free (slice_get m.marks page) ≡ 0) → IsMarked m Free page → IsBare (effect_as c m k s) page
+  still_bare s true e legal own was = absurd (omega (arith, own e, free_count m page was))
+  still_bare s false e legal own was = bare_stays c m k s page legal e (clean was)
+
+  by_freed : (s : Section) → IsLegalAs c m k s → (gains c s page ≡ true → as_free (slice_get m.marks page) ≡ 0) → IsFreed m page s → IsBare (effect_as c m k s) page
+  by_freed r legal own (Still s was) = still_bare s (gains c s page) refl legal own was
+  by_freed r legal own (Dropped dropped on) = let is = legal.1 page (covers_one dropped page ∙ on) in record { unmapped = is.unmapped; not_stale = is.not_stale }
+  by_freed r legal own (Returned spans on) = let is = legal.1 page on in record { unmapped = is.unmapped; not_stale = is.not_stale }
+
+  pub clean_section : (s : Section) → IsLegalAs c m k s → (gains c s page ≡ true → as_free (slice_get m.marks page) ≡ 0) → IsMarked (effect_as c m k s) Free page → IsBare (effect_as c m k s) page
+  clean_section s legal own now = by_freed s legal own (freed c m k s page now)
+
+-- A legal section of one caller, over the setup itself and under its number.
+
+module _ (c : Setup) (first : PlainMap) (is : IsSetup c) (w : World) (kept : IsWaitWorld c first w) (k : ℕ) (l : Local) (s : Section) (here : slice_get w.locals k ≡ Some l) (proper : IsProper c l.place)
+    (meets : Meets c (ask c l.place) s) (legal : IsLegalAs c w.map k s) (moved : Local) where
+  abbrev event : Event
+  event = record { caller = k; section = s }
+
+  abbrev pub made : World
+  made = record { map = effect_as c w.map k s; locals = slice_set w.locals k moved; events = w.events ++ (record { caller = k; section = s }) ∷ [] }
+
+  story_now : made.map ≡ map_after c first made.events
+  story_now = ap (λ m. effect_as c m k s) kept.story ∙ sym (map_after-append c first w.events (event ∷ []))
+
+  -- the maps before the event and behind it
+  map_was : map_at c first made.events (length w.events) ≡ w.map
+  map_was = map_at-last c first w.events event ∙ sym kept.story
+
+  map_now : (n : ℕ) → length w.events < n → map_at c first made.events n ≡ made.map
+  map_now n h = map_at-more c first w.events event n h ∙ ap (λ m. effect_as c m k s) (sym kept.story)
+
+  -- a page that isn't free now either
+  not_free_since : (i page : ℕ) → (IsMarked made.map Free page → ⊥) → IsTakenFrom c first w.events page (suc i) (length w.events) → IsTakenFrom c first made.events page (suc i) (length made.events)
+  not_free_since i page never since n a b free = elim (le_or n (length w.events)) [
+    | inl low ↦ since n a low (subst (λ x. IsMarked x Free page) (map_at-before c first w.events event n low) free)
+    | inr high ↦ never (subst (λ x. IsMarked x Free page) (map_now n high) free)
+  ]
+
+  waiting_more : (page : ℕ) → (IsMarked made.map Free page → ⊥) → IsWaiting c first w page → IsWaiting c first made page
+  waiting_more page never was = record {
+    wait = was.wait;
+    waits = record {
+      caller = was.waits.caller;
+      waiting = was.waits.waiting;
+      spans = was.waits.spans;
+      waits = event_first w.events event was.wait was.waits.caller (Wait was.waits.spans was.waits.waiting) was.waits.waits;
+      waited = was.waits.waited;
+    };
+    since = not_free_since was.wait page never was.since;
+  }
+
+  -- the page is the caller's own where it gets a frame
+  gained : (page : ℕ) → gains c s page ≡ true → IsOwnPage w k page
+  gained page e = own_page c is w kept.apart k l here (kept.sited k l here) s page meets e
+
+  -- Free pages, and those that were carved.
+
+  clean_now : (page : ℕ) → IsMarked made.map Free page → IsBare made.map page
+  clean_now page now = clean_section c w.map k page (kept.clean page) s legal (λ e. (gained page e).taken) now
+
+  ungained : (page : ℕ) (b : Bool) → gains c s page ≡ b → (gains c s page ≡ true → ⊥) → IsUnmapped w.map page → IsUnmapped made.map page
+  ungained page true e never was = absurd (never e)
+  ungained page false e never was = unmapped_stays c w.map k s page e was
+
+  holds_place : (x : Local) (place : Span) (page : ℕ) → (x.place ≡ Dropping place) ⊎ ((kd : AreaKind) × (x.place ≡ MappingArea place kd)) → holds place page ≡ true → 1 ≤ times page (held x.setup x.place)
+  holds_place x place page (inl e) on = omega (arith, ap (λ p. times page (held x.setup p)) e, times-one page place, ap one_if on)
+  holds_place x place page (inr e) on = omega (arith, ap (λ p. times page (held x.setup p)) e.1, times-one page place, ap one_if on)
+
+  storied_other : (j : ℕ) (x : Local) → slice_get w.locals j ≡ Some x → j ≢ k → IsStoried c first made.events j x.place
+  storied_other j x at apart = storied_more c first w.events event j x.place
+      (λ place carved e page on. subst (λ m. IsUnmapped (effect_as c m k s) page) kept.story
+      (ungained page _ refl (λ g. (let none = (gained page g).others j x at apart in let some = holds_place x place page e on in omega arith)) (still_unmapped c first w.map w.events kept.story kept.clean j place carved page on)))
+      (kept.storied j x at)
+
+  -- The chunk that gets frames.
+
+  sited_other : (j : ℕ) (x : Local) → slice_get w.locals j ≡ Some x → j ≢ k → SpareOr s → IsSited c made.map.chunks x.place
+  sited_other j x at apart or = by_spare s refl or
+    where
+      by_spare : (t : Section) → s ≡ t → SpareOr t → IsSited c made.map.chunks x.place
+      by_spare r e (IsSpare chunk base populated) = elim (sited_or c x.place) [
+        | inl theirs ↦ (
+            let p = spares_at c l.place chunk base populated (subst (Meets c (ask c l.place)) e meets) in
+            let mine = kept.turns.alloc.mine k l here (ap has_alloc p) in
+            let other = kept.turns.alloc.mine j x at theirs in
+            absurd (apart (let f : k ≡ j = cc in sym f))
+            )
+        | inr any ↦ any made.map.chunks
+      ]
+      by_spare r e (NoSpare t n) = sited_stays c w.map k s x.place (subst (λ y. deed y ≢ Spares) (sym e) n) (kept.sited j x at)
+
+  -- What is followed.
+
+  module _ (goes : (q : Place) → next c l.place s ≡ Go q → moved.place ≡ q) where
+    here_now : slice_get made.locals k ≡ Some moved
+    here_now = set_same w.locals k l moved here
+
+    led_now : (i page : ℕ) → IsLedTo (IsBehind made.events i k page) (next c l.place s) → Follows made i page
+    led_now i page led = Taken k moved here_now (subst (IsBehind made.events i k page) (sym (goes led.place led.goes)) led.there)
+
+    collected_now : (i page : ℕ) (all : List Span) → i < length w.events → covers w.map.waiting page ≡ true → s ≡ TakeWaiting all → Follows made i page
+    collected_now i page all low on e =
+        let at = collects_at c l.place all (subst (Meets c (ask c l.place)) e meets) in
+        led_now i page (subst (λ p. IsLedTo (IsBehind made.events i k page) (next c p s)) (sym at.2)
+        (subst (λ t. IsLedTo (IsBehind (w.events ++ (record { caller = k; section = t }) ∷ []) i k page) (next c (PurgeCollecting at.0 at.1) t)) (sym e)
+        (collected_next c w.map w.events k i page at.0 at.1 all low on (subst (IsLegalAs c w.map k) e legal))))
+
+    followed_more : (i page : ℕ) → i < length w.events → (IsMarked made.map Free page → ⊥) → Follows w i page → Follows made i page
+    followed_more i page low never (Waiting on) = elim (waiting_to c w.map k s page on) [ inl now ↦ Waiting now | inr e ↦ collected_now i page e.0 low on e.1 ]
+    followed_more i page low never (Taken j x at is) = elim (same_or j k) [
+      | inl same ↦ (
+          let e : x ≡ l = same_Some x l (sym at ∙ ap (slice_get w.locals) same ∙ here) in
+          led_now i page (behind_next c w.map w.events k i page l.place s meets legal never (subst (λ n. IsBehind w.events i n page l.place) same (subst (λ (y : Local). IsBehind w.events i j page y.place) e is)))
+          )
+      | inr apart ↦ Taken j x (set_other w.locals k j moved apart ∙ at) (behind_more w.events event i j page x.place is)
+    ]
+
+    followed_now : (i page : ℕ) → IsWaitOf made.events i page → IsTakenFrom c first made.events page (suc i) (length made.events) → Follows made i page
+    followed_now i page waits since = by_event (which_event w.events k s i waits.caller (Wait waits.spans waits.waiting) waits.waits)
+      where
+        never : i ≤ length w.events → IsMarked made.map Free page → ⊥
+        never low free = since (length made.events) (omega (arith, more_events c first w.events event)) (omega arith)
+            (subst (λ x. IsMarked x Free page) (sym (map_now (length made.events) (omega (arith, more_events c first w.events event)))) free)
+
+        by_event : WhichEvent w.events k s i waits.caller (Wait waits.spans waits.waiting) → Follows made i page
+        by_event (Before low was) = followed_more i page low (never (omega arith))
+            (kept.followed i page (record { caller = waits.caller; waiting = waits.waiting; spans = waits.spans; waits = was; waited = waits.waited })
+            (taken_before c first w.events event page (suc i) (length w.events) (omega arith) (λ n a b. since n a (omega (arith, more_events c first w.events event)))))
+        by_event (Last end own same) = Waiting (subst (λ t. covers (effect_as c w.map k t).waiting page ≡ true) (sym same) (waits_now c w.map k waits.spans waits.waiting page waits.waited))
+
+  -- A page that is freed.
+
+  wait_before : (i page : ℕ) → i < length w.events → IsWaitOf made.events i page → IsWaitOf w.events i page
+  wait_before i page low waits = by_event (which_event w.events k s i waits.caller (Wait waits.spans waits.waiting) waits.waits)
+    where
+      by_event : WhichEvent w.events k s i waits.caller (Wait waits.spans waits.waiting) → IsWaitOf w.events i page
+      by_event (Before a was) = record { caller = waits.caller; waiting = waits.waiting; spans = waits.spans; waits = was; waited = waits.waited }
+      by_event (Last end own same) = absurd (omega arith)
+
+  last_event : (t : Section) → s ≡ t → IsEvent made.events (length w.events) k t
+  last_event t e = subst (IsEvent made.events (length w.events) k) e (event_last w.events k s)
+
+  return_now : (i page : ℕ) (spans : List Span) (after : Then) → s ≡ Return spans → covers spans page ≡ true → IsBehind w.events i k page (PurgeReturning spans after) → IsReturned made.events page i (length w.events)
+  return_now i page spans after e on is = let behind = is.1 in record {
+    caller = k;
+    taken = behind.since.taken;
+    flush = behind.flush;
+    all = behind.since.all;
+    flushed_span = behind.flushed;
+    spans = spans;
+    after_wait = behind.since.after;
+    after_take = behind.after;
+    before = event_low w.events behind.flush k (Flush behind.flushed) behind.flushes;
+    takes = event_first w.events event behind.since.taken k (TakeWaiting behind.since.all) behind.since.takes;
+    took_page = behind.since.took;
+    flushes = event_first w.events event behind.flush k (Flush behind.flushed) behind.flushes;
+    flushed_page = behind.flushed_page;
+    returns = last_event (Return spans) e;
+    returned_page = on;
+  }
+
+  -- the caller returns it, or drops it
+  pub data IsFreeing (page : ℕ) : Type 0 where
+    Returns : (spans : List Span) (after : Then) → s ≡ Return spans → l.place ≡ PurgeReturning spans after → covers spans page ≡ true → IsFreeing page
+    Drops : (dropped : Span) → s ≡ Drop dropped → l.place ≡ Dropping dropped → holds dropped page ≡ true → IsFreeing page
+
+  freeing : (page : ℕ) → (IsMarked w.map Free page → ⊥) → IsMarked made.map Free page → IsFreeing page
+  freeing page never now = by_section s refl (freed c w.map k s page now)
+    where
+      by_section : (t : Section) → s ≡ t → IsFreed w.map page t → IsFreeing page
+      by_section r e (Still t was) = absurd (never was)
+      by_section r e (Dropped dropped on) = Drops dropped e (drops_at c l.place dropped (subst (Meets c (ask c l.place)) e meets)) on
+      by_section r e (Returned spans on) = let at = returns_at c l.place spans (subst (Meets c (ask c l.place)) e meets) in Returns spans at.0 e at.1 on
+
+  followed_returns : (i page : ℕ) → Follows w i page → IsFreeing page → IsReturned made.events page i (length w.events)
+  followed_returns i page follows (Returns spans after e at on) =
+      return_now i page spans after e on (subst (IsBehind w.events i k page) at (follows_own c w kept.apart k l i page here (ap (λ p. covers (flushed p) page) at ∙ on) follows))
+  followed_returns i page follows (Drops dropped e at on) =
+      absurd (follows_none c w kept.apart k l i page here (omega (arith, ap (λ p. of_place c p every page) at, times-one page dropped, ap one_if on)) (ap (λ p. covers (flushed p) page) at) follows)
+
+  dropped_now : (page : ℕ) (dropped : Span) → s ≡ Drop dropped → holds dropped page ≡ true → IsCarvedBy c first w.events k dropped → IsDropped c first made.events page (length w.events)
+  dropped_now page dropped e on carved = record {
+    caller = k;
+    carve = carved.carve;
+    section = carved.section;
+    dropped = dropped;
+    before = event_low w.events carved.carve k carved.section carved.carves;
+    carves = event_first w.events event carved.carve k carved.section carved.carves;
+    carved_page = carved.pages page on;
+    unmapped = λ n a b. subst (λ x. IsUnmapped x page) (sym (map_at-before c first w.events event n b)) (carved.unmapped page n on a b);
+    drops = last_event (Drop dropped) e;
+    dropped_page = on;
+  }
+
+  freed_well : (page : ℕ) → IsFreeing page → IsFreedWell c first made.events page (length w.events)
+  freed_well page (Returns spans after e at on) =
+      let was = kept.flushed k l here page (ap (λ p. covers (flushed p) page) at ∙ on) in
+      inl (
+        was.wait,
+        record {
+          waits = wait_more was;
+          since = λ n a b free. was.since n a b (subst (λ x. IsMarked x Free page) (map_at-before c first w.events event n b) free);
+          returned = followed_returns was.wait page (kept.followed was.wait page was.waits was.since) (Returns spans after e at on);
+        },
+      )
+    where
+      wait_more : (was : IsWaiting c first w page) → IsWaitOf made.events was.wait page
+      wait_more was = record {
+        caller = was.waits.caller;
+        waiting = was.waits.waiting;
+        spans = was.waits.spans;
+        waits = event_first w.events event was.wait was.waits.caller (Wait was.waits.spans was.waits.waiting) was.waits.waits;
+        waited = was.waits.waited;
+      }
+  freed_well page (Drops dropped e at on) = inr (dropped_now page dropped e on (subst (IsStoried c first w.events k) at (kept.storied k l here)))
+
+  none_behind : (page n : ℕ) → length w.events < n → IsFreedAt c first made.events page n → ⊥
+  none_behind page n high at = at.0 (subst (λ x. IsMarked x Free page) (map_now (suc n) (omega arith) ∙ sym (map_now n high)) at.1)
+
+  freed_last : (page : ℕ) → IsFreedAt c first made.events page (length w.events) → IsFreeing page
+  freed_last page at = freeing page (λ was. at.0 (subst (λ x. IsMarked x Free page) (sym map_was) was)) (subst (λ x. IsMarked x Free page) (map_now (suc (length w.events)) (omega arith)) at.1)
+
+  waits_last : (page i : ℕ) → i < length w.events → IsWaitOf made.events i page → IsTakenFrom c first made.events page (suc i) (length w.events) → IsFreedAt c first made.events page (length w.events)
+      → IsReturned made.events page i (length w.events)
+  waits_last page i low waits since at =
+      followed_returns i page (kept.followed i page (wait_before i page low waits) (taken_before c first w.events event page (suc i) (length w.events) (omega arith) since)) (freed_last page at)
+
+  waits_by : (page i n : ℕ) → Order n (length w.events) → i < n → IsWaitOf made.events i page → IsTakenFrom c first made.events page (suc i) n → IsFreedAt c first made.events page n → IsReturned made.events page i n
+  waits_by page i n (Below low) less waits since at =
+      returned_more w.events event page i n
+      (kept.waits page i n less (wait_before i page (omega arith) waits) (taken_before c first w.events event page (suc i) n (omega arith) since) (freed_before c first w.events event page n low at))
+  waits_by page i n (Same e) less waits since at =
+      subst (IsReturned made.events page i) (sym e) (waits_last page i (omega arith) waits (subst (IsTakenFrom c first made.events page (suc i)) e since) (subst (IsFreedAt c first made.events page) e at))
+  waits_by page i n (Above high) less waits since at = absurd (none_behind page n high at)
+
+  waited_more : (page i n : ℕ) → n < length w.events → HasWaited c first w.events page i n → HasWaited c first made.events page i n
+  waited_more page i n low has = record {
+    waits = record {
+      caller = has.waits.caller;
+      waiting = has.waits.waiting;
+      spans = has.waits.spans;
+      waits = event_first w.events event i has.waits.caller (Wait has.waits.spans has.waits.waiting) has.waits.waits;
+      waited = has.waits.waited;
+    };
+    since = λ j a b free. has.since j a b (subst (λ x. IsMarked x Free page) (map_at-before c first w.events event j (omega arith)) free);
+    returned = returned_more w.events event page i n has.returned;
+  }
+
+  freed_by : (page n : ℕ) → Order n (length w.events) → IsFreedAt c first made.events page n → IsFreedWell c first made.events page n
+  freed_by page n (Below low) at = elim (kept.freed page n (freed_before c first w.events event page n low at)) [
+    | inl has ↦ inl (has.0, waited_more page has.0 n low has.1)
+    | inr has ↦ inr (dropped_more c first w.events event page n low has)
+  ]
+  freed_by page n (Same e) at = subst (IsFreedWell c first made.events page) (sym e) (freed_well page (freed_last page (subst (IsFreedAt c first made.events page) e at)))
+  freed_by page n (Above high) at = absurd (none_behind page n high at)
+
+  -- What waits, and what is flushed.
+
+  waited_now : KeepsApart c made → (page : ℕ) → covers made.map.waiting page ≡ true → IsWaiting c first made page
+  waited_now apart page on = elim (waiting_from c w.map k s page on) [
+    | inl was ↦ waiting_more page (waiting_free c made apart page on) (kept.waited page was)
+    | inr now ↦ record {
+      wait = length w.events;
+      waits = record { caller = k; waiting = now.1; spans = now.0; waits = last_event (Wait now.0 now.1) now.2; waited = now.3 };
+      since = λ n a b free. waiting_free c made apart page on (subst (λ x. IsMarked x Free page) (map_now n a) free);
+    }
+  ]
+
+  module _ (goes : (q : Place) → next c l.place s ≡ Go q → moved.place ≡ q) (placed : (P : Place → Type 0) → OnNext P (next c l.place s) → ((p : Place) → is_idle p ≡ true → P p) → P moved.place) (apart : KeepsApart c made)
+      (turns : AreTurnsKept made) where
+    flushed_had : (j : ℕ) (x : Local) → slice_get made.locals j ≡ Some x → (page : ℕ) → covers (flushed x.place) page ≡ true → IsWaiting c first w page
+    flushed_had j x at page on = elim (set_cases w.locals k j moved x at) [
+      | inl e ↦ placed (λ p. covers (flushed p) page ≡ true → IsWaiting c first w page)
+          (flushed_next c w.map k page (IsWaiting c first w page) (kept.waited page) l.place s meets legal (kept.flushed k l here page)) (λ p idle e. (let none = idle_flushed page p idle in cc))
+          (ap (λ (y : Local). covers (flushed y.place) page) (sym e.1) ∙ on)
+      | inr e ↦ kept.flushed j x e.1 page on
+    ]
+
+    sited_now : (j : ℕ) (x : Local) → slice_get made.locals j ≡ Some x → IsSited c made.map.chunks x.place
+    sited_now j x at = elim (set_cases w.locals k j moved x at) [
+      | inl e ↦ subst (λ (y : Local). IsSited c made.map.chunks y.place) (sym e.1) (placed (IsSited c made.map.chunks) (sited_next c w.map k l.place s proper meets legal) (idle_sited c made.map.chunks))
+      | inr e ↦ sited_other j x e.1 e.0 (spare_or s)
+    ]
+
+    storied_own : IsStoried c first made.events k moved.place
+    storied_own = placed (IsStoried c first made.events k) (storied_next c first w.map w.events kept.story kept.clean k l.place s meets legal (kept.storied k l here)) (idle_storied c first made.events k)
+
+    storied_now : (j : ℕ) (x : Local) → slice_get made.locals j ≡ Some x → IsStoried c first made.events j x.place
+    storied_now j x at = elim (set_cases w.locals k j moved x at) [
+      | inl e ↦ subst (λ (y : Local). IsStoried c first made.events j y.place) (sym e.1) (subst (λ i. IsStoried c first made.events i moved.place) (sym e.0) storied_own)
+      | inr e ↦ storied_other j x e.1 e.0
+    ]
+
+    pub wait_section : IsWaitWorld c first made
+    wait_section = record {
+      apart = apart;
+      turns = turns;
+      sited = sited_now;
+      clean = clean_now;
+      story = story_now;
+      storied = storied_now;
+      followed = followed_now goes;
+      waited = waited_now apart;
+      flushed = λ j x at page on. waiting_more page (flushed_free c made apart j x page at on) (flushed_had j x at page on);
+      waits = λ page i n less waits since at. waits_by page i n (order n (length w.events)) less waits since at;
+      freed = λ page n at. freed_by page n (order n (length w.events)) at;
+    }

@@ -1,8 +1,0 @@
-use Rattle.map_laws.proofs.MapLaws.{areas_apart, guard_unmapped, free_clean, parts_disjoint}
-use Rattle.map_laws.proofs.CarriedKept.{carried_kept}
-use Rattle.map_laws.proofs.MapLegal.{map_histories}
-use Rattle.map_laws.proofs.ReachedSteps.{steps_reached}
-use Rattle.map_laws.proofs.traces_without_objects.Goals as goal
-
-pub returns : goal.returns
-returns c = record { apart = areas_apart; guard = guard_unmapped; clean = free_clean; parts = parts_disjoint; carried = carried_kept; legal = map_histories; steps = steps_reached }
