@@ -9,7 +9,6 @@ mod failing_calls;
 mod gather;
 mod memory_sink;
 mod memory_source;
-mod one_caller;
 mod send;
 mod sink;
 mod source;
