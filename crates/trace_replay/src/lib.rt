@@ -5,6 +5,8 @@ mod answer;
 #[cfg(test)]
 mod bad_texts;
 mod commands;
+#[cfg(test)]
+mod drawn_traces;
 mod failing_calls;
 mod gather;
 mod memory_sink;
