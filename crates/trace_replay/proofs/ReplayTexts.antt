@@ -11,7 +11,7 @@ use Rattle.trace_text.proofs.Exclusive.{one_trace, trace_or_bad}
 use Rattle.trace_replay.specs.declared.status.Status.{Status}
 use Rattle.trace_replay.specs.declared.status.Status.TheVariants.{Done, BadTrace, Unbuilt, Usage, OutOfMemory, ReadFault, WriteFault, TooLong}
 use Rattle.trace_replay.specs.Headline.{report_of, Writes, most_bytes}
-use Rattle.trace_replay.specs.WorkedReplays.{IsReplayedAs, free_space, free_space_report, OneFreeSpace, two_areas, two_areas_report, TwoAreasWithGuards}
+use Rattle.trace_replay.specs.WorkedReplays.{IsReplayedAs, free_space, free_space_report, OneFreeSpace, two_areas, two_areas_report, TwoAreasWithGuards, two_callers, two_callers_report, PlacesAsPicked, two_purges, two_purges_report, APickStays}
 
 abbrev reading_of : Outcome → Reading
 reading_of (Whole r) = r
@@ -33,6 +33,14 @@ one_free_space = replayed_as free_space free_space_report refl refl
 pub two_areas_with_guards : TwoAreasWithGuards
 unfolding digits ones history_of finish
 two_areas_with_guards = replayed_as two_areas two_areas_report refl refl
+
+pub places_as_picked : PlacesAsPicked
+unfolding digits ones history_of finish
+places_as_picked = replayed_as two_callers two_callers_report refl refl
+
+pub a_pick_stays : APickStays
+unfolding digits ones history_of finish
+a_pick_stays = replayed_as two_purges two_purges_report refl refl
 
 -- what may be written for a trace is its report
 pub only_report : (bytes text : List ℕ) (room : ℕ) → IsReplayedAs bytes text → length bytes ≤ most_bytes → length text ≤ room → (status : Status) (written : List ℕ) → Writes bytes status written → length written ≤ room

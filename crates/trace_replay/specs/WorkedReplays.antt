@@ -27,3 +27,23 @@ two_areas_report = codes "vmreport 1\n0.1 0xffffc90000000000 @3\n0.2 0xffffc9000
 
 abbrev pub TwoAreasWithGuards : Type 0
 TwoAreasWithGuards = IsReplayedAs two_areas two_areas_report
+
+-- caller 2 carves before caller 1 does, and settles first
+abbrev pub two_callers : List ℕ
+two_callers = codes "vmtrace 1\nspace 16\ncallers 2\ncaller 1\nvmalloc a 4096 1\ncaller 2\nvmalloc b 4096 1\norder 2 1 1 2 2\nend\n"
+
+abbrev pub two_callers_report : List ℕ
+two_callers_report = codes "vmreport 1\n1.1 0xffffc90000002000 @6\n2.1 0xffffc90000000000 @5\ntally calls 2 ok 2 no-space 0 no-frames 0 no-atomic 0 not-live 0 refused 0\nevents 6\nframes 1022 mapped 2 stale 0\nfree 4..16\narea 0..2 vmalloc caller 2 serial 1\narea 2..4 vmalloc caller 1 serial 2\nend\n"
+
+abbrev pub PlacesAsPicked : Type 0
+PlacesAsPicked = IsReplayedAs two_callers two_callers_report
+
+-- caller 1 has the purge turn at the fourth pick, which is caller 2's
+abbrev pub two_purges : List ℕ
+two_purges = codes "vmtrace 1\nspace 2\ncallers 2\ncaller 1\nvmalloc a 8192 1\ncaller 2\nvmalloc b 8192 1\norder 1 2 1 2\nend\n"
+
+abbrev pub two_purges_report : List ℕ
+two_purges_report = codes "vmreport 1\n1.1 no-space @7\n2.1 no-space @12\ntally calls 2 ok 0 no-space 2 no-frames 0 no-atomic 0 not-live 0 refused 0\nevents 12\nframes 1024 mapped 0 stale 0\nfree 0..2\nend\n"
+
+abbrev pub APickStays : Type 0
+APickStays = IsReplayedAs two_purges two_purges_report
