@@ -131,3 +131,113 @@ impl BusySide {
         Ok(AreaList::of(self.areas.values().copied().collect(alloc)?))
     }
 }
+
+#[cfg(test)]
+mod tests {
+    use super::*;
+
+    /// Whether a span may become an area: it has a page, and no area holds a page of it.
+    fn is_open(side: &BusySide, span: Span) -> bool
+        ensures page { IsTrue result → 0 < span.pages }
+        ensures unused { IsTrue result → IsUnused side.now.areas span }
+    {
+        if span.pages == 0 || span.pages > u32::MAX - span.start {
+            return false;
+        }
+        for page in span.start..span.start + span.pages {
+            if side.find(page).is_some() {
+                return false;
+            }
+        }
+        true
+    }
+
+    /// An area of `vmalloc` that caller 7 made.
+    fn area(start: u32, pages: u32, serial: u32) -> Area {
+        Area {
+            span: Span { start, pages },
+            kind: AreaKind::Vmalloc,
+            caller: 7,
+            serial,
+        }
+    }
+
+    /// Makes such an area, and answers its serial.
+    fn insert(side: &mut BusySide, start: u32, pages: u32) -> Result<u32, AllocError>
+        requires page { 0 < pages }
+        requires unused { IsUnused side.old.areas (record { start = start; pages = pages }) }
+    {
+        side.insert(Span { start, pages }, AreaKind::Vmalloc, 7)
+    }
+
+    #[test]
+    fn keeps_areas_by_start(rt: HostRuntime) -> Result<(), AllocError> {
+        let mut side = BusySide::new(rt.alloc());
+        assert!(rt; side.is_empty());
+        for (start, pages, serial) in [(8, 4, 1), (0, 2, 2), (40, 1, 3), (4, 4, 4), (3, 1, 5)] {
+            assert!(rt; is_open(&side, Span { start, pages }));
+            assert_eq!(rt; insert(&mut side, start, pages)?, serial);
+        }
+        for (start, pages) in [(7, 1), (2, 7), (12, 29), (0, 1)] {
+            assert!(rt; !is_open(&side, Span { start, pages }), "{start}");
+        }
+        let rows = [
+            area(0, 2, 2),
+            area(3, 1, 5),
+            area(4, 4, 4),
+            area(8, 4, 1),
+            area(40, 1, 3),
+        ];
+        assert_eq!(rt; side.areas(rt.alloc())?.as_slice(), rows.as_slice());
+        assert_eq!(rt; side.len(), 5);
+        for index in 0..side.len() {
+            assert_eq!(rt; side.area_at(index), rows[index as usize]);
+        }
+        for (page, start) in [
+            (0, Some(0)),
+            (1, Some(0)),
+            (2, None),
+            (3, Some(3)),
+            (7, Some(4)),
+            (8, Some(8)),
+            (11, Some(8)),
+            (12, None),
+            (40, Some(40)),
+            (41, None),
+        ] {
+            assert_eq!(rt;
+                side.find(page).map(|area| area.span.start),
+                start,
+                "{page}"
+            );
+        }
+        Ok(())
+    }
+
+    #[test]
+    fn removes_by_start_and_serial(rt: HostRuntime) -> Result<(), AllocError> {
+        let mut side = BusySide::new(rt.alloc());
+        let first = Span { start: 4, pages: 2 };
+        assert!(rt; is_open(&side, first));
+        assert_eq!(rt; insert(&mut side, 4, 2)?, 1);
+        assert!(rt; is_open(&side, Span { start: 6, pages: 3 }));
+        assert_eq!(rt; insert(&mut side, 6, 3)?, 2);
+
+        assert_eq!(rt; side.remove(4, 2), None);
+        assert_eq!(rt; side.remove(5, 1), None);
+        assert_eq!(rt; side.len(), 2);
+        assert_eq!(rt; side.remove(4, 1), Some(area(4, 2, 1)));
+        assert_eq!(rt; side.remove(4, 1), None);
+
+        assert!(rt; is_open(&side, first));
+        assert_eq!(rt; insert(&mut side, 4, 2)?, 3);
+        assert_eq!(rt; side.remove(4, 1), None);
+        assert_eq!(rt; side.find(5), Some(area(4, 2, 3)));
+        assert_eq!(rt; side.remove(6, 2), Some(area(6, 3, 2)));
+        assert_eq!(rt;
+            side.areas(rt.alloc())?.as_slice(),
+            [area(4, 2, 3)].as_slice()
+        );
+        Ok(())
+    }
+}
