@@ -90,3 +90,5 @@ pub mod Words
 pub mod ZeroedWords
 pub mod CellsKept
 pub mod ObjectWords
+pub mod SizedPlaces
+pub mod SizedCalls
