@@ -92,3 +92,4 @@ pub mod CellsKept
 pub mod ObjectWords
 pub mod SizedPlaces
 pub mod SizedCalls
+pub mod UsedWords
