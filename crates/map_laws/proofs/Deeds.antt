@@ -1,16 +1,16 @@
 -- What a section is for is known from the ask that it meets.
-use Rattle.std.proofs.Common.{◌≡◌, ◌≢◌, ℕ, ◌⊎◌, inl, inr, List, Option, refl, ap, sym, ◌∙◌}
+use Rattle.std.proofs.Common.{◌≡◌, ◌≢◌, ℕ, ◌⊎◌, inl, inr, List, Option, refl, ap, sym, ◌∙◌, subst, ℤ}
 use Rattle.vm_model.specs.declared.areas.Span.{Span}
 use Rattle.vm_model.specs.declared.areas.AreaKind.{AreaKind}
 use Rattle.vm_model.specs.Setup.{Setup}
 use Rattle.vm_model.specs.Areas.{mapped_part}
 use Rattle.vm_model.specs.Blocks.{PartAt, mapped_pages}
 use Rattle.vm_model.specs.Chunks.{ObjectAt}
-use Rattle.vm_model.specs.Events.{Section, ForPages, ForGroups, Drop, Return, Wait, TakeWaiting, MapPages, Populate, Fill, Spare}
-use Rattle.vm_model.specs.Places.{Place, MappingArea, Dropping, PurgeCollecting, PurgeReturning, MappingPart, Populating, Sparing, Filling, Then, Ask, AskNothing, AskRefuse, AskTakePurge, AskGivePurge, AskTakeAlloc, AskGiveAlloc, AskSearch, AskDrop, AskReturn, AskSettle, AskRemove, AskUnlink, AskWait, AskTakeWaiting, AskMap, AskPopulate, AskFill, AskUnmap, AskDepopulate, AskFlush, AskZero, AskAdd, AskSum, AskPlace, AskAddChunk, AskAtomic, AskSettleObject, AskUnplace, AskFree, AskSpare, AskNextPage, AskFilled, AskPart, AskAddBlock, AskSettlePart, AskBegin, AskRetire, AskFragment, AskDirty, ask}
+use Rattle.vm_model.specs.Events.{Section, ForPages, ForGroups, Drop, Return, Wait, TakeWaiting, MapPages, Populate, Fill, Spare, Zero, AddWord, SumWords, SettleObject}
+use Rattle.vm_model.specs.Places.{Place, Zeroing, Adding, Summing, SettlingObject, SettlingAtomic, MappingArea, Dropping, PurgeCollecting, PurgeReturning, MappingPart, Populating, Sparing, Filling, Then, Ask, AskNothing, AskRefuse, AskTakePurge, AskGivePurge, AskTakeAlloc, AskGiveAlloc, AskSearch, AskDrop, AskReturn, AskSettle, AskRemove, AskUnlink, AskWait, AskTakeWaiting, AskMap, AskPopulate, AskFill, AskUnmap, AskDepopulate, AskFlush, AskZero, AskAdd, AskSum, AskPlace, AskAddChunk, AskAtomic, AskSettleObject, AskUnplace, AskFree, AskSpare, AskNextPage, AskFilled, AskPart, AskAddBlock, AskSettlePart, AskBegin, AskRetire, AskFragment, AskDirty, ask}
 use Rattle.vm_model.specs.LegalHistory.{Meets}
 
--- the sections that mark pages free, that change what waits, that give frames or may do so, and that take out a chunk
+-- the sections that mark pages free, change what waits, give frames or may do so, take out a chunk, or are of an object's words or life
 pub data Deed : Type 0 where
   Drops : Deed
   Returns : Deed
@@ -20,6 +20,10 @@ pub data Deed : Type 0 where
   Populates : Deed
   Fills : Deed
   Spares : Deed
+  Zeroes : Deed
+  Adds : Deed
+  Sums : Deed
+  Settles : Deed
   Others : Deed
 
 abbrev pub asked : Ask → Deed
@@ -31,6 +35,10 @@ asked (AskMap s) = Maps
 asked (AskPopulate at missing) = Populates
 asked (AskFill base page) = Fills
 asked AskSpare = Spares
+asked (AskZero at) = Zeroes
+asked (AskAdd at serial cpu index amount) = Adds
+asked (AskSum at serial index) = Sums
+asked (AskSettleObject at) = Settles
 asked _ = Others
 
 abbrev pub deed : Section → Deed
@@ -42,6 +50,10 @@ deed (MapPages s) = Maps
 deed (Populate at missing) = Populates
 deed (Fill base page) = Fills
 deed (Spare chunk base populated) = Spares
+deed (Zero at) = Zeroes
+deed (AddWord at serial cpu index amount) = Adds
+deed (SumWords at serial index total) = Sums
+deed (SettleObject at serial) = Settles
 deed _ = Others
 
 -- a section does what was asked for, or nothing of this kind
@@ -79,15 +91,15 @@ meets_deed c (AskFill base page) s (inr w) = other s _ _ w refl
 meets_deed c (AskUnmap p) s w = other s _ _ w refl
 meets_deed c (AskDepopulate base pages) s w = other s _ _ w refl
 meets_deed c (AskFlush p) s w = other s _ _ w refl
-meets_deed c (AskZero at) s w = other s _ _ w refl
-meets_deed c (AskAdd at serial cpu index amount) s w = other s _ _ w refl
-meets_deed c (AskSum at serial index) s w = other s _ _ w.1 refl
+meets_deed c (AskZero at) s w = own s _ _ w refl
+meets_deed c (AskAdd at serial cpu index amount) s w = own s _ _ w refl
+meets_deed c (AskSum at serial index) s w = own s _ _ w.1 refl
 meets_deed c (AskPlace bytes align) s (inl w) = other s _ _ w.3 refl
 meets_deed c (AskPlace bytes align) s (inr w) = other s _ _ w.1 refl
 meets_deed c (AskAddChunk chunk base bytes align) s w = other s _ _ w.3 refl
 meets_deed c (AskAtomic bytes align) s (inl w) = other s _ _ w.2 refl
 meets_deed c (AskAtomic bytes align) s (inr w) = other s _ _ w refl
-meets_deed c (AskSettleObject at) s w = other s _ _ w.1 refl
+meets_deed c (AskSettleObject at) s w = own s _ _ w.1 refl
 meets_deed c (AskUnplace at) s w = other s _ _ w refl
 meets_deed c (AskFree at serial) s (inl w) = other s _ _ w refl
 meets_deed c (AskFree at serial) s (inr w) = other s _ _ w refl
@@ -154,3 +166,26 @@ pub fills_at : (c : Setup) (p : Place) (base page : ℕ) → Meets c (ask c p) (
 fills_at c (Filling chunk own lacks filled) base page (inl w) = let e : own ≡ base = cc in let f : lacks ≡ page = cc in (chunk, filled, cc)
 fills_at c (Filling chunk own lacks filled) base page (inr w) = cc
 fills_at c p base page w = let e = was_asked c (ask c p) (Fill base page) Fills w refl (λ e. cc) in cc
+
+pub zeroes_at : (c : Setup) (p : Place) (at : ObjectAt) → Meets c (ask c p) (Zero at) → p ≡ Zeroing at
+zeroes_at c (Zeroing own) at w = let e : own ≡ at = cc in ap Zeroing e
+zeroes_at c p at w = let e = was_asked c (ask c p) (Zero at) Zeroes w refl (λ e. cc) in cc
+
+pub adds_at : (c : Setup) (p : Place) (at : ObjectAt) (serial cpu index : ℕ) (amount : ℤ) → Meets c (ask c p) (AddWord at serial cpu index amount) → p ≡ Adding at serial cpu index amount
+adds_at c (Adding own serial' cpu' index' amount') at serial cpu index amount w =
+    let a : own ≡ at = cc in let b : serial' ≡ serial = cc in let d : cpu' ≡ cpu = cc in let e : index' ≡ index = cc in let f : amount' ≡ amount = cc in cc
+adds_at c p at serial cpu index amount w = let e = was_asked c (ask c p) (AddWord at serial cpu index amount) Adds w refl (λ e. cc) in cc
+
+pub sums_at : (c : Setup) (p : Place) (at : ObjectAt) (serial index : ℕ) (total : ℤ) → Meets c (ask c p) (SumWords at serial index total) → p ≡ Summing at serial index
+sums_at c (Summing own serial' index') at serial index total w = let same = w.1 in let a : own ≡ at = cc in let b : serial' ≡ serial = cc in let d : index' ≡ index = cc in cc
+sums_at c p at serial index total w = let e = was_asked c (ask c p) (SumWords at serial index total) Sums w refl (λ e. cc) in cc
+
+-- an object becomes live at the end of its call
+pub data SettlesAt (at : ObjectAt) : Place → Type 0 where
+  Populated : SettlesAt at (SettlingObject at)
+  Zeroed : SettlesAt at (SettlingAtomic at)
+
+pub settles_at : (c : Setup) (p : Place) (at : ObjectAt) (serial : ℕ) → Meets c (ask c p) (SettleObject at serial) → SettlesAt at p
+settles_at c (SettlingObject own) at serial w = let same = w.1 in let e : at ≡ own = cc in subst (λ x. SettlesAt at (SettlingObject x)) e Populated
+settles_at c (SettlingAtomic own) at serial w = let same = w.1 in let e : at ≡ own = cc in subst (λ x. SettlesAt at (SettlingAtomic x)) e Zeroed
+settles_at c p at serial w = let e = was_asked c (ask c p) (SettleObject at serial) Settles w refl (λ e. cc) in cc

@@ -93,3 +93,4 @@ pub mod ObjectWords
 pub mod SizedPlaces
 pub mod SizedCalls
 pub mod UsedWords
+pub mod ObjectsBefore

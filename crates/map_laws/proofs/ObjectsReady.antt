@@ -83,10 +83,10 @@ module _ (c : Setup) (setup : IsSetup c) (w : World) (framed : IsFramed c w) (is
   life_is at life object = object_life c (SomeonePlaces w) w.map.chunks is.objects.fine at life object
 
   -- the pages of an object are mapped where they are populated
-  object_mapped : (at : ObjectAt) (life : Life) (object : IsObject w.map.chunks at life) → ((page : ℕ) → is_among (pages_of_object at) page ≡ true → slice_get object.chunk.populated page ≡ Some true) → OnPages (object_pages c at) (IsMapped w.map)
+  pub object_mapped : (at : ObjectAt) (life : Life) (object : IsObject w.map.chunks at life) → ((page : ℕ) → is_among (pages_of_object at) page ≡ true → slice_get object.chunk.populated page ≡ Some true) → OnPages (object_pages c at) (IsMapped w.map)
   object_mapped at life object done = subst (λ b. OnPages (pages_in_units c b (pages_of_object at)) (IsMapped w.map)) object.based (populated_mapped c w is.chunks is.objects object.chunk object.there (pages_of_object at) done)
 
-  live_ready : (at : ObjectAt) (serial : ℕ) → IsObject w.map.chunks at (Lives serial) → (life_of_object at w.map.chunks ≡ Some (Lives serial)) × OnPages (object_pages c at) (IsMapped w.map)
+  pub live_ready : (at : ObjectAt) (serial : ℕ) → IsObject w.map.chunks at (Lives serial) → (life_of_object at w.map.chunks ≡ Some (Lives serial)) × OnPages (object_pages c at) (IsMapped w.map)
   live_ready at serial object = (
     life_is at (Lives serial) object,
     object_mapped at (Lives serial) object (λ page e. object_done c w is.chunks is.objects object.chunk object.object object.there object.object_there (ap is_in_hand object.lives) page
@@ -108,7 +108,7 @@ module _ (c : Setup) (setup : IsSetup c) (w : World) (framed : IsFramed c w) (is
     | inr first ↦ target_live first.0.answers t at serial (λ i a e f. is.uses.live 0 i first.0 a first.1 e f) some (ap (λ answers. made_in (slice_get answers (t.call - 1))) (sym first.3) ∙ made) (ap (λ answers. was_freed answers t.call) (sym first.3) ∙ free)
   ]
 
-  named_live : (at : ObjectAt) (serial : ℕ) → IsNamedObject l at serial → IsObject w.map.chunks at (Lives serial)
+  pub named_live : (at : ObjectAt) (serial : ℕ) → IsNamedObject l at serial → IsObject w.map.chunks at (Lives serial)
   named_live at serial now = named_by now.0 at serial now.0.opening now.1 now.2 now.3
 
   -- no object has a byte in a page that isn't populated, while nobody is placing one
