@@ -94,3 +94,4 @@ pub mod SizedPlaces
 pub mod SizedCalls
 pub mod UsedWords
 pub mod ObjectsBefore
+pub mod WordsKept
