@@ -95,3 +95,4 @@ pub mod SizedCalls
 pub mod UsedWords
 pub mod ObjectsBefore
 pub mod WordsKept
+pub mod WordSums
