@@ -96,3 +96,4 @@ pub mod UsedWords
 pub mod ObjectsBefore
 pub mod WordsKept
 pub mod WordSums
+pub mod ZeroedPlaces
