@@ -97,3 +97,4 @@ pub mod ObjectsBefore
 pub mod WordsKept
 pub mod WordSums
 pub mod ZeroedPlaces
+pub mod TouchedWords
