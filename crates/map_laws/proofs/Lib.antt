@@ -98,3 +98,4 @@ pub mod WordsKept
 pub mod WordSums
 pub mod ZeroedPlaces
 pub mod TouchedWords
+pub mod SummedWorlds
