@@ -99,3 +99,4 @@ pub mod WordSums
 pub mod ZeroedPlaces
 pub mod TouchedWords
 pub mod SummedWorlds
+pub mod SummedSteps

@@ -57,7 +57,7 @@ amount_own at serial cpu index amount = by_tests (serial == serial) (index == in
     by_tests false b e f = cc
     by_tests true false e f = cc
 
-amount_serial : (at : ObjectAt) (serial own cpu index at_index : ℕ) (amount : ℤ) → own ≢ serial → amount_of serial index (AddWord at own cpu at_index amount) ≡ pos 0
+pub amount_serial : (at : ObjectAt) (serial own cpu index at_index : ℕ) (amount : ℤ) → own ≢ serial → amount_of serial index (AddWord at own cpu at_index amount) ≡ pos 0
 amount_serial at serial own cpu index at_index amount n = by_tests (own == serial) (at_index == index) (test_not own serial (own == serial) refl n)
   where
     by_tests : (a b : Bool) → a ≡ false → (if a && b then amount else pos 0) ≡ pos 0
@@ -80,13 +80,13 @@ module _ (c : Setup) (w : World) (own : AreWordsOwn c w) (kept : IsSummed c w) (
   one_life at o life life' is is' e f = (one_object c (SomeonePlaces w) w.map.chunks own.fine at o life life' is is' e f).lives
 
   -- words that a section doesn't touch
-  live_untouched : (at : ObjectAt) (serial cpu index : ℕ) (s : Section) → is_add s ≡ false → Meets c (ask c l.place) s → IsObject w.map.chunks at (Lives serial) → Touches s at cpu index → ⊥
+  pub live_untouched : (at : ObjectAt) (serial cpu index : ℕ) (s : Section) → is_add s ≡ false → Meets c (ask c l.place) s → IsObject w.map.chunks at (Lives serial) → Touches s at cpu index → ⊥
   live_untouched at serial cpu index (Populate o missing) quiet meets is t = let hold = subst (IsObjectAt w.map k) (populates_at c l.place o missing meets) hand in let e = one_life at o (Lives serial) (InHand k) is hold t.0 t.1 in cc
   live_untouched at serial cpu index (Zero o) quiet meets is t = let hold = subst (IsObjectAt w.map k) (zeroes_at c l.place o meets) hand in let e = one_life at o (Lives serial) (InHand k) is hold t.0 t.1 in cc
   live_untouched at serial cpu index (AddWord o own' cpu' index' amount) quiet meets is t = cc
   live_untouched at serial cpu index _ quiet meets is t = absurd t
 
-  hand_untouched : (at : ObjectAt) (j cpu index : ℕ) (s : Section) → j ≢ k → Meets c (ask c l.place) s → IsObject w.map.chunks at (InHand j) → Touches s at cpu index → ⊥
+  pub hand_untouched : (at : ObjectAt) (j cpu index : ℕ) (s : Section) → j ≢ k → Meets c (ask c l.place) s → IsObject w.map.chunks at (InHand j) → Touches s at cpu index → ⊥
   hand_untouched at j cpu index (Populate o missing) apart meets is t =
       let hold = subst (IsObjectAt w.map k) (populates_at c l.place o missing meets) hand in let e = one_life at o (InHand j) (InHand k) is hold t.0 t.1 in apart (let f : j ≡ k = cc in f)
   hand_untouched at j cpu index (Zero o) apart meets is t = let hold = subst (IsObjectAt w.map k) (zeroes_at c l.place o meets) hand in let e = one_life at o (InHand j) (InHand k) is hold t.0 t.1 in apart (let f : j ≡ k = cc in f)
@@ -101,7 +101,7 @@ module _ (c : Setup) (w : World) (own : AreWordsOwn c w) (kept : IsSummed c w) (
     event = record { caller = k; section = s }
 
     -- the sum of untouched words stays
-    sum_same : (at : ObjectAt) (life : Life) (index : ℕ) → IsObject w.map.chunks at life → OnPages (object_pages c at) (IsMapped w.map) → OnPages (object_pages c at) (IsMapped after) → 4 * index < at.bytes → ((cpu : ℕ) → Touches s at cpu index → ⊥)
+    pub sum_same : (at : ObjectAt) (life : Life) (index : ℕ) → IsObject w.map.chunks at life → OnPages (object_pages c at) (IsMapped w.map) → OnPages (object_pages c at) (IsMapped after) → 4 * index < at.bytes → ((cpu : ℕ) → Touches s at cpu index → ⊥)
         → sum_of c after at index ≡ sum_of c w.map at index
     sum_same at life index is mapped mapped' inside never = sums_agree w.map.frames after.frames w.map.cells after.cells (byte_in at index) c.units
         (λ cpu unit there. word_same c w own k l.place hand usable at life is mapped cpu index (byte_in at index unit) (unit_word c at cpu index unit there inside) s meets legal apart mapped' (never cpu))
@@ -129,7 +129,7 @@ module _ (c : Setup) (w : World) (own : AreWordsOwn c w) (kept : IsSummed c w) (
         (λ i unit there n. word_same c w own k l.place hand usable at (Lives serial) is (own.live at serial is) i index (byte_in at index unit) (unit_word c at i index unit there inside) (AddWord o serial cpu index amount) meets legal apart mapped'
         (λ t. n (let g = t.2 in g)))
 
-    sum_added : (at : ObjectAt) (own_serial own_index : ℕ) → IsObject w.map.chunks at (Lives own_serial) → OnPages (object_pages c at) (IsMapped added_map) → 4 * own_index < at.bytes
+    pub sum_added : (at : ObjectAt) (own_serial own_index : ℕ) → IsObject w.map.chunks at (Lives own_serial) → OnPages (object_pages c at) (IsMapped added_map) → 4 * own_index < at.bytes
         → sum_of c added_map at own_index ≡ (sum_of c w.map at own_index +ℤ amount_of own_serial own_index (AddWord o serial cpu index amount))
     sum_added at own_serial own_index is mapped' inside = elim (same_or serial own_serial) [
       | inr n ↦ sum_same (AddWord o serial cpu index amount) meets legal apart at (Lives own_serial) own_index is (own.live at own_serial is) mapped' inside
