@@ -100,3 +100,4 @@ pub mod ZeroedPlaces
 pub mod TouchedWords
 pub mod SummedWorlds
 pub mod SummedSteps
+pub mod SumLaws
