@@ -108,7 +108,7 @@ pub finish_zero : (w : World) → finish 0 w ≡ w
 unfolding finish
 finish_zero w = refl
 
-finish_stays : (n : ℕ) (w : World) → first_mover w ≡ None → finish n w ≡ w
+pub finish_stays : (n : ℕ) (w : World) → first_mover w ≡ None → finish n w ≡ w
 finish_stays zero w e = finish_zero w
 finish_stays (suc n) w e = finish_none n w e
 

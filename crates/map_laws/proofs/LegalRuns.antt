@@ -22,11 +22,11 @@ pub record IsRunTo (w v : World) : Type 0 where
   pub ends : v ≡ world_after w made
   pub events : v.events ≡ w.events ++ made
 
-run_append : (w : World) (xs ys : List Event) → IsRun w xs → IsRun (world_after w xs) ys → IsRun w (xs ++ ys)
+pub run_append : (w : World) (xs ys : List Event) → IsRun w xs → IsRun (world_after w xs) ys → IsRun w (xs ++ ys)
 run_append w [] ys p q = q
 run_append w (x ∷ xs) ys p q = (p.0, run_append (after_event w x) xs ys p.1 q)
 
-after_append : (w : World) (xs ys : List Event) → world_after w (xs ++ ys) ≡ world_after (world_after w xs) ys
+pub after_append : (w : World) (xs ys : List Event) → world_after w (xs ++ ys) ≡ world_after (world_after w xs) ys
 after_append w [] ys = refl
 after_append w (x ∷ xs) ys = after_append (after_event w x) xs ys
 
@@ -77,7 +77,7 @@ module _ (c : Setup) (calls : List (List Call)) (P : World → Type 0) (lasts : 
     same = length-set w.locals l.caller (moved_to l (next l.setup l.place s));
   }
 
-  step_led : (w : World) (k : ℕ) → IsFramed c w → P w → IsLed w (step w k)
+  pub step_led : (w : World) (k : ℕ) → IsFramed c w → P w → IsLed w (step w k)
   step_led w k framed kept = by_local (slice_get w.locals k) refl
     where
       by_section : (l : Local) → slice_get w.locals k ≡ Some l → (o : Option Section) → given l.setup w.map (ask l.setup l.place) ≡ o → IsLed w (made_if w l o)
@@ -122,7 +122,7 @@ module _ (c : Setup) (calls : List (List Call)) (P : World → Type 0) (lasts : 
       over_first : AllOver (world_after (opening_world c opening calls) opened.runs.made).locals
       over_first = subst (λ (v : World). AllOver v.locals) opened.runs.ends opened_over
 
-      picked_reached : IsReached c opening calls (pick_all (with_callers c calls (finish most_events (opening_world c opening calls))) picks)
+      pub picked_reached : IsReached c opening calls (pick_all (with_callers c calls (finish most_events (opening_world c opening calls))) picks)
       picked_reached = inr (
         opened.runs.made,
         picked.runs.made,

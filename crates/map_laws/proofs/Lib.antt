@@ -101,3 +101,4 @@ pub mod TouchedWords
 pub mod SummedWorlds
 pub mod SummedSteps
 pub mod SumLaws
+pub mod ReachedSteps

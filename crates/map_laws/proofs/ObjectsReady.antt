@@ -169,7 +169,7 @@ module _ (c : Setup) (setup : IsSetup c) (w : World) (framed : IsFramed c w) (is
   pub ready_here : IsReady c w.map k l.place
   ready_here = ready_by l.place refl (is.chunks.each k l here) (subst (λ i. IsObjectAt w.map i l.place) (framed.own k l here).caller (is.objects.hands k l here)) (is.objects.numbers k l here) (is.uses.now k l here)
 
-trace_legal : (c : Setup) (setup : IsSetup c) (w : World) (k : ℕ) (l : Local) (s : Section) → IsFramed c w → IsTraceWorld c w → IsStep w k l s → IsLegalStep w k l s
+pub trace_legal : (c : Setup) (setup : IsSetup c) (w : World) (k : ℕ) (l : Local) (s : Section) → IsFramed c w → IsTraceWorld c w → IsStep w k l s → IsLegalStep w k l s
 trace_legal c setup w k l s framed is step =
     let own = framed.own k l step.here in
     let named : (start : ℕ) → count_of start (block_starts w.map.blocks) + count_of start (block_out l.place) ≤ 1 = own_names c w framed is k l step.here in

@@ -39,10 +39,11 @@ taken_again_at bits k =
     ∙ taken_there (slice_get bits k)
 
 -- the free runs alone tell which pages are taken
+pub taken_of_runs : (c : Setup) (bits : List Bool) → length bits ≡ c.space → taken (map_with c (FreeRuns (runs bits))) ≡ bits
+taken_of_runs c bits e = ap (λ n. taken_in (paint (λ page. not (covers (runs bits) page)) (Held 0) (replicate n Free))) (sym e) ∙ same_by_get _ _ (taken_again_at bits)
+
 pub taken_again : (c : Setup) (m : PlainMap) → length m.marks ≡ c.space → taken (map_with c (FreeRuns (free_runs m))) ≡ taken m
-taken_again c m e =
-    ap (λ n. taken_in (paint (λ page. not (covers (free_runs m) page)) (Held 0) (replicate n Free))) (sym e ∙ sym (length-map m.marks (λ mark. not (is_free mark))))
-    ∙ same_by_get _ _ (taken_again_at (taken m))
+taken_again c m e = taken_of_runs c (taken m) (length-map m.marks (λ mark. not (is_free mark)) ∙ e)
 
 -- a mark that isn't free, on pages that weren't free
 is_taken : (b : Bool) → is_open (Some b) ≡ false → b ≡ true

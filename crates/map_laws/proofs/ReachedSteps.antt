@@ -1,0 +1,36 @@
+-- What a step of a reached world leads to is reached, and so is the start of the callers.
+use Rattle.std.proofs.Common.{ℕ, inl, inr, List, [], ◌++◌, ap, sym, ◌∙◌, subst}
+use Rattle.vm_model.specs.declared.calls.Call.{Call}
+use Rattle.vm_model.specs.Setup.{Setup}
+use Rattle.vm_model.specs.History.{World, step, finish, most_events, opening_world, with_callers}
+use Rattle.vm_model.specs.LegalHistory.{IsReached, IsRun, world_after, callers_world}
+use Rattle.vm_model.specs.Rules.{IsTrace}
+use Rattle.map_laws.specs.Steps.{StepsAreReached}
+use Rattle.map_laws.proofs.LegalRuns.{IsRunTo, run_append, after_append, step_led, picked_reached}
+use Rattle.map_laws.proofs.TraceWorlds.{IsTraceWorld, trace_lasts, trace_first, trace_reached}
+use Rattle.map_laws.proofs.ObjectsReady.{trace_legal}
+
+-- a run on from a reached world leads to another
+runs_on : (c : Setup) (opening : List Call) (calls : List (List Call)) (w v : World) → IsReached c opening calls w → IsRunTo w v → IsReached c opening calls v
+runs_on c opening calls w v (inl r) on = inl (
+  r.0 ++ on.made,
+  run_append (opening_world c opening calls) r.0 on.made r.1 (subst (λ x. IsRun x on.made) r.2 on.run),
+  on.ends ∙ ap (λ x. world_after x on.made) r.2 ∙ sym (after_append (opening_world c opening calls) r.0 on.made),
+)
+runs_on c opening calls w v (inr r) on = inr (
+  r.0,
+  r.1 ++ on.made,
+  (r.2.0, r.2.1, run_append (callers_world c opening calls r.0) r.1 on.made r.2.2 (subst (λ x. IsRun x on.made) r.3 on.run)),
+  on.ends ∙ ap (λ x. world_after x on.made) r.3 ∙ sym (after_append (callers_world c opening calls r.0) r.1 on.made),
+)
+
+step_reached : (c : Setup) (opening : List Call) (calls : List (List Call)) (w : World) (k : ℕ) → IsTrace c opening calls → IsReached c opening calls w → IsReached c opening calls (step w k)
+step_reached c opening calls w k trace reached =
+    let is = trace_reached c opening calls trace w reached in
+    runs_on c opening calls w (step w k) reached (step_led c calls (IsTraceWorld c) (trace_lasts c opening calls trace) (trace_legal c trace.setup) w k is.0 is.1).runs
+
+started_reached : (c : Setup) (opening : List Call) (calls : List (List Call)) → IsTrace c opening calls → IsReached c opening calls (with_callers c calls (finish most_events (opening_world c opening calls)))
+started_reached c opening calls trace = picked_reached c calls (IsTraceWorld c) (trace_lasts c opening calls trace) (trace_legal c trace.setup) opening trace (trace_first c opening calls trace) []
+
+pub steps_reached : StepsAreReached
+steps_reached c opening calls trace = record { started = started_reached c opening calls trace; steps = λ w k. step_reached c opening calls w k trace }

@@ -1,0 +1,5 @@
+pub mod Pages
+pub mod FrameList
+pub mod StaleList
+pub mod Words
+pub mod Sections

@@ -1,0 +1,11 @@
+//! That the calls do to the pages what the sections of the plain map do to them.
+ghost use Rattle.page_pool.specs.Sections.{BeginsAsTheMap, FreeAreFreeFrames, MapsAsTheSection, UnmapsAsTheSection, FlushesAsTheSection};
+
+/// What `PageSide` begins with, has free and leaves is what the plain map has and what its sections leave.
+pub fn sections()
+    ensures begins { BeginsAsTheMap }
+    ensures free { FreeAreFreeFrames }
+    ensures maps { MapsAsTheSection }
+    ensures unmaps { UnmapsAsTheSection }
+    ensures flushes { FlushesAsTheSection }
+{}

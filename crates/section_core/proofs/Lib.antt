@@ -1,0 +1,13 @@
+pub mod Answered
+pub mod Inserted
+pub mod Moved
+pub mod FreeSections
+pub mod Counted
+pub mod LawfulRegions
+pub mod SectionsMade
+pub mod Picks
+pub mod Callers
+pub mod Memory
+pub mod PlainWorlds
+pub mod Starts
+pub mod TablesTold

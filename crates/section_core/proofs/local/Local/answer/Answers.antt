@@ -1,0 +1,31 @@
+use Rattle.std.proofs.Common.{length, ◌∙◌, ap, subst, arith, slice_get, List}
+use Rattle.vm_model.specs.declared.calls.Call.{Call}
+use Rattle.vm_model.specs.Calls.{begin}
+use Rattle.vm_model.specs.Config.{setup_of}
+use Rattle.vm_model.specs.History.{Local, moved_to}
+use Rattle.vm_model.specs.Next.{Answer}
+use Rattle.section_core.specs.Places.{made_of}
+use Rattle.section_core.specs.Locals.{HasCall}
+use Rattle.section_core.proofs.Answered.{more_to_answer, answered_orderly, answered_view, has_call_at}
+use Rattle.section_core.proofs.local.Local.answer.Goals as goal
+
+pub note-requires-clause-room : goal.note-requires-clause-room
+note-requires-clause-room c = let more = more_to_answer c.self.inside c.args.self.now c.self.invariant c.self.view_is c.requires.at_hand in let room = c.self.invariant.room in omega arith
+
+pub push_reserved-requires : goal.push_reserved-requires
+push_reserved-requires c = let more = more_to_answer c.self.inside c.args.self.now c.self.invariant c.self.view_is c.requires.at_hand in let made = c.self.invariant.made in let room = c.self.invariant.made_room in let n = c.self.inside.made.ok in omega arith
+
+pub invariant_of-self : goal.invariant_of-self
+invariant_of-self c =
+    let more = more_to_answer c.self.inside c.args.self.now c.self.invariant c.self.view_is c.requires.at_hand in
+    answered_orderly c.self.inside c.self.invariant more c.args.reply c.args.made c.note.new.self c.push_reserved.new.self c.place_before-self-inside.result c.note.ensures c.push_reserved.ensures.items (let room = c.self.invariant.made_room in let same = c.push_reserved.ensures.capacity in omega arith) c.place_before-self-inside.ensures.sized
+    (subst (λ n. HasCall c.place_before-self-inside.result n c.self.inside.calls) (c.len.ensures ∙ c.push_reserved.new.self.ok.0) (subst (HasCall c.place_before-self-inside.result c.len.result) c.as_slice.ensures c.place_before-self-inside.ensures.at_hand))
+
+pub returns : goal.returns
+returns c =
+    let more = more_to_answer c.self.inside c.args.self.now c.self.invariant c.self.view_is c.requires.at_hand in
+    let at = has_call_at c.self.inside.calls (length c.self.inside.book.rows) more in
+    answered_view c.self.inside c.self.invariant more c.args.reply c.args.made c.note.new.self c.push_reserved.new.self c.place_before-self-inside.result c.note.ensures c.push_reserved.ensures.items at.0 at.1
+    (λ opening own. c.place_before-self-inside.ensures.place opening own ∙ ap (λ n. begin (setup_of c.self.inside.config) opening own (slice_get c.as_slice.result.now n)) (c.len.ensures ∙ c.push_reserved.new.self.ok.0)
+    ∙ ap (λ (calls : List Call). begin (setup_of c.self.inside.config) opening own (slice_get calls (length c.push_reserved.new.self.items))) c.as_slice.ensures)
+    ∙ ap (λ (l : Local). moved_to l (Answer c.args.reply (made_of c.args.made))) c.self.view_is

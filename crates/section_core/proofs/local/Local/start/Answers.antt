@@ -1,0 +1,12 @@
+use Rattle.std.proofs.Common.{[], length, List, ◌∙◌, ap, slice_get}
+use Rattle.vm_model.specs.declared.calls.Call.{Call}
+use Rattle.vm_model.specs.Calls.{begin}
+use Rattle.vm_model.specs.Config.{setup_of}
+use Rattle.section_core.proofs.Answered.{started_view}
+use Rattle.section_core.proofs.local.Local.start.Goals as goal
+
+pub returns : goal.returns
+returns c =
+    started_view c.args.config.now c.args.caller c.args.opening c.args.calls c.in_ok-with_room.field-0 c.in_ok-with_capacity.field-0 c.place_before-place.result
+    (c.in_ok-with_room.ensures ∙ ap (λ n. record { caller = c.args.caller; rows = []; spare = n }) (ap length c.as_slice-count.ensures))
+    (λ opening own. c.place_before-place.ensures.place opening own ∙ ap (λ (calls : List Call). begin (setup_of c.args.config.now) opening own (slice_get calls 0)) c.as_slice.ensures)

@@ -1,0 +1,48 @@
+use Rattle.std.proofs.Common.{◌≡◌, sym, ◌∙◌, ap, subst}
+use Rattle.vm_model.specs.Run.{StandTogether}
+use Rattle.vm_model.specs.Parts.{wants}
+use Rattle.section_core.specs.Regions.{region_of}
+use Rattle.section_core.specs.Lawful.{IsLawful}
+use Rattle.section_core.proofs.LawfulRegions.{few_more, runs_there, dropped_there, mapped_there, memory_there}
+use Rattle.section_core.proofs.sections.section.Goals as goal
+
+pub at_desk-requires-clause-events : goal.at_desk-requires-clause-events
+at_desk-requires-clause-events c = few_more c.args.local.now c.args.region.now c.requires
+
+pub at_purge-requires-clause-events : goal.at_purge-requires-clause-events
+at_purge-requires-clause-events c = few_more c.args.local.now c.args.region.now c.requires
+
+pub at_free-requires-clause-events : goal.at_free-requires-clause-events
+at_free-requires-clause-events c = few_more c.args.local.now c.args.region.now c.requires
+
+pub at_busy-requires-clause-events : goal.at_busy-requires-clause-events
+at_busy-requires-clause-events c = few_more c.args.local.now c.args.region.now c.requires
+
+pub at_lazy-requires-clause-events : goal.at_lazy-requires-clause-events
+at_lazy-requires-clause-events c = few_more c.args.local.now c.args.region.now c.requires
+
+pub at_blocks-requires-clause-events : goal.at_blocks-requires-clause-events
+at_blocks-requires-clause-events c = few_more c.args.local.now c.args.region.now c.requires
+
+pub at_free-requires-clause-runs : goal.at_free-requires-clause-runs
+at_free-requires-clause-runs c =
+    let is : region_of c.region.inside.side ≡ c.args.region.now = c.region.view_is in
+    runs_there c.args.local.now c.in-Free.free.blocks (subst (StandTogether wants IsLawful c.args.local.now) (sym is ∙ ap region_of c.in-Free.is) c.requires)
+
+pub at_free-requires-clause-dropped : goal.at_free-requires-clause-dropped
+at_free-requires-clause-dropped c =
+    let is : region_of c.region.inside.side ≡ c.args.region.now = c.region.view_is in
+    dropped_there c.args.local.now c.in-Free.free.blocks c.place-place.result (subst (StandTogether wants IsLawful c.args.local.now) (sym is ∙ ap region_of c.in-Free.is) c.requires) c.place-place.ensures.sized c.place-place.ensures.place
+
+pub at_pages-requires-clause-events : goal.at_pages-requires-clause-events
+at_pages-requires-clause-events c = few_more c.args.local.now c.args.region.now c.requires
+
+pub at_pages-requires-clause-mappable : goal.at_pages-requires-clause-mappable
+at_pages-requires-clause-mappable c =
+    let is : region_of c.region.inside.side ≡ c.args.region.now = c.region.view_is in
+    mapped_there c.args.local.now c.in-Pages.pages c.place-place.result (subst (StandTogether wants IsLawful c.args.local.now) (sym is ∙ ap region_of c.in-Pages.is) c.requires) c.place-place.ensures.sized c.place-place.ensures.place
+
+pub at_pages-requires-clause-memory : goal.at_pages-requires-clause-memory
+at_pages-requires-clause-memory c =
+    let is : region_of c.region.inside.side ≡ c.args.region.now = c.region.view_is in
+    memory_there c.args.local.now c.in-Pages.pages (subst (StandTogether wants IsLawful c.args.local.now) (sym is ∙ ap region_of c.in-Pages.is) c.requires)

@@ -1,0 +1,7 @@
+pub mod Places
+pub mod Locals
+pub mod LiveRows
+pub mod Regions
+pub mod Sections
+pub mod Lawful
+pub mod Kernels

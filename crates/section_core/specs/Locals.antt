@@ -1,0 +1,66 @@
+-- The code's callers as those of the definitions.
+use Rattle.std.specs.Prelude.{◌≡◌, ℕ, ◌+◌, ◌<◌, ◌≤◌, All, List, [], ◌∷◌, length, map, slice_get, Some, vec_capacity}
+use Rattle.std.specs.Arc.{arc_value}
+use Rattle.vm_model.specs.declared.calls.Call.{Call}
+use Rattle.vm_model.specs.Config.{setup_of}
+use Rattle.vm_model.specs.Setup.{Setup, cpus}
+use Rattle.vm_model.specs.Calls as model
+use Rattle.vm_model.specs.History as history
+use Rattle.vm_model.specs.Rules.{IsVmallocCall}
+use Rattle.history_book.specs.declared.noted.Noted.{Noted}
+use Rattle.section_core.specs.declared.answers.Made.{Made}
+use Rattle.section_core.specs.declared.answers.Answered.{Answered}
+use Rattle.section_core.specs.declared.place.Place.{Place}
+use Rattle.section_core.specs.declared.place.Place.TheVariants.{Over}
+use Rattle.section_core.specs.declared.local.Local.TheInside.{Inside}
+use Rattle.section_core.specs.Places.{place_of, made_of, IsSized}
+
+-- an answer of the opening, as all callers share it
+abbrev pub answer_of : Answered → model.Answered
+answer_of a = record { call = a.call; reply = a.reply; made = made_of a.made; own_event = a.own_event }
+
+abbrev pub answer_with : Call → Noted → Made → model.Answered
+answer_with call n made = record { call = call; reply = n.reply; made = made_of made; own_event = n.own_event }
+
+-- the calls that were answered, with what was noted of each and what each made
+abbrev pub answers_with : List Call → List Noted → List Made → List model.Answered
+answers_with (call ∷ calls) (n ∷ rows) (m ∷ made) = answer_with call n m ∷ answers_with calls rows made
+answers_with _ _ _ = []
+
+abbrev pub local_of : Inside → history.Local
+local_of a = record {
+  setup = setup_of a.config;
+  caller = a.caller;
+  opening = map answer_of (arc_value a.opening);
+  calls = a.calls;
+  answers = answers_with a.calls a.book.rows a.made.items;
+  events = a.events;
+  place = place_of a.place;
+}
+
+-- the calls are of the built words
+abbrev pub AreVmalloc : List Call → Type 0
+AreVmalloc calls = (i : ℕ) (call : Call) → slice_get calls i ≡ Some call → IsVmallocCall (Some call)
+
+-- who isn't over has a call at hand
+abbrev pub HasCall : Place → ℕ → List Call → Type 0
+HasCall Over answered calls = Unit {0}
+HasCall _ answered calls = answered < length calls
+
+-- one processor, and a space of at most 1,048,576 pages
+pub record IsPlain (c : Setup) : Type 0 where
+  pub processor : cpus c ≡ 1
+  pub space : c.space ≤ 1048576
+
+-- a caller's parts fit together, and there is room for the answers to come
+pub record IsOrderly (a : Inside) : Type 0 where
+  pub space : a.config.space ≤ 1048576
+  pub built : AreVmalloc a.calls
+  pub few : length a.calls ≤ 100000
+  pub made : length a.made.items ≡ length a.book.rows
+  pub room : length a.book.rows + a.book.spare ≡ length a.calls
+  pub made_room : length a.calls ≤ vec_capacity a.made
+  pub own : a.book.caller ≡ a.caller
+  pub noted : All (λ (n : Noted). n.own_event ≤ a.events) a.book.rows
+  pub sized : IsSized a.place
+  pub at_hand : HasCall a.place (length a.book.rows) a.calls

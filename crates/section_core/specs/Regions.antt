@@ -1,0 +1,17 @@
+-- The code's regions as those of the definitions.
+use Rattle.std.specs.Prelude.{[]}
+use Rattle.vm_model.specs.Parts as parts
+use Rattle.vm_model.specs.Parts.{Region, PurgeTurn, AllocTurn, FreeRuns, LiveAreas, WaitingSpans, CpuBlocks}
+use Rattle.section_core.specs.declared.region.Side.{Side}
+use Rattle.section_core.specs.declared.region.Side.TheVariants.{Desk, Purge, Alloc, Free, Busy, Lazy, Pages, Percpu, Blocks}
+
+abbrev pub region_of : Side → Region
+region_of Desk = parts.Desk
+region_of (Purge turn) = PurgeTurn turn
+region_of (Alloc turn) = AllocTurn turn
+region_of (Free side) = FreeRuns side.blocks
+region_of (Busy side) = LiveAreas side.areas side.next
+region_of Lazy = WaitingSpans []
+region_of (Pages side) = parts.Pages side.frames side.stale side.cells
+region_of (Percpu room) = parts.Percpu [] 1 0 room
+region_of Blocks = CpuBlocks 0 [] 1

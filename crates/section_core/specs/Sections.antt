@@ -1,0 +1,61 @@
+-- What a section over one region answers and leaves.
+use Rattle.std.specs.Prelude.{◌+◌, ◌-◌, ◌≤◌, ◌≡◌, ℕ, Bool, true, false, List, length}
+use Rattle.vm_model.specs.declared.areas.Span.{Span}
+use Rattle.vm_model.specs.Space.{span, end_of, holds, covers, runs}
+use Rattle.vm_model.specs.Setup.{Setup}
+use Rattle.vm_model.specs.Places.{Place, MappingArea, Dropping, Ask, AskSearch, AskDrop, AskReturn, AskSettle, AskWait, AskAddChunk, AskAddBlock, AskFragment}
+use Rattle.vm_model.specs.History.{Local}
+use Rattle.vm_model.specs.Parts.{Region, moves, after}
+use Rattle.page_pool.specs.Pages.{Pages, IsBare}
+use Rattle.section_core.specs.declared.region.Stepped.{Stepped}
+use Rattle.section_core.specs.declared.region.Stepped.TheVariants.{Moved, Stays, Ended}
+
+-- the section moves, and these are the two values that it leaves
+pub record IsMoved (l : Local) (r : Region) (l' : Local) (r' : Region) : Type 0 where
+  pub moves : moves l r ≡ true
+  pub leaves : (l', r') ≡ after l r
+
+-- another has the turn, and nothing changes
+pub record HasStayed (l : Local) (r : Region) (l' : Local) (r' : Region) : Type 0 where
+  pub stays : moves l r ≡ false
+  pub local : l' ≡ l
+  pub region : r' ≡ r
+
+abbrev pub Answers : Local → Region → Local → Region → Stepped → Type 0
+Answers l r l' r' Moved = IsMoved l r l' r'
+Answers l r l' r' Stays = HasStayed l r l' r'
+Answers l r l' r' Ended = ⊥
+
+-- the sections that may find no memory
+abbrev pub TakesMemory : Ask → Type 0
+TakesMemory (AskSearch search) = Unit {0}
+TakesMemory (AskDrop s) = Unit {0}
+TakesMemory (AskReturn spans) = Unit {0}
+TakesMemory (AskSettle areas) = Unit {0}
+TakesMemory (AskWait spans) = Unit {0}
+TakesMemory (AskAddBlock at) = Unit {0}
+TakesMemory (AskFragment cpu) = Unit {0}
+TakesMemory (AskAddChunk chunk base bytes align) = Unit {0}
+TakesMemory _ = ⊥
+
+-- the blocks are the free runs of the space
+abbrev pub AreRunsOf : Setup → List Span → Type 0
+AreRunsOf c blocks = (taken : List Bool) × (length taken ≡ c.space) × (blocks ≡ runs taken)
+
+-- what is dropped lies in the space, and none of its pages is free
+pub record IsDroppable (c : Setup) (s : Span) (blocks : List Span) : Type 0 where
+  pub within : end_of s ≤ c.space
+  pub taken : (page : ℕ) → holds s page ≡ true → covers blocks page ≡ false
+
+abbrev pub IsDroppedWell : Setup → Place → List Span → Type 0
+IsDroppedWell c (Dropping s) blocks = IsDroppable c s blocks
+IsDroppedWell c _ blocks = Unit {0}
+
+-- the pages of a carved span but for its guard are in the space, and bare
+pub record IsMappable (s : Span) (p : Pages) : Type 0 where
+  pub inside : s.start + (s.pages - 1) ≤ length p.frames
+  pub bare : (page : ℕ) → holds (span s.start (s.pages - 1)) page ≡ true → IsBare p page
+
+abbrev pub IsMappedWell : Place → Pages → Type 0
+IsMappedWell (MappingArea s k) p = IsMappable s p
+IsMappedWell _ p = Unit {0}

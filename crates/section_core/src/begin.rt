@@ -1,0 +1,67 @@
+//! How calls begin: the refusals at the desk, and what a call looks for first.
+ghost use Rattle.std.specs.Prelude.{◌≡◌, ◌≤◌, ◌^◌, List, length, slice_get};
+ghost use Rattle.vm_model.specs.Config.{setup_of};
+ghost use Rattle.vm_model.specs.Calls.{Answered, align_pages, is_power_to, begin_vmalloc, begin};
+ghost use Rattle.section_core.specs.Places.{place_of, IsSized};
+ghost use Rattle.section_core.specs.Locals.{AreVmalloc, HasCall};
+
+use crate::place::{Place, Search};
+use vm_model::{Call, Config, Reply};
+
+/// The bytes of a page.
+const PAGE: u64 = 4096;
+
+/// The largest alignment of an area, in bytes.
+const MOST_ALIGN: u64 = 1 << 32;
+
+/// Whether an area may have this alignment in bytes.
+fn is_alignment(align: u64) -> bool
+    ensures { result ≡ is_power_to 32 align }
+{
+    align.is_power_of_two() && align <= MOST_ALIGN
+}
+
+/// An alignment in bytes as pages, at least one.
+fn align_in_pages(align: u64) -> u32
+    requires { align ≤ 2 ^ 32 }
+    ensures pages { result ≡ align_pages align }
+    ensures low { 1 ≤ result }
+{
+    (align.max(PAGE) / PAGE) as u32
+}
+
+/// Where a `vmalloc` begins: at its search, unless its size or its alignment is refused.
+fn vmalloc_place(config: &Config, bytes: u64, align: u64) -> Place
+    requires { config.now.space ≤ 1048576 }
+    ensures place { place_of result ≡ begin_vmalloc (setup_of config.now) bytes align }
+    ensures sized { IsSized result }
+{
+    let pages = bytes.div_ceil(PAGE);
+    if bytes == 0 || (config.space as u64) < pages {
+        return Place::Refusing(Reply::BadSize);
+    }
+    if !is_alignment(align) {
+        return Place::Refusing(Reply::BadAlign);
+    }
+    Place::Finding(Search {
+        pages: pages as u32 + 1,
+        align: align_in_pages(align),
+    })
+}
+
+/// The place before the first event of the call with this index, or the end after the last call.
+pub(crate) fn place_before(config: &Config, calls: &[Call], index: usize) -> Place
+    requires space { config.now.space ≤ 1048576 }
+    requires built { AreVmalloc calls.now }
+    ensures place { (opening own : List Answered) → place_of result ≡ begin (setup_of config.now) opening own (slice_get calls.now index) }
+    ensures sized { IsSized result }
+    ensures at_hand { HasCall result index calls.now }
+{
+    let Some(call) = calls.get(index) else {
+        return Place::Over;
+    };
+    match call {
+        Call::Vmalloc { bytes, align } => vmalloc_place(config, *bytes, *align),
+        _ => unreachable!(),
+    }
+}

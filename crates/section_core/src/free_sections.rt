@@ -1,0 +1,88 @@
+//! The sections over the free blocks: searches, and spans that are dropped.
+ghost use Rattle.std.specs.Prelude.{◌≡◌, ◌<◌, ◌+◌, ◌≤◌, ◌^◌, ℕ, length, Some, IfOk, OnOk, OnErr};
+ghost use Rattle.vm_model.specs.declared.areas.AreaKind.TheVariants as kind;
+ghost use Rattle.vm_model.specs.Space.{end_of};
+ghost use Rattle.vm_model.specs.Events.{ForPages};
+ghost use Rattle.vm_model.specs.Places as model;
+ghost use Rattle.vm_model.specs.Places.{ForArea, ask};
+ghost use Rattle.vm_model.specs.Parts.{FreeRuns, wants};
+ghost use Rattle.section_core.specs.Places.{place_of, IsSearch};
+ghost use Rattle.section_core.specs.Sections.{IsMoved, TakesMemory, AreRunsOf, IsDroppable, IsDroppedWell};
+
+use crate::answers::Made;
+use crate::local::Local;
+use crate::place::{Place, Search};
+use augmented_tree::FreeSide;
+use std::alloc::AllocError;
+use vm_model::{Reply, Span};
+
+/// The first search of a call, which carves the lowest fit, or goes on to a purge.
+fn find(local: &mut Local, free: &mut FreeSide, search: Search) -> Result<(), AllocError>
+    requires place { local.old.place ≡ model.Finding (ForPages search.pages search.align) (ForArea kind.Vmalloc) }
+    requires search { IsSearch search }
+    requires runs { AreRunsOf local.old.setup free.old.blocks }
+    requires at_hand { length local.old.answers < length local.old.calls }
+    requires space { local.old.setup.space ≤ 1048576 }
+    requires events { local.old.events + 1 < 2 ^ 32 }
+    ensures ok { OnOk result (IsMoved local.old (FreeRuns free.old.blocks) local.new (FreeRuns free.new.blocks)) }
+    ensures err { OnErr result ((local.new ≡ local.old) × (free.new ≡ free.old)) }
+{
+    match free.carve(search.pages, search.align)? {
+        Some(span) => local.go(Place::MappingArea(span)),
+        None => local.go(Place::PurgeTaking(search)),
+    }
+    Ok(())
+}
+
+/// The search after the call's own purge, without which there is no space.
+fn find_again(local: &mut Local, free: &mut FreeSide, search: Search) -> Result<(), AllocError>
+    requires place { local.old.place ≡ model.FindingAgain (ForPages search.pages search.align) (ForArea kind.Vmalloc) }
+    requires search { IsSearch search }
+    requires runs { AreRunsOf local.old.setup free.old.blocks }
+    requires at_hand { length local.old.answers < length local.old.calls }
+    requires space { local.old.setup.space ≤ 1048576 }
+    requires events { local.old.events + 1 < 2 ^ 32 }
+    ensures ok { OnOk result (IsMoved local.old (FreeRuns free.old.blocks) local.new (FreeRuns free.new.blocks)) }
+    ensures err { OnErr result ((local.new ≡ local.old) × (free.new ≡ free.old)) }
+{
+    match free.carve(search.pages, search.align)? {
+        Some(span) => local.go(Place::MappingArea(span)),
+        None => local.answer(Reply::NoSpace, Made::Nothing),
+    }
+    Ok(())
+}
+
+/// Gives back a span for whose pages there were too few frames.
+fn drop_span(local: &mut Local, free: &mut FreeSide, span: Span) -> Result<(), AllocError>
+    requires place { local.old.place ≡ model.Dropping span }
+    requires pages { 1 ≤ span.pages }
+    requires within { end_of span ≤ 1048576 }
+    requires runs { AreRunsOf local.old.setup free.old.blocks }
+    requires dropped { IsDroppable local.old.setup span free.old.blocks }
+    requires at_hand { length local.old.answers < length local.old.calls }
+    requires events { local.old.events + 1 < 2 ^ 32 }
+    ensures ok { OnOk result (IsMoved local.old (FreeRuns free.old.blocks) local.new (FreeRuns free.new.blocks)) }
+    ensures err { OnErr result ((local.new ≡ local.old) × (free.new ≡ free.old)) }
+{
+    free.release_all(&[span])?;
+    local.answer(Reply::NoFrames, Made::Nothing);
+    Ok(())
+}
+
+/// The section of a caller that wants the free blocks.
+pub(crate) fn at_free(local: &mut Local, free: &mut FreeSide) -> Result<(), AllocError>
+    requires wants { wants local.old ≡ Some 3 }
+    requires runs { AreRunsOf local.old.setup free.old.blocks }
+    requires dropped { IsDroppedWell local.old.setup local.old.place free.old.blocks }
+    requires events { local.old.events + 1 < 2 ^ 32 }
+    ensures ok { OnOk result (IsMoved local.old (FreeRuns free.old.blocks) local.new (FreeRuns free.new.blocks)) }
+    ensures memory { OnErr result (TakesMemory (ask local.old.setup local.old.place)) }
+    ensures err { OnErr result ((local.new ≡ local.old) × (free.new ≡ free.old)) }
+{
+    match local.place() {
+        Place::Finding(search) => find(local, free, search),
+        Place::FindingAgain(search) => find_again(local, free, search),
+        Place::Dropping(span) => drop_span(local, free, span),
+        _ => unreachable!(),
+    }
+}

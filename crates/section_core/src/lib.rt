@@ -1,0 +1,20 @@
+//! The allocators of a space as regions, and callers that make one lock section after another over them.
+#![tactic(auto)]
+
+mod answers;
+mod begin;
+mod busy_sections;
+mod busy_side;
+mod free_sections;
+pub mod kernel;
+pub mod local;
+mod page_sections;
+mod place;
+pub mod region;
+mod sections;
+mod turn_sections;
+
+pub use kernel::Kernel;
+pub use local::Local;
+pub use region::{Region, Stepped};
+pub use sections::section;

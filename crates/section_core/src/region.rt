@@ -1,0 +1,131 @@
+//! The regions of an allocator, each of which one lock guards.
+ghost use Rattle.std.specs.Prelude.{◌≡◌, ◌≤◌, ℕ, ℤ, Bool, List, Option, IfOk};
+ghost use Rattle.vm_model.specs.declared.areas.Span.{Span};
+ghost use Rattle.vm_model.specs.declared.areas.Area.{Area};
+ghost use Rattle.vm_model.specs.Parts as parts;
+ghost use Rattle.vm_model.specs.PlainMap.{at_first};
+ghost use Rattle.vm_model.specs.Parts.{regions_of, FreeRuns, LiveAreas};
+ghost use Rattle.vm_model.specs.Config.{setup_of};
+ghost use Rattle.section_core.specs.Regions.{region_of};
+
+use crate::busy_side::BusySide;
+use augmented_tree::FreeSide;
+use page_pool::PageSide;
+use std::alloc::{AllocError, Global};
+use std::marker::Model;
+use vm_model::Config;
+
+/// What a region holds.
+#[derive(Drop)]
+pub(crate) enum Side {
+    /// The desk, at which calls are refused, holds nothing.
+    Desk,
+    /// The caller that has the purge turn, the kernel's `vmap_purge_lock`.
+    Purge(Option<u16>),
+    /// The caller that has the alloc turn, the kernel's `pcpu_alloc_mutex`.
+    Alloc(Option<u16>),
+    /// The free blocks.
+    Free(FreeSide),
+    /// The live areas.
+    Busy(BusySide),
+    /// The spans that wait for a purge: none, as no built call frees.
+    Lazy,
+    /// The page map.
+    Pages(PageSide),
+    /// No chunk is made by a built call; so many objects may be placed.
+    Percpu(u32),
+    /// The blocks of the one processor: none, as no built call makes one.
+    Blocks,
+}
+
+/// One of the regions of an allocator.
+#[derive(Drop)]
+pub struct Region {
+    pub(crate) side: Side,
+}
+
+impl Model for Region {
+    ghost use Rattle.vm_model.specs.Parts as parts;
+
+    ghost Value = { parts.Region };
+
+    ghost use Rattle.section_core.specs.Regions.{region_of};
+
+    ghost view = { λ r. region_of r.side };
+}
+
+impl Region {
+    fn of(side: Side) -> Region
+        ensures { result ≡ region_of side }
+    {
+        Region { side }
+    }
+}
+
+impl Region {
+    /// The free blocks, of the region that has them.
+    pub(crate) fn free(&self) -> &FreeSide
+        requires { (blocks : List Span) × (self.now ≡ FreeRuns blocks) }
+        ensures { self.now ≡ FreeRuns result.now.blocks }
+    {
+        match &self.side {
+            Side::Free(free) => free,
+            _ => unreachable!(),
+        }
+    }
+
+    /// The live areas, of the region that has them.
+    pub(crate) fn busy(&self) -> &BusySide
+        requires { (areas : List Area) × (next : ℕ) × (self.now ≡ LiveAreas areas next) }
+        ensures { self.now ≡ LiveAreas result.now.areas result.now.next }
+    {
+        match &self.side {
+            Side::Busy(busy) => busy,
+            _ => unreachable!(),
+        }
+    }
+
+    /// The page map, of the region that has it.
+    pub(crate) fn pages(&self) -> &PageSide
+        requires { (frames : List (Option ℕ)) × (stale : List Bool) × (cells : List ℤ) × (self.now ≡ parts.Pages frames stale cells) }
+        ensures { self.now ≡ parts.Pages result.now.frames result.now.stale result.now.cells }
+    {
+        match &self.side {
+            Side::Pages(pages) => pages,
+            _ => unreachable!(),
+        }
+    }
+}
+
+/// The regions of a space where nothing has happened: every page is free, and nothing is mapped.
+pub(crate) fn first_regions(alloc: Global, config: &Config) -> Result<Vec<Region>, AllocError>
+    requires low { 1 ≤ config.now.space }
+    requires high { config.now.space ≤ 1048576 }
+    ensures { IfOk result (λ regions. regions.items ≡ regions_of (setup_of config.now) (at_first (setup_of config.now) 0)) }
+{
+    let free = FreeSide::whole(alloc, config.space)?;
+    let pages = PageSide::new(alloc, config.space, config.frames)?;
+    let regions = vec![in alloc;
+        Region::of(Side::Desk),
+        Region::of(Side::Purge(None)),
+        Region::of(Side::Alloc(None)),
+        Region::of(Side::Free(free)),
+        Region::of(Side::Busy(BusySide::new(alloc))),
+        Region::of(Side::Lazy),
+        Region::of(Side::Pages(pages)),
+        Region::of(Side::Percpu(0)),
+        Region::of(Side::Blocks),
+    ]?;
+    Ok(regions)
+}
+
+/// How a step ended.
+#[derive(Clone, Copy, Debug, PartialEq, Eq)]
+pub enum Stepped {
+    /// The caller made its next section.
+    Moved,
+    /// Its section takes a turn that another caller has. Nothing changed.
+    Stays,
+    /// All its calls are answered. Nothing changed.
+    Ended,
+}

@@ -1,0 +1,68 @@
+//! The sections over the desk and the purge turn, and those of a purge that finds nothing to do.
+ghost use Rattle.std.specs.Prelude.{◌≡◌, ◌<◌, ◌+◌, ◌^◌, ℕ, [], length, Some};
+ghost use Rattle.vm_model.specs.Parts.{Desk, PurgeTurn, WaitingSpans, CpuBlocks, wants};
+ghost use Rattle.section_core.specs.Sections.{IsMoved, Answers};
+
+use crate::answers::Made;
+use crate::local::Local;
+use crate::place::Place;
+use crate::region::Stepped;
+
+/// The desk's refusal of a call.
+pub(crate) fn at_desk(local: &mut Local)
+    requires wants { wants local.old ≡ Some 0 }
+    requires events { local.old.events + 1 < 2 ^ 32 }
+    ensures { IsMoved local.old Desk local.new Desk }
+{
+    match local.place() {
+        Place::Refusing(reply) => local.answer(reply, Made::Nothing),
+        _ => unreachable!(),
+    }
+}
+
+/// Takes the purge turn where nobody has it, or gives it back.
+pub(crate) fn at_purge(local: &mut Local, turn: &mut Option<u16>) -> Stepped
+    requires wants { wants local.old ≡ Some 1 }
+    requires events { local.old.events + 1 < 2 ^ 32 }
+    ensures { Answers local.old (PurgeTurn turn.old) local.new (PurgeTurn turn.new) result }
+{
+    match local.place() {
+        Place::PurgeTaking(search) => {
+            if turn.is_some() {
+                return Stepped::Stays;
+            }
+            *turn = Some(local.caller());
+            local.go(Place::PurgeFragmenting(search));
+        }
+        Place::PurgeGiving(search) => {
+            *turn = None;
+            local.go(Place::FindingAgain(search));
+        }
+        _ => unreachable!(),
+    }
+    Stepped::Moved
+}
+
+/// Collects what waits, which is nothing.
+pub(crate) fn at_lazy(local: &mut Local)
+    requires wants { wants local.old ≡ Some 5 }
+    requires events { local.old.events + 1 < 2 ^ 32 }
+    ensures { IsMoved local.old (WaitingSpans []) local.new (WaitingSpans []) }
+{
+    match local.place() {
+        Place::PurgeCollecting(search) => local.go(Place::PurgeGiving(search)),
+        _ => unreachable!(),
+    }
+}
+
+/// Takes out the fragmented blocks of the one processor, of which there are none.
+pub(crate) fn at_blocks(local: &mut Local)
+    requires wants { wants local.old ≡ Some 8 }
+    requires events { local.old.events + 1 < 2 ^ 32 }
+    ensures { IsMoved local.old (CpuBlocks 0 [] 1) local.new (CpuBlocks 0 [] 1) }
+{
+    match local.place() {
+        Place::PurgeFragmenting(search) => local.go(Place::PurgeCollecting(search)),
+        _ => unreachable!(),
+    }
+}
