@@ -79,9 +79,7 @@ pub mod ObjectsMade
 pub mod ObjectsReady
 pub mod Deeds
 pub mod Stories
-pub mod BarePages
-pub mod SitedChunks
-pub mod MappedPages
+pub mod FreedPages
 pub mod WaitStories
 pub mod WaitNext
 pub mod WaitWorlds

@@ -83,10 +83,10 @@ module _ (c : Setup) (setup : IsSetup c) (w : World) (framed : IsFramed c w) (is
   life_is at life object = object_life c (SomeonePlaces w) w.map.chunks is.objects.fine at life object
 
   -- the pages of an object are mapped where they are populated
-  pub object_mapped : (at : ObjectAt) (life : Life) (object : IsObject w.map.chunks at life) → ((page : ℕ) → is_among (pages_of_object at) page ≡ true → slice_get object.chunk.populated page ≡ Some true) → OnPages (object_pages c at) (IsMapped w.map)
+  object_mapped : (at : ObjectAt) (life : Life) (object : IsObject w.map.chunks at life) → ((page : ℕ) → is_among (pages_of_object at) page ≡ true → slice_get object.chunk.populated page ≡ Some true) → OnPages (object_pages c at) (IsMapped w.map)
   object_mapped at life object done = subst (λ b. OnPages (pages_in_units c b (pages_of_object at)) (IsMapped w.map)) object.based (populated_mapped c w is.chunks is.objects object.chunk object.there (pages_of_object at) done)
 
-  pub live_ready : (at : ObjectAt) (serial : ℕ) → IsObject w.map.chunks at (Lives serial) → (life_of_object at w.map.chunks ≡ Some (Lives serial)) × OnPages (object_pages c at) (IsMapped w.map)
+  live_ready : (at : ObjectAt) (serial : ℕ) → IsObject w.map.chunks at (Lives serial) → (life_of_object at w.map.chunks ≡ Some (Lives serial)) × OnPages (object_pages c at) (IsMapped w.map)
   live_ready at serial object = (
     life_is at (Lives serial) object,
     object_mapped at (Lives serial) object (λ page e. object_done c w is.chunks is.objects object.chunk object.object object.there object.object_there (ap is_in_hand object.lives) page

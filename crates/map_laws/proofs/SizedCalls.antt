@@ -75,7 +75,7 @@ module _ (l : Local) where
   call_use c (Sum t index) h = sum_use t index (was_freed (answers_in l.opening l.answers t) t.call) (target_of l.opening l.answers t) h refl
   call_use c Balance h = tt
 
-  pub begin_use : (c : Setup) (o : Option Call) → slice_get l.calls (length l.answers) ≡ o → IsUse l (begin c l.opening l.answers o)
+  begin_use : (c : Setup) (o : Option Call) → slice_get l.calls (length l.answers) ≡ o → IsUse l (begin c l.opening l.answers o)
   begin_use c None h = tt
   begin_use c (Some call) h = call_use c call h
 

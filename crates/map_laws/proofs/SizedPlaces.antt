@@ -126,10 +126,10 @@ module _ (c : Setup) (bytes : ℕ) where
   sized_next _ s is w = absurd is
 
   -- where such a call begins
-  alloc_by : (place : ℕ → ℕ → Place) (asked align to : ℕ) → IsSizedAt bytes (place bytes to) → bytes ≡ 4 * words_for asked → (b d : Bool) → IsSizedAt bytes (if b then Refusing reply.BadSize else (if d then Refusing reply.BadAlign else place (4 * words_for asked) to))
-  alloc_by place asked align to is e true d = tt
-  alloc_by place asked align to is e false true = tt
-  alloc_by place asked align to is e false false = subst (λ n. IsSizedAt bytes (place n to)) e is
+  alloc_by : (place : ℕ → ℕ → Place) (asked to : ℕ) → IsSizedAt bytes (place bytes to) → bytes ≡ 4 * words_for asked → (b d : Bool) → IsSizedAt bytes (if b then Refusing reply.BadSize else (if d then Refusing reply.BadAlign else place (4 * words_for asked) to))
+  alloc_by place asked to is e true d = tt
+  alloc_by place asked to is e false true = tt
+  alloc_by place asked to is e false false = subst (λ n. IsSizedAt bytes (place n to)) e is
 
 -- a call for an object, and its bytes
 abbrev pub call_bytes : Call → Option ℕ
@@ -139,7 +139,7 @@ call_bytes _ = None
 
 pub begins_sized : (c : Setup) (opening own : List Answered) (call : Call) (bytes : ℕ) → call_bytes call ≡ Some bytes → IsSizedAt bytes (begin_call c opening own call)
 begins_sized c opening own (AllocPercpu asked align) bytes e =
-    let same : bytes ≡ 4 * words_for asked = sym (same_Some (4 * words_for asked) bytes e) in alloc_by c bytes TakingAlloc asked align (max align 4) refl same (is_bad_object_size asked) (is_bad_object_align align)
+    let same : bytes ≡ 4 * words_for asked = sym (same_Some (4 * words_for asked) bytes e) in alloc_by c bytes TakingAlloc asked (max align 4) refl same (is_bad_object_size asked) (is_bad_object_align align)
 begins_sized c opening own (AllocAtomic asked align) bytes e =
-    let same : bytes ≡ 4 * words_for asked = sym (same_Some (4 * words_for asked) bytes e) in alloc_by c bytes ChoosingAtomic asked align (max align 4) refl same (is_bad_object_size asked) (is_bad_object_align align)
+    let same : bytes ≡ 4 * words_for asked = sym (same_Some (4 * words_for asked) bytes e) in alloc_by c bytes ChoosingAtomic asked (max align 4) refl same (is_bad_object_size asked) (is_bad_object_align align)
 begins_sized c opening own _ bytes e = cc

@@ -41,7 +41,7 @@ frame_stays c m k (Depopulate base pages) page f f' legal h g = lost_same (is_am
 frame_stays c m k _ page f f' legal h g = refl
 
 -- the sections that change words
-abbrev pub moves_words : Section → Bool
+abbrev moves_words : Section → Bool
 moves_words (Populate at missing) = true
 moves_words (Zero at) = true
 moves_words (AddWord at serial cpu index amount) = true
