@@ -3,8 +3,6 @@ pub mod Held
 pub mod FailingCalls
 pub mod MemoryStreams
 pub mod Status
-pub mod OneCaller
-pub mod Found
+pub mod BuiltReadings
 pub mod Headline
-pub mod Thin
 pub mod WorkedReplays

@@ -4,11 +4,11 @@ ghost use Rattle.vm_model.specs.Tables.{tables_of};
 ghost use Rattle.trace_text.specs.Reading.{Reading};
 ghost use Rattle.trace_text.specs.Report.{fault_line};
 ghost use Rattle.trace_text.specs.Told.{Tells};
-ghost use Rattle.trace_replay.specs.Thin.{IsThin};
-ghost use Rattle.trace_replay.specs.Headline.{Writes, Reports, HasLegalHistory, setup, history_of_trace, most_bytes};
+ghost use Rattle.trace_replay.specs.BuiltReadings.{IsBuilt};
+ghost use Rattle.trace_replay.specs.Headline.{Writes, Reports, setup, history_of_trace, most_bytes};
 
-use crate::one_caller::tables_of_calls;
 use crate::status::Status;
+use section_core::Kernel;
 use std::alloc::{AllocError, Global};
 use trace_text::{Fault, Text, Trace, TraceError, read_trace, write_fault, write_report};
 use vm_model::{CounterList, Tables};
@@ -21,19 +21,26 @@ pub struct Outcome {
 }
 
 /// The replies and tables of a trace.
-fn tables_of_trace(alloc: Global, trace: &Trace) -> Result<Tables, AllocError>
-    requires { (reading : Reading) × IsThin reading × Tells trace.now reading }
-    ensures tables { IfOk result (λ tables. (reading : Reading) → IsThin reading → Tells trace.now reading → tables ≡ tables_of (setup reading) (history_of_trace reading)) }
-    ensures legal { OnOk result ((reading : Reading) → IsThin reading → Tells trace.now reading → HasLegalHistory reading) }
+fn tables_of_trace(alloc: Global, trace: Trace) -> Result<Tables, AllocError>
+    requires { (reading : Reading) × IsBuilt reading × Tells trace reading }
+    ensures { IfOk result (λ tables. (reading : Reading) → IsBuilt reading → Tells trace reading → tables ≡ tables_of (setup reading) (history_of_trace reading)) }
 {
-    let sections = trace.calls.as_slice();
-    tables_of_calls(alloc, &trace.config, sections[0].as_slice())
+    let Trace {
+        config,
+        calls,
+        picks,
+        ..
+    } = trace;
+    let mut kernel = Kernel::start(alloc, &config, calls)?;
+    kernel.run(picks.as_slice())?;
+    kernel.finish()?;
+    kernel.tables(alloc)
 }
 
 /// The report of a trace.
-fn report(alloc: Global, trace: &Trace) -> Result<Outcome, AllocError>
-    requires { (reading : Reading) × IsThin reading × Tells trace.now reading }
-    ensures { IfOk result (λ outcome. (reading : Reading) → IsThin reading → Tells trace.now reading → Reports reading outcome.status outcome.text) }
+fn report(alloc: Global, trace: Trace) -> Result<Outcome, AllocError>
+    requires { (reading : Reading) × IsBuilt reading × Tells trace reading }
+    ensures { IfOk result (λ outcome. (reading : Reading) → IsBuilt reading → Tells trace reading → Reports reading outcome.status outcome.text) }
 {
     let tables = tables_of_trace(alloc, trace)?;
     let counters = CounterList::of(Vec::new(alloc));
@@ -58,7 +65,7 @@ pub fn answer(alloc: Global, bytes: &[u8]) -> Result<Outcome, AllocError>
     ensures { IfOk result (λ outcome. Writes bytes.now outcome.status outcome.text) }
 {
     match read_trace(alloc, bytes) {
-        Ok(trace) => report(alloc, &trace),
+        Ok(trace) => report(alloc, trace),
         Err(TraceError::BadLine { line }) => {
             fault(alloc, Status::BadTrace { line }, &Fault::Line { line })
         }

@@ -160,8 +160,60 @@ const BAD: [(&[u8], u32); 70] = [
     (b"vmtrace 1\nspace 16\nvmalloc a\x80 1 1\nend\n", 3),
 ];
 
+/// Each rule of the words `callers`, `caller` and `order` is broken once.
+const BAD_SECTIONS: [(&[u8], u32); 36] = [
+    (b"callers 2\n", 1),
+    (b"vmtrace 1\ncallers 2\nspace 16\nend\n", 2),
+    (b"vmtrace 1\norder 1\nspace 16\nend\n", 2),
+    (b"vmtrace 1\nspace 16\ncallers\nend\n", 3),
+    (b"vmtrace 1\nspace 16\ncallers 0\nend\n", 3),
+    (b"vmtrace 1\nspace 16\ncallers 17\nend\n", 3),
+    (b"vmtrace 1\nspace 16\ncallers 02\nend\n", 3),
+    (b"vmtrace 1\nspace 16\ncallers 2 \nend\n", 3),
+    (b"vmtrace 1\nspace 16\ncallers 2 2\nend\n", 3),
+    (b"vmtrace 1\nspace 16\ncallers 2\ncallers 2\nend\n", 4),
+    (b"vmtrace 1\nspace 16\nvmalloc x 1 1\ncallers 2\nend\n", 4),
+    (b"vmtrace 1\nspace 16\ncaller 1\ncallers 2\nend\n", 4),
+    (b"vmtrace 1\nspace 16\ncaller\nend\n", 3),
+    (b"vmtrace 1\nspace 16\ncaller 0\nend\n", 3),
+    (b"vmtrace 1\nspace 16\ncaller 2\nend\n", 3),
+    (b"vmtrace 1\nspace 16\ncaller 01\nend\n", 3),
+    (b"vmtrace 1\nspace 16\ncaller 1", 3),
+    (b"vmtrace 1\nspace 16\ncallers 2\ncaller 3\nend\n", 4),
+    (
+        b"vmtrace 1\nspace 16\ncallers 2\ncaller 2\ncaller 1\nend\n",
+        5,
+    ),
+    (
+        b"vmtrace 1\nspace 16\ncallers 2\ncaller 1\nvmalloc x 1 1\ncaller 1\nend\n",
+        6,
+    ),
+    (
+        b"vmtrace 1\nspace 16\nvmalloc x 1 1\ncaller 1\nvmalloc x 1 1\nvmalloc x 1 1\nend\n",
+        6,
+    ),
+    (b"vmtrace 1\nspace 16\ncaller 1\nspace 16\nend\n", 4),
+    (b"vmtrace 1\nspace 16\norder\nend\n", 3),
+    (b"vmtrace 1\nspace 16\norder \nend\n", 3),
+    (b"vmtrace 1\nspace 16\norder 0\nend\n", 3),
+    (b"vmtrace 1\nspace 16\norder 2\nend\n", 3),
+    (b"vmtrace 1\nspace 16\norder 01\nend\n", 3),
+    (b"vmtrace 1\nspace 16\norder 1  1\nend\n", 3),
+    (b"vmtrace 1\nspace 16\norder 1 \nend\n", 3),
+    (b"vmtrace 1\nspace 16\norder 1,1\nend\n", 3),
+    (b"vmtrace 1\nspace 16\ncallers 3\norder 3 1 4 2\nend\n", 4),
+    (b"vmtrace 1\nspace 16\norder 1\nvmalloc x 1 1\nend\n", 4),
+    (b"vmtrace 1\nspace 16\norder 1\ncaller 1\nend\n", 4),
+    (b"vmtrace 1\nspace 16\norder 1\n\norder 1\nend\n", 4),
+    (
+        b"vmtrace 1\nspace 16\norder 1 1 1 1 1 1 1 1 1 1 1 1 1 1 1 1 1 1 1 1 1 1 1 1 1 1 1 1 1 1 1 1 1 1 1 1 1 1 1 1 1 1 1 1 1 1 1 1 1 1 1 1 1 1 1 1 1 1 1 1 1 1 1 1 1\nend\n",
+        3,
+    ),
+    (b"vmtrace 1\nspace 16\nend\norder 1\n", 4),
+];
+
 /// The first bad line begins with a word that is not built.
-const UNBUILT: [(&[u8], u32); 4] = [
+const UNBUILT: [(&[u8], u32); 7] = [
     (
         b"vmtrace 1\nspace 16\nvmalloc x 1 1\nframes 3\nvmalloc y 1 1\nend\n",
         4,
@@ -175,6 +227,12 @@ const UNBUILT: [(&[u8], u32); 4] = [
         4,
     ),
     (b"vmtrace 1\nspace 16\nsum", 3),
+    (b"vmtrace 1\nspace 16\ncallers 2\ncounters 1 32\nend\n", 4),
+    (
+        b"vmtrace 1\nspace 16\ncaller 1\nvmalloc x 1 1\nvfree x\nend\n",
+        5,
+    ),
+    (b"vmtrace 1\nspace 16\norder 1\nlazy 1\nend\n", 4),
 ];
 
 /// The status of a replay, and what it writes.
@@ -195,5 +253,14 @@ fn bad_texts(rt: HostRuntime) {
         let (status, written) = replayed(rt.alloc(), text);
         assert_eq!(rt; status, Status::Unbuilt { line });
         assert!(rt; written.as_slice().starts_with(b"fault unbuilt "));
+    }
+}
+
+#[test]
+fn bad_sections(rt: HostRuntime) {
+    for (text, line) in BAD_SECTIONS {
+        let (status, written) = replayed(rt.alloc(), text);
+        assert_eq!(rt; status, Status::BadTrace { line });
+        assert!(rt; written.as_slice().starts_with(b"fault line "));
     }
 }

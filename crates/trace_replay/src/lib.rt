@@ -5,11 +5,12 @@ mod answer;
 #[cfg(test)]
 mod bad_texts;
 mod commands;
+#[cfg(test)]
+mod drawn_traces;
 mod failing_calls;
 mod gather;
 mod memory_sink;
 mod memory_source;
-mod one_caller;
 mod send;
 mod sink;
 mod source;

@@ -66,6 +66,52 @@ free 0..2000
 end
 ";
 
+/// Caller 2 carves before caller 1 does, and settles first.
+const PICKED_TRACE: &str = "vmtrace 1
+space 16
+callers 2
+caller 1
+vmalloc a 4096 1
+caller 2
+vmalloc b 4096 1
+order 2 1 1 2 2
+end
+";
+
+const PICKED: &str = "vmreport 1
+1.1 0xffffc90000002000 @6
+2.1 0xffffc90000000000 @5
+tally calls 2 ok 2 no-space 0 no-frames 0 no-atomic 0 not-live 0 refused 0
+events 6
+frames 1022 mapped 2 stale 0
+free 4..16
+area 0..2 vmalloc caller 2 serial 1
+area 2..4 vmalloc caller 1 serial 2
+end
+";
+
+/// Neither finds a hole. Caller 1 has the purge turn at the fourth pick, which is caller 2's.
+const TURN_TAKEN_TRACE: &str = "vmtrace 1
+space 2
+callers 2
+caller 1
+vmalloc a 8192 1
+caller 2
+vmalloc b 8192 1
+order 1 2 1 2
+end
+";
+
+const TURN_TAKEN: &str = "vmreport 1
+1.1 no-space @7
+2.1 no-space @12
+tally calls 2 ok 0 no-space 2 no-frames 0 no-atomic 0 not-live 0 refused 0
+events 12
+frames 1024 mapped 0 stale 0
+free 0..2
+end
+";
+
 /// A reader or a writer that moves at most a piece a call, and fails once.
 #[derive(Drop)]
 struct Faulty<T> {
@@ -168,6 +214,22 @@ fn reports(rt: HostRuntime) {
     let (ended, written) = replayed(rt.alloc(), &mut StreamSource::new(io::repeat(b'a')));
     assert_eq!(rt; ended, Status::TooLong);
     assert_eq!(rt; written.as_slice(), b"fault length\n".as_slice());
+}
+
+#[test]
+fn callers_get_places_as_they_are_picked(rt: HostRuntime) {
+    let mut source = StreamSource::new(PICKED_TRACE.as_bytes());
+    let (ended, written) = replayed(rt.alloc(), &mut source);
+    assert_eq!(rt; ended, Status::Done);
+    assert_eq!(rt; written.as_slice(), PICKED.as_bytes());
+}
+
+#[test]
+fn a_pick_stays_where_another_has_the_purge_turn(rt: HostRuntime) {
+    let mut source = StreamSource::new(TURN_TAKEN_TRACE.as_bytes());
+    let (ended, written) = replayed(rt.alloc(), &mut source);
+    assert_eq!(rt; ended, Status::Done);
+    assert_eq!(rt; written.as_slice(), TURN_TAKEN.as_bytes());
 }
 
 #[test]

@@ -94,6 +94,128 @@ fn first_bad_lines(rt: HostRuntime) {
     }
 }
 
+/// The first bad line of a text that begins with a space of 16 pages.
+fn refused_behind_space(alloc: Global, rest: &[u8]) -> Result<Option<(u32, bool)>, AllocError> {
+    let mut text = Text::of(Vec::new(alloc));
+    text.put(b"vmtrace 1\nspace 16\n")?;
+    text.put(rest)?;
+    Ok(refused(alloc, text.as_slice()))
+}
+
+#[test]
+fn first_bad_lines_of_callers(rt: HostRuntime) -> Result<(), Fail> {
+    for (rest, line, waits) in [
+        (b"callers 0\nend\n".as_slice(), 3, false),
+        (b"callers 17\nend\n".as_slice(), 3, false),
+        (b"callers 02\nend\n".as_slice(), 3, false),
+        (b"callers\nend\n".as_slice(), 3, false),
+        (b"callers 2\ncallers 2\nend\n".as_slice(), 4, false),
+        (b"vmalloc a 1 1\ncallers 2\nend\n".as_slice(), 4, false),
+        (b"caller 1\ncallers 2\nend\n".as_slice(), 4, false),
+        (b"callers 2\nframes 3\nend\n".as_slice(), 4, true),
+        (b"caller 0\nend\n".as_slice(), 3, false),
+        (b"caller 2\nend\n".as_slice(), 3, false),
+        (b"caller 1 \nend\n".as_slice(), 3, false),
+        (b"caller 1".as_slice(), 3, false),
+        (b"callers 3\ncaller 2\ncaller 1\nend\n".as_slice(), 5, false),
+        (b"callers 3\ncaller 2\ncaller 2\nend\n".as_slice(), 5, false),
+        (
+            b"vmalloc a 1 1\ncaller 1\nvmalloc a 1 1\nvmalloc a 1 1\nend\n".as_slice(),
+            6,
+            false,
+        ),
+        (b"caller 1\nframes 3\nend\n".as_slice(), 4, true),
+    ] {
+        assert_eq!(rt;
+            refused_behind_space(rt.alloc(), rest)?,
+            Some((line, waits))
+        );
+    }
+    Ok(())
+}
+
+#[test]
+fn first_bad_lines_of_picks(rt: HostRuntime) -> Result<(), Fail> {
+    for (rest, line, waits) in [
+        (b"order\nend\n".as_slice(), 3, false),
+        (b"order \nend\n".as_slice(), 3, false),
+        (b"order 0\nend\n".as_slice(), 3, false),
+        (b"order 2\nend\n".as_slice(), 3, false),
+        (b"order 01\nend\n".as_slice(), 3, false),
+        (b"order 1  1\nend\n".as_slice(), 3, false),
+        (b"order 1 \nend\n".as_slice(), 3, false),
+        (b"order 1 x\nend\n".as_slice(), 3, false),
+        (b"callers 2\norder 2\norder 2 3\nend\n".as_slice(), 5, false),
+        (b"callers 2\norder 2 0 1\nend\n".as_slice(), 4, false),
+        (b"order 1\nvmalloc a 1 1\nend\n".as_slice(), 4, false),
+        (b"order 1\ncaller 1\nend\n".as_slice(), 4, false),
+        (b"order 1\ncallers 1\nend\n".as_slice(), 4, false),
+        (b"end\norder 1\n".as_slice(), 4, false),
+        (b"order 1\nvfree a\nend\n".as_slice(), 4, true),
+    ] {
+        assert_eq!(rt;
+            refused_behind_space(rt.alloc(), rest)?,
+            Some((line, waits))
+        );
+    }
+    Ok(())
+}
+
+/// The first bad line of a text with one order line of so many picks.
+fn refused_picks(alloc: Global, picks: u32) -> Result<Option<(u32, bool)>, AllocError> {
+    let mut line = Text::of(Vec::new(alloc));
+    line.put(b"order")?;
+    for _ in 0..picks {
+        line.put(b" 1")?;
+    }
+    line.put(b"\nend")?;
+    refused_behind_space(alloc, line.as_slice())
+}
+
+#[test]
+fn sixty_four_picks_of_a_line(rt: HostRuntime) -> Result<(), Fail> {
+    for (picks, line) in [(63, 4), (64, 4), (65, 3)] {
+        assert_eq!(rt; refused_picks(rt.alloc(), picks)?, Some((line, false)));
+    }
+    Ok(())
+}
+
+#[test]
+fn reads_sections_and_picks(rt: HostRuntime) -> Result<(), Fail> {
+    for (text, calls, picks) in [
+        (
+            b"vmtrace 1\nspace 16\ncallers 3\nend\n".as_slice(),
+            [0, 0, 0, 0].as_slice(),
+            [].as_slice(),
+        ),
+        (
+            b"vmtrace 1\nspace 16\ncaller 1\norder 1\nend\n".as_slice(),
+            [0, 0].as_slice(),
+            [1].as_slice(),
+        ),
+        (
+            b"vmtrace 1\nspace 16\ncallers 3\nvmalloc a 1 1\ncaller 1\ncaller 3\nvmalloc a 2 1\nvmalloc b 3 1\norder 3 1 1\norder 2\nend\n".as_slice(),
+            [1, 0, 0, 2].as_slice(),
+            [3, 1, 1, 2].as_slice(),
+        ),
+        (
+            b"vmtrace 1\nspace 16\ncallers 3\ncaller 2\nvmalloc a 1 1\nvmalloc b 1 1\norder 1 2 3\nend\n".as_slice(),
+            [0, 0, 2, 0].as_slice(),
+            [1, 2, 3].as_slice(),
+        ),
+    ] {
+        let trace = read_trace(rt.alloc(), text)?;
+        assert_eq!(rt; trace.picks.as_slice(), picks);
+        let sections = trace.calls.as_slice();
+        assert_eq!(rt; trace.callers as usize + 1, calls.len());
+        assert_eq!(rt; sections.len(), calls.len());
+        for i in 0..sections.len() {
+            assert_eq!(rt; sections[i].as_slice().len(), calls[i]);
+        }
+    }
+    Ok(())
+}
+
 #[test]
 fn one_call_too_many(rt: HostRuntime) -> Result<(), Fail> {
     let mut text = Text::of(Vec::new(rt.alloc()));

@@ -1,12 +1,13 @@
 //! What a trace says.
-ghost use Rattle.std.specs.Prelude.{◌≡◌, [], ◌∷◌, IfOk};
+ghost use Rattle.std.specs.Prelude.{◌≡◌, ℕ, IfOk};
 ghost use Rattle.trace_text.specs.Held.{IsHeld, header_of};
 ghost use Rattle.trace_text.specs.Reading.{Reading};
 ghost use Rattle.trace_text.specs.Told.{Tells, config_of};
 
 use crate::progress::Progress;
+use crate::sections::close_section;
 use std::alloc::{AllocError, Global};
-use vm_model::{Call, CallerCalls, CallsList, Config, CountLineList, PickList};
+use vm_model::{CallsList, Config, CountLineList, PickList};
 
 /// The header, the calls and the order of a trace.
 #[derive(Drop)]
@@ -29,7 +30,7 @@ pub struct Trace {
 
 /// The configuration where the header names a space alone.
 fn default_config(space: u32) -> Config
-    ensures { result ≡ config_of (header_of space) }
+    ensures { (callers : ℕ) → result ≡ config_of (header_of space callers) }
 {
     Config {
         space,
@@ -40,26 +41,27 @@ fn default_config(space: u32) -> Config
     }
 }
 
-/// The calls of the opening, and the one caller without calls.
-fn with_one_caller(alloc: Global, opening: Vec<Call>) -> Result<CallsList, AllocError>
-    ensures { IfOk result (λ calls. calls ≡ opening.items ∷ [] ∷ []) }
-{
-    let mut sections = Vec::with_capacity(alloc, 2)?;
-    sections.push(CallerCalls::of(opening))?;
-    sections.push(CallerCalls::of(Vec::new(alloc)))?;
-    Ok(CallsList::of(sections))
-}
-
 /// The trace whose lines were read.
 pub fn trace_of(alloc: Global, progress: Progress) -> Result<Trace, AllocError>
     ensures { IfOk result (λ trace. (r : Reading) → IsHeld progress.entry r → Tells trace r) }
 {
+    let Progress {
+        space,
+        callers,
+        caller,
+        calls,
+        closed,
+        picks,
+        ..
+    } = progress;
+    let mut sections = closed;
+    close_section(alloc, &mut sections, calls, caller, callers)?;
     Ok(Trace {
-        config: default_config(progress.space),
-        calls: with_one_caller(alloc, progress.calls)?,
+        config: default_config(space),
+        calls: CallsList::of(sections),
         counts: CountLineList::of(Vec::new(alloc)),
-        picks: PickList::of(Vec::new(alloc)),
-        callers: 1,
+        picks: PickList::of(picks),
+        callers,
         counters: 0,
         batch: 32,
     })

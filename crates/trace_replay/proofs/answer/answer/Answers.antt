@@ -2,18 +2,18 @@ use Rattle.std.proofs.lemmas.Result.{IfOk-weaker}
 use Rattle.trace_text.specs.Reading.{Reading}
 use Rattle.trace_text.specs.Told.{Tells}
 use Rattle.trace_replay.specs.declared.answer.Outcome.{Outcome}
-use Rattle.trace_replay.specs.Thin.{IsThin}
+use Rattle.trace_replay.specs.BuiltReadings.{IsBuilt}
 use Rattle.trace_replay.specs.Headline.{Writes, Reports}
-use Rattle.trace_replay.proofs.ThinTraces.{thin_trace}
+use Rattle.trace_replay.proofs.BuiltTraces.{built_trace}
 use Rattle.trace_replay.proofs.Reported.{done}
 use Rattle.trace_replay.proofs.answer.answer.Goals as goal
 
 pub report-requires : goal.report-requires
-report-requires c = let (reading, trace, tells) = c.in-Ok.ensures.trace in (reading, thin_trace c.args.bytes.now reading trace, tells)
+report-requires c = let (reading, trace, tells) = c.in-Ok.ensures.trace in (reading, built_trace c.args.bytes.now reading trace, tells)
 
 pub returns-in-Ok : goal.returns-in-Ok
 returns-in-Ok c =
     let (reading, trace, tells) = c.in-Ok.ensures.trace in
-    let thin = thin_trace c.args.bytes.now reading trace in
-    IfOk-weaker c.report.result (λ (o : Outcome). (r : Reading) → IsThin r → Tells c.in-Ok.trace r → Reports r o.status o.text) (λ (o : Outcome). Writes c.args.bytes.now o.status o.text)
-    (λ o is. done c.args.bytes.now o reading c.requires trace (is reading thin tells)) c.report.ensures
+    let built = built_trace c.args.bytes.now reading trace in
+    IfOk-weaker c.report.result (λ (o : Outcome). (r : Reading) → IsBuilt r → Tells c.in-Ok.trace r → Reports r o.status o.text) (λ (o : Outcome). Writes c.args.bytes.now o.status o.text)
+    (λ o is. done c.args.bytes.now o reading c.requires trace (is reading built tells)) c.report.ensures

@@ -4,14 +4,15 @@ use Rattle.vm_model.specs.declared.tables.Tables.{Tables}
 use Rattle.vm_model.specs.Tables.{tables_of}
 use Rattle.trace_text.specs.Report.{report}
 use Rattle.trace_replay.specs.Headline.{setup, history_of_trace}
+use Rattle.trace_replay.proofs.LegalHistories.{legal_history}
 use Rattle.trace_replay.proofs.Reported.{no_counters}
 use Rattle.trace_replay.proofs.answer.report.Goals as goal
 
 pub returns : goal.returns
-returns c = λ reading thin tells. (
+returns c = λ reading built tells. (
   refl,
-  c.in_ok-tables.ensures.legal reading thin tells,
+  legal_history reading built,
   c.in_ok-text.ensures
-      ∙ ap (λ (t : Tables). report t c.of-counters.result false) (c.in_ok-tables.ensures.tables reading thin tells)
-      ∙ ap (λ (rows : List CounterRow). report (tables_of (setup reading) (history_of_trace reading)) rows false) (c.of-counters.ensures ∙ c.new.ensures.items ∙ sym (no_counters reading thin)),
+      ∙ ap (λ (t : Tables). report t c.of-counters.result false) (c.in_ok-tables.ensures reading built tells)
+      ∙ ap (λ (rows : List CounterRow). report (tables_of (setup reading) (history_of_trace reading)) rows false) (c.of-counters.ensures ∙ c.new.ensures.items ∙ sym (no_counters reading built)),
 )

@@ -1,0 +1,74 @@
+-- What a kernel tells that ran the opening, the picks and the rest of a trace is its history.
+use Rattle.std.proofs.Common.{All, ◌≡◌, ℕ, zero, suc, ◌+◌, ◌<◌, List, [], ◌∷◌, length, Option, Some, None, refl, sym, ap, ◌∙◌, subst, arith, length-append, length-set, slice_get}
+use Rattle.vm_model.specs.declared.calls.Call.{Call}
+use Rattle.vm_model.specs.declared.config.Config.{Config}
+use Rattle.vm_model.specs.declared.tables.Tables.{Tables}
+use Rattle.vm_model.specs.Setup.{Setup}
+use Rattle.vm_model.specs.Config.{setup_of}
+use Rattle.vm_model.specs.Events.{Section}
+use Rattle.vm_model.specs.Calls.{Answered}
+use Rattle.vm_model.specs.Next.{next}
+use Rattle.vm_model.specs.History.{World, Local, section_of, made_if, step_of, step, moved_to, first_mover, finish, most_events, opening_world, opening_answers, callers_from, pick_all, history_of}
+use Rattle.vm_model.specs.Tables.{tables_of}
+use Rattle.trace_text.specs.Reading.{Reading, calls_of}
+use Rattle.trace_text.specs.Told.{config_of, all_calls}
+use Rattle.std.proofs.lemmas.List.FromFn.{length-map-range_with_len}
+use Rattle.section_core.specs.Kernels.{KernelState, IsStanding, CanStart, start_of, opening_of, callers_of}
+use Rattle.trace_replay.specs.BuiltReadings.{IsBuilt}
+use Rattle.trace_replay.specs.Headline.{setup, history_of_trace}
+use Rattle.trace_replay.proofs.BuiltSections.{can_start}
+
+-- a kernel can start on what a trace of the built words tells
+pub starts_on : (config : Config) (sections : List (List Call)) (r : Reading) → IsBuilt r → config ≡ config_of r.header → sections ≡ all_calls r → CanStart (setup_of config) sections
+starts_on config sections r is same all = subst (λ (c : Config). CanStart (setup_of c) sections) (sym same) (subst (CanStart (setup r)) (sym all) (can_start r is))
+
+-- How many callers there are.
+
+kept_made : (w : World) (l : Local) (s : Option Section) → length (made_if w l s).locals ≡ length w.locals
+kept_made w l None = refl
+kept_made w l (Some s) = length-set w.locals l.caller (moved_to l (next l.setup l.place s))
+
+kept_step : (w : World) (l : Option Local) → length (step_of w l).locals ≡ length w.locals
+kept_step w None = refl
+kept_step w (Some l) = kept_made w l (section_of w.map l)
+
+kept_by : (w : World) (fuel : ℕ) → ((v : World) → length (finish fuel v).locals ≡ length v.locals) → (o : Option ℕ) → length (elim o as (λ _. World) [ None ↦ w | Some k ↦ finish fuel (step w k) ]).locals ≡ length w.locals
+kept_by w fuel kept None = refl
+kept_by w fuel kept (Some k) = kept (step w k) ∙ kept_step w (slice_get w.locals k)
+
+kept_finish : (fuel : ℕ) (w : World) → length (finish fuel w).locals ≡ length w.locals
+unfolding finish
+kept_finish zero w = refl
+kept_finish (suc fuel) w = kept_by w fuel (kept_finish fuel) (first_mover w)
+
+length-callers_from : (c : Setup) (answers : List Answered) (k : ℕ) (calls : List (List Call)) → length (callers_from c answers k calls) ≡ length calls
+length-callers_from c answers k [] = refl
+length-callers_from c answers k (own ∷ calls) = ap suc (length-callers_from c answers (suc k) calls)
+
+all_there : (c : Setup) (sections : List (List Call)) → length (start_of c sections).locals ≡ 1 + length (callers_of sections)
+all_there c sections =
+    let w : World = finish most_events (opening_world c (opening_of sections) (callers_of sections)) in
+    omega (
+      arith,
+      length-append w.locals (callers_from c (opening_answers w.locals) 1 (callers_of sections)),
+      kept_finish most_events (opening_world c (opening_of sections) (callers_of sections)),
+      length-callers_from c (opening_answers w.locals) 1 (callers_of sections),
+    )
+
+-- each pick is a caller of the kernel that has started
+pub picks_within : (config : Config) (sections : List (List Call)) (picks : List ℕ) (k : KernelState) (r : Reading) → IsBuilt r → sections ≡ all_calls r → picks ≡ r.picks
+    → IsStanding (setup_of config) (opening_of sections) (callers_of sections) (start_of (setup_of config) sections) k → All (λ pick. pick < length k.locals) picks
+picks_within config sections picks k r is all same st =
+    let many : length k.locals ≡ 1 + r.header.callers
+    = ap length st.locals ∙ all_there (setup_of config) sections ∙ ap (λ s. 1 + length (callers_of s)) all ∙ ap (λ n. 1 + n) (length-map-range_with_len (λ k. calls_of k r.calls) 1 r.header.callers) in
+    subst (All (λ pick. pick < length k.locals)) (sym same) (λ i d low. (let high = (is.picks i d low).high in omega arith))
+
+-- the tables of where the kernel stands at the end are those of the history
+pub tables_told : (config : Config) (sections : List (List Call)) (picks : List ℕ) (r : Reading) (t : Tables) → config ≡ config_of r.header → sections ≡ all_calls r → picks ≡ r.picks
+    → t ≡ tables_of (setup_of config) (finish most_events (pick_all (start_of (setup_of config) sections) picks)) → t ≡ tables_of (setup r) (history_of_trace r)
+unfolding history_of
+tables_told config sections picks r t same all picked is =
+    is
+    ∙ ap (λ (c : Config). tables_of (setup_of c) (finish most_events (pick_all (start_of (setup_of c) sections) picks))) same
+    ∙ ap (λ s. tables_of (setup r) (finish most_events (pick_all (start_of (setup r) s) picks))) all
+    ∙ ap (λ ps. tables_of (setup r) (finish most_events (pick_all (start_of (setup r) (all_calls r)) ps))) picked

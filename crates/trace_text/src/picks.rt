@@ -1,0 +1,46 @@
+//! The picks of an `order` line, as they are read.
+ghost use Rattle.std.specs.Prelude.{◌≡◌, ◌≢◌, ℕ, IfOk, IfSome, IfNone, IsTrue, decimal};
+ghost use Rattle.trace_text.specs.Words.{within};
+ghost use Rattle.trace_text.specs.Held.{AddsPicks};
+
+use crate::fields::{cut, number};
+use std::alloc::AllocError;
+
+/// How many picks an `order` line may have.
+const MOST_PICKS: usize = 64;
+
+/// The caller that a field picks.
+fn pick(field: &[u8], callers: u16) -> Option<u16>
+    ensures some { IfSome result (λ caller. IsTrue (within 1 callers caller) × (field.now ≡ decimal caller)) }
+    ensures none { IfNone result ((caller : ℕ) → IsTrue (within 1 callers caller) → field.now ≢ decimal caller) }
+{
+    let Some(caller) = number(field) else {
+        return None;
+    };
+    if caller < 1 || (callers as u64) < caller {
+        return None;
+    }
+    Some(caller as u16)
+}
+
+/// Puts the picks that a text is behind those of earlier lines. A text of no picks, or of more than 64, may leave some.
+pub fn read_picks(picks: &mut Vec<u16>, callers: u16, text: &[u8]) -> Result<bool, AllocError>
+    ensures { IfOk result (λ stood. AddsPicks callers text.now stood picks.old.items picks.new.items) }
+{
+    let mut rest = text;
+    for _count in 0..MOST_PICKS {
+        let Some((field, more)) = cut(rest, b' ') else {
+            let Some(caller) = pick(rest, callers) else {
+                return Ok(false);
+            };
+            picks.push(caller)?;
+            return Ok(true);
+        };
+        let Some(caller) = pick(field, callers) else {
+            return Ok(false);
+        };
+        picks.push(caller)?;
+        rest = more;
+    }
+    Ok(false)
+}
