@@ -37,6 +37,18 @@ def full(count):
     return trace(16, lambda number: f"vmalloc a{number} 1 1", count)
 
 
+def callers(count):
+    """Calls of 16 callers, an equal number each, with four picks a call: the callers' sections are mixed throughout."""
+    lines = ["vmtrace 1", "space 1048576", "callers 16"]
+    for caller in range(1, 17):
+        lines.append(f"caller {caller}")
+        lines += [f"vmalloc a{number} {1 + number * 37 % 4999} 4096" for number in range(caller, count + 1, 16)]
+    picks = [1 + place * place * 7 // 5 % 16 for place in range(4 * count)]
+    for place in range(0, len(picks), 64):
+        lines.append("order " + " ".join(str(pick) for pick in picks[place : place + 64]))
+    return "\n".join(lines + ["end", ""]).encode()
+
+
 def late_fault(length):
     """A text of `length` bytes. Its last line is the first that cannot stand, and is as long as it takes."""
     text = full(99_999)[: -len("end\n")]
@@ -75,6 +87,7 @@ def main():
         ("100,000 calls, nearly all without frames", frameless(50_000), frameless(100_000)),
         ("100,000 calls, nearly all without space", full(50_000), full(100_000)),
         ("100,000 calls past 1,024 gaps", gaps(50_000), gaps(100_000)),
+        ("100,000 calls of 16 callers, 400,000 picks", callers(50_000), callers(100_000)),
         ("16 MiB, the fault in the last line", late_fault(8 << 20), late_fault(16 << 20)),
     ]
     print("| Text | seconds | to its half | to `wc -l` | to `sort` |")

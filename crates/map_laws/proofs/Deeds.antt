@@ -1,47 +1,44 @@
 -- What a section is for is known from the ask that it meets.
-use Rattle.std.proofs.Common.{◌≡◌, ◌≢◌, ℕ, ◌⊎◌, inl, inr, List, Option, refl, ap, sym, ◌∙◌}
+use Rattle.std.proofs.Common.{◌≡◌, ◌≢◌, ℕ, ◌⊎◌, inl, inr, List, Option, refl, ap, sym, ◌∙◌, subst, ℤ}
 use Rattle.vm_model.specs.declared.areas.Span.{Span}
-use Rattle.vm_model.specs.declared.areas.AreaKind.{AreaKind}
 use Rattle.vm_model.specs.Setup.{Setup}
-use Rattle.vm_model.specs.Areas.{mapped_part}
-use Rattle.vm_model.specs.Blocks.{PartAt, mapped_pages}
 use Rattle.vm_model.specs.Chunks.{ObjectAt}
-use Rattle.vm_model.specs.Events.{Section, ForPages, ForGroups, Drop, Return, Wait, TakeWaiting, MapPages, Populate, Fill, Spare}
-use Rattle.vm_model.specs.Places.{Place, MappingArea, Dropping, PurgeCollecting, PurgeReturning, MappingPart, Populating, Sparing, Filling, Then, Ask, AskNothing, AskRefuse, AskTakePurge, AskGivePurge, AskTakeAlloc, AskGiveAlloc, AskSearch, AskDrop, AskReturn, AskSettle, AskRemove, AskUnlink, AskWait, AskTakeWaiting, AskMap, AskPopulate, AskFill, AskUnmap, AskDepopulate, AskFlush, AskZero, AskAdd, AskSum, AskPlace, AskAddChunk, AskAtomic, AskSettleObject, AskUnplace, AskFree, AskSpare, AskNextPage, AskFilled, AskPart, AskAddBlock, AskSettlePart, AskBegin, AskRetire, AskFragment, AskDirty, ask}
+use Rattle.vm_model.specs.Events.{Section, ForPages, ForGroups, Drop, Return, TakeWaiting, Populate, Zero, AddWord, SumWords, SettleObject}
+use Rattle.vm_model.specs.Places.{Place, Zeroing, Adding, Summing, SettlingObject, SettlingAtomic, Dropping, PurgeCollecting, PurgeReturning, Populating, Then, Ask, AskNothing, AskRefuse, AskTakePurge, AskGivePurge, AskTakeAlloc, AskGiveAlloc, AskSearch, AskDrop, AskReturn, AskSettle, AskRemove, AskUnlink, AskWait, AskTakeWaiting, AskMap, AskPopulate, AskFill, AskUnmap, AskDepopulate, AskFlush, AskZero, AskAdd, AskSum, AskPlace, AskAddChunk, AskAtomic, AskSettleObject, AskUnplace, AskFree, AskSpare, AskNextPage, AskFilled, AskPart, AskAddBlock, AskSettlePart, AskBegin, AskRetire, AskFragment, AskDirty, ask}
 use Rattle.vm_model.specs.LegalHistory.{Meets}
 
--- the sections that mark pages free, that change what waits, that give frames or may do so, and that take out a chunk
+-- the sections that mark pages free, take what waits, give an object frames, or are of its words or life
 pub data Deed : Type 0 where
   Drops : Deed
   Returns : Deed
-  Queues : Deed
   Collects : Deed
-  Maps : Deed
   Populates : Deed
-  Fills : Deed
-  Spares : Deed
+  Zeroes : Deed
+  Adds : Deed
+  Sums : Deed
+  Settles : Deed
   Others : Deed
 
 abbrev pub asked : Ask → Deed
 asked (AskDrop s) = Drops
 asked (AskReturn spans) = Returns
-asked (AskWait spans) = Queues
 asked AskTakeWaiting = Collects
-asked (AskMap s) = Maps
 asked (AskPopulate at missing) = Populates
-asked (AskFill base page) = Fills
-asked AskSpare = Spares
+asked (AskZero at) = Zeroes
+asked (AskAdd at serial cpu index amount) = Adds
+asked (AskSum at serial index) = Sums
+asked (AskSettleObject at) = Settles
 asked _ = Others
 
 abbrev pub deed : Section → Deed
 deed (Drop s) = Drops
 deed (Return spans) = Returns
-deed (Wait spans waiting) = Queues
 deed (TakeWaiting all) = Collects
-deed (MapPages s) = Maps
 deed (Populate at missing) = Populates
-deed (Fill base page) = Fills
-deed (Spare chunk base populated) = Spares
+deed (Zero at) = Zeroes
+deed (AddWord at serial cpu index amount) = Adds
+deed (SumWords at serial index total) = Sums
+deed (SettleObject at serial) = Settles
 deed _ = Others
 
 -- a section does what was asked for, or nothing of this kind
@@ -51,7 +48,7 @@ other s t d e h = inl (ap deed e ∙ h)
 own : (s t : Section) (d : Deed) → s ≡ t → deed t ≡ d → (deed s ≡ Others) ⊎ (deed s ≡ d)
 own s t d e h = inr (ap deed e ∙ h)
 
-pub meets_deed : (c : Setup) (a : Ask) (s : Section) → Meets c a s → (deed s ≡ Others) ⊎ (deed s ≡ asked a)
+meets_deed : (c : Setup) (a : Ask) (s : Section) → Meets c a s → (deed s ≡ Others) ⊎ (deed s ≡ asked a)
 meets_deed c AskNothing s w = absurd w
 meets_deed c AskRefuse s w = other s _ _ w refl
 meets_deed c AskTakePurge s w = other s _ _ w refl
@@ -68,30 +65,30 @@ meets_deed c (AskSettle areas) s w = other s _ _ w.1 refl
 meets_deed c (AskRemove start serial) s (inl w) = other s _ _ w.1 refl
 meets_deed c (AskRemove start serial) s (inr w) = other s _ _ w refl
 meets_deed c (AskUnlink starts) s w = other s _ _ w refl
-meets_deed c (AskWait spans) s w = own s _ _ w.1 refl
+meets_deed c (AskWait spans) s w = other s _ _ w.1 refl
 meets_deed c AskTakeWaiting s w = own s _ _ w.1 refl
-meets_deed c (AskMap p) s (inl w) = own s _ _ w refl
+meets_deed c (AskMap p) s (inl w) = other s _ _ w refl
 meets_deed c (AskMap p) s (inr w) = other s _ _ w refl
 meets_deed c (AskPopulate at missing) s (inl w) = own s _ _ w refl
 meets_deed c (AskPopulate at missing) s (inr w) = other s _ _ w refl
-meets_deed c (AskFill base page) s (inl w) = own s _ _ w refl
+meets_deed c (AskFill base page) s (inl w) = other s _ _ w refl
 meets_deed c (AskFill base page) s (inr w) = other s _ _ w refl
 meets_deed c (AskUnmap p) s w = other s _ _ w refl
 meets_deed c (AskDepopulate base pages) s w = other s _ _ w refl
 meets_deed c (AskFlush p) s w = other s _ _ w refl
-meets_deed c (AskZero at) s w = other s _ _ w refl
-meets_deed c (AskAdd at serial cpu index amount) s w = other s _ _ w refl
-meets_deed c (AskSum at serial index) s w = other s _ _ w.1 refl
+meets_deed c (AskZero at) s w = own s _ _ w refl
+meets_deed c (AskAdd at serial cpu index amount) s w = own s _ _ w refl
+meets_deed c (AskSum at serial index) s w = own s _ _ w.1 refl
 meets_deed c (AskPlace bytes align) s (inl w) = other s _ _ w.3 refl
 meets_deed c (AskPlace bytes align) s (inr w) = other s _ _ w.1 refl
 meets_deed c (AskAddChunk chunk base bytes align) s w = other s _ _ w.3 refl
 meets_deed c (AskAtomic bytes align) s (inl w) = other s _ _ w.2 refl
 meets_deed c (AskAtomic bytes align) s (inr w) = other s _ _ w refl
-meets_deed c (AskSettleObject at) s w = other s _ _ w.1 refl
+meets_deed c (AskSettleObject at) s w = own s _ _ w.1 refl
 meets_deed c (AskUnplace at) s w = other s _ _ w refl
 meets_deed c (AskFree at serial) s (inl w) = other s _ _ w refl
 meets_deed c (AskFree at serial) s (inr w) = other s _ _ w refl
-meets_deed c AskSpare s (inl w) = own s _ _ w.3 refl
+meets_deed c AskSpare s (inl w) = other s _ _ w.3 refl
 meets_deed c AskSpare s (inr w) = other s _ _ w refl
 meets_deed c AskNextPage s (inl w) = other s _ _ w.3 refl
 meets_deed c AskNextPage s (inr w) = other s _ _ w refl
@@ -111,7 +108,7 @@ by_deed : (s : Section) (d e : Deed) → deed s ≡ d → d ≢ Others → (deed
 by_deed s d e h n (inl f) = absurd (n (sym h ∙ f))
 by_deed s d e h n (inr f) = sym f ∙ h
 
-pub was_asked : (c : Setup) (a : Ask) (s : Section) (d : Deed) → Meets c a s → deed s ≡ d → d ≢ Others → asked a ≡ d
+was_asked : (c : Setup) (a : Ask) (s : Section) (d : Deed) → Meets c a s → deed s ≡ d → d ≢ Others → asked a ≡ d
 was_asked c a s d w h n = by_deed s d (asked a) h n (meets_deed c a s w)
 
 -- The places at which a caller does these.
@@ -129,28 +126,30 @@ pub collects_at : (c : Setup) (p : Place) (all : List Span) → Meets c (ask c p
 collects_at c (PurgeCollecting extra after) all w = (extra, after, refl)
 collects_at c p all w = let e = was_asked c (ask c p) (TakeWaiting all) Collects w refl (λ e. cc) in cc
 
-pub spares_at : (c : Setup) (p : Place) (chunk base : ℕ) (populated : List ℕ) → Meets c (ask c p) (Spare chunk base populated) → p ≡ Sparing
-spares_at c Sparing chunk base populated w = refl
-spares_at c p chunk base populated w = let e = was_asked c (ask c p) (Spare chunk base populated) Spares w refl (λ e. cc) in cc
-
--- pages get frames for an area or a part
-pub data MapsAt (c : Setup) (s : Span) : Place → Type 0 where
-  ForArea : (place : Span) (k : AreaKind) → mapped_part k place ≡ s → MapsAt c s (MappingArea place k)
-  ForPart : (at : PartAt) → mapped_pages at ≡ s → MapsAt c s (MappingPart at)
-
-pub maps_at : (c : Setup) (p : Place) (s : Span) → Meets c (ask c p) (MapPages s) → MapsAt c s p
-maps_at c (MappingArea place k) s (inl w) = ForArea place k (let e : mapped_part k place ≡ s = cc in e)
-maps_at c (MappingArea place k) s (inr w) = cc
-maps_at c (MappingPart at) s (inl w) = ForPart at (let e : mapped_pages at ≡ s = cc in e)
-maps_at c (MappingPart at) s (inr w) = cc
-maps_at c p s w = let e = was_asked c (ask c p) (MapPages s) Maps w refl (λ e. cc) in cc
-
 pub populates_at : (c : Setup) (p : Place) (at : ObjectAt) (missing : List ℕ) → Meets c (ask c p) (Populate at missing) → p ≡ Populating at missing
 populates_at c (Populating own lacks) at missing (inl w) = let e : own ≡ at = cc in let f : lacks ≡ missing = cc in cc
 populates_at c (Populating own lacks) at missing (inr w) = cc
 populates_at c p at missing w = let e = was_asked c (ask c p) (Populate at missing) Populates w refl (λ e. cc) in cc
 
-pub fills_at : (c : Setup) (p : Place) (base page : ℕ) → Meets c (ask c p) (Fill base page) → (chunk : ℕ) × (filled : ℕ) × (p ≡ Filling chunk base page filled)
-fills_at c (Filling chunk own lacks filled) base page (inl w) = let e : own ≡ base = cc in let f : lacks ≡ page = cc in (chunk, filled, cc)
-fills_at c (Filling chunk own lacks filled) base page (inr w) = cc
-fills_at c p base page w = let e = was_asked c (ask c p) (Fill base page) Fills w refl (λ e. cc) in cc
+pub zeroes_at : (c : Setup) (p : Place) (at : ObjectAt) → Meets c (ask c p) (Zero at) → p ≡ Zeroing at
+zeroes_at c (Zeroing own) at w = let e : own ≡ at = cc in ap Zeroing e
+zeroes_at c p at w = let e = was_asked c (ask c p) (Zero at) Zeroes w refl (λ e. cc) in cc
+
+pub adds_at : (c : Setup) (p : Place) (at : ObjectAt) (serial cpu index : ℕ) (amount : ℤ) → Meets c (ask c p) (AddWord at serial cpu index amount) → p ≡ Adding at serial cpu index amount
+adds_at c (Adding own serial' cpu' index' amount') at serial cpu index amount w =
+    let a : own ≡ at = cc in let b : serial' ≡ serial = cc in let d : cpu' ≡ cpu = cc in let e : index' ≡ index = cc in let f : amount' ≡ amount = cc in cc
+adds_at c p at serial cpu index amount w = let e = was_asked c (ask c p) (AddWord at serial cpu index amount) Adds w refl (λ e. cc) in cc
+
+pub sums_at : (c : Setup) (p : Place) (at : ObjectAt) (serial index : ℕ) (total : ℤ) → Meets c (ask c p) (SumWords at serial index total) → p ≡ Summing at serial index
+sums_at c (Summing own serial' index') at serial index total w = let same = w.1 in let a : own ≡ at = cc in let b : serial' ≡ serial = cc in let d : index' ≡ index = cc in cc
+sums_at c p at serial index total w = let e = was_asked c (ask c p) (SumWords at serial index total) Sums w refl (λ e. cc) in cc
+
+-- an object becomes live at the end of its call
+pub data SettlesAt (at : ObjectAt) : Place → Type 0 where
+  Populated : SettlesAt at (SettlingObject at)
+  Zeroed : SettlesAt at (SettlingAtomic at)
+
+pub settles_at : (c : Setup) (p : Place) (at : ObjectAt) (serial : ℕ) → Meets c (ask c p) (SettleObject at serial) → SettlesAt at p
+settles_at c (SettlingObject own) at serial w = let same = w.1 in let e : at ≡ own = cc in subst (λ x. SettlesAt at (SettlingObject x)) e Populated
+settles_at c (SettlingAtomic own) at serial w = let same = w.1 in let e : at ≡ own = cc in subst (λ x. SettlesAt at (SettlingAtomic x)) e Zeroed
+settles_at c p at serial w = let e = was_asked c (ask c p) (SettleObject at serial) Settles w refl (λ e. cc) in cc

@@ -79,9 +79,7 @@ pub mod ObjectsMade
 pub mod ObjectsReady
 pub mod Deeds
 pub mod Stories
-pub mod BarePages
-pub mod SitedChunks
-pub mod MappedPages
+pub mod FreedPages
 pub mod WaitStories
 pub mod WaitNext
 pub mod WaitWorlds
@@ -90,4 +88,15 @@ pub mod Words
 pub mod ZeroedWords
 pub mod CellsKept
 pub mod ObjectWords
+pub mod SizedPlaces
+pub mod SizedCalls
+pub mod UsedWords
+pub mod ObjectsBefore
+pub mod WordsKept
+pub mod WordSums
+pub mod ZeroedPlaces
+pub mod TouchedWords
+pub mod SummedWorlds
+pub mod SummedSteps
+pub mod SumLaws
 pub mod ReachedSteps

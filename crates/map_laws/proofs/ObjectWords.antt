@@ -24,9 +24,9 @@ use Rattle.map_laws.proofs.Words.{IsWord, AreCells, HasFrame, added_own, added_o
 -- a copy of an object that has the byte, by the places of its chunk, of itself and of its processor
 pub record IsHit (c : Setup) (chunks : List Chunk) (byte i j cpu : ℕ) : Type 0 where
   pub chunk : Chunk
-  pub at_chunk : slice_get chunks i ≡ Some chunk
+  at_chunk : slice_get chunks i ≡ Some chunk
   pub object : Object
-  pub at_object : slice_get chunk.objects j ≡ Some object
+  at_object : slice_get chunk.objects j ≡ Some object
   pub unit : ℕ
   pub at_unit : slice_get c.units cpu ≡ Some unit
   pub has : holds (span (copy_at (object_at chunk object) unit) object.bytes) byte ≡ true
@@ -108,7 +108,7 @@ module _ (c : Setup) (byte : ℕ) where
         } in
         record { chunk = chunk; object = object; same = same_cpu i j cpu cpu' hit again chunk object }
 
-    pub one_hit : (i i' j j' cpu cpu' : ℕ) (hit : IsHit c chunks byte i j cpu) (hit' : IsHit c chunks byte i' j' cpu') → IsOneHit i i' j j' cpu cpu' hit hit'
+    one_hit : (i i' j j' cpu cpu' : ℕ) (hit : IsHit c chunks byte i j cpu) (hit' : IsHit c chunks byte i' j' cpu') → IsOneHit i i' j j' cpu cpu' hit hit'
     one_hit i i' j j' cpu cpu' hit hit' = one_by i i' j j' cpu cpu' hit hit' (same_chunk_place i i' j j' cpu cpu' hit hit')
 
 -- A word of an object, by its processor and index.
@@ -172,7 +172,7 @@ word_mapped c m at cpu index byte wordy word mapped =
     let same : byte / 4096 ≡ at.base + word.unit + page = omega arith in
     let is = mapped (at.base + word.unit + page) there in (is.0, ap (slice_get m.frames) same ∙ is.1)
 
-pub word_read : (c : Setup) (m : PlainMap) (at : ObjectAt) (cpu index byte : ℕ) → IsWordOf c at cpu index byte → word_of c m at cpu index ≡ word_at m.frames m.cells byte
+word_read : (c : Setup) (m : PlainMap) (at : ObjectAt) (cpu index byte : ℕ) → IsWordOf c at cpu index byte → word_of c m at cpu index ≡ word_at m.frames m.cells byte
 word_read c m at cpu index byte word = ap (word_at m.frames m.cells) (ap (λ u. copy_at at u + 4 * index) (get_or_from_slice_get c.units cpu word.unit 0 word.at_unit) ∙ sym word.is)
 
 -- An add changes one word.

@@ -108,7 +108,7 @@ module _ (c : Setup) (setup : IsSetup c) (w : World) (framed : IsFramed c w) (is
     | inr first ↦ target_live first.0.answers t at serial (λ i a e f. is.uses.live 0 i first.0 a first.1 e f) some (ap (λ answers. made_in (slice_get answers (t.call - 1))) (sym first.3) ∙ made) (ap (λ answers. was_freed answers t.call) (sym first.3) ∙ free)
   ]
 
-  named_live : (at : ObjectAt) (serial : ℕ) → IsNamedObject l at serial → IsObject w.map.chunks at (Lives serial)
+  pub named_live : (at : ObjectAt) (serial : ℕ) → IsNamedObject l at serial → IsObject w.map.chunks at (Lives serial)
   named_live at serial now = named_by now.0 at serial now.0.opening now.1 now.2 now.3
 
   -- no object has a byte in a page that isn't populated, while nobody is placing one

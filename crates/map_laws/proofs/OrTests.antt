@@ -2,6 +2,10 @@
 use Rattle.std.proofs.Common.{Bool, arith, false, inl, inr, refl, true, ◌||◌, ◌≡◌, ◌≤◌, ◌⊎◌}
 use Rattle.vm_model.specs.Space.{one_if}
 
+pub or_left : (a b : Bool) → a ≡ true → (a || b) ≡ true
+or_left true b e = refl
+or_left false b e = cc
+
 pub or_right : (a b : Bool) → b ≡ true → (a || b) ≡ true
 or_right true b e = refl
 or_right false b e = e

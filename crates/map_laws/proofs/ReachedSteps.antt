@@ -1,8 +1,7 @@
 -- What a step of a reached world leads to is reached, and so is the start of the callers.
-use Rattle.std.proofs.Common.{◌≡◌, ℕ, inl, inr, List, [], ◌∷◌, ◌++◌, refl, ap, sym, ◌∙◌, subst}
+use Rattle.std.proofs.Common.{ℕ, inl, inr, List, [], ◌++◌, ap, sym, ◌∙◌, subst}
 use Rattle.vm_model.specs.declared.calls.Call.{Call}
 use Rattle.vm_model.specs.Setup.{Setup}
-use Rattle.vm_model.specs.Events.{Event}
 use Rattle.vm_model.specs.History.{World, step, finish, most_events, opening_world, with_callers}
 use Rattle.vm_model.specs.LegalHistory.{IsReached, IsRun, world_after, callers_world}
 use Rattle.vm_model.specs.Rules.{IsTrace}

@@ -16,14 +16,13 @@ use Rattle.vm_model.specs.Places.{Place, Finding, FindingAgain, MappingArea, Dro
 use Rattle.vm_model.specs.Next.{Next, Go, Answer, next, found, with_span, with_base, without_space, after_remove, after_collecting, after_flush}
 use Rattle.vm_model.specs.LegalHistory.{Meets}
 use Rattle.vm_model.specs.Laws.{map_after}
-use Rattle.map_parts.proofs.SearchedPages.{found_free}
-use Rattle.map_parts.proofs.Tests.{or_first}
 use Rattle.map_laws.proofs.Places.{OnNext, either_next}
 use Rattle.map_laws.proofs.AreaFacts.{IsUnbearing, nothing_flushed}
 use Rattle.map_laws.proofs.Quiet.{unbearing_next}
 use Rattle.map_laws.proofs.Spans.{hull_is, covers_append}
 use Rattle.map_laws.proofs.Touched.{painted}
-use Rattle.map_laws.proofs.BarePages.{count_free}
+use Rattle.map_laws.proofs.OrTests.{or_left}
+use Rattle.map_laws.proofs.PlaceMoves.{place_free}
 use Rattle.map_laws.proofs.Stories.{map_at-more, map_at-end, event_last, event_low}
 use Rattle.map_laws.proofs.WaitStories.{IsTakenSince, IsBehind, IsCarvedBy, IsStoried, taken_more, carved_more}
 
@@ -45,7 +44,7 @@ module _ (c : Setup) (first m : PlainMap) (events : List Event) (story : m ≡ m
   -- A place that was found.
 
   found_unmapped : (start pages align page : ℕ) → IsLegalAs c m k (Carve (span start pages) align) → holds (span start pages) page ≡ true → IsUnmapped m page
-  found_unmapped start pages align page legal on = (clean page (count_free m page (let one = found_free m pages align start page legal on in omega arith))).unmapped
+  found_unmapped start pages align page legal on = (clean page (place_free m (span start pages) align page legal on)).unmapped
 
   carved_now : (start pages align : ℕ) → IsLegalAs c m k (Carve (span start pages) align) → IsCarvedBy c first (more (Carve (span start pages) align)) k (span start pages)
   carved_now start pages align legal = record {
@@ -136,7 +135,7 @@ module _ (c : Setup) (m : PlainMap) (events : List Event) (k i page : ℕ) where
   collected_by : (all : List Span) (extra : Option Span) (after : Then) → i < length events → covers all page ≡ true
       → IsLedTo (IsBehind (events ++ (record { caller = k; section = TakeWaiting all }) ∷ []) i k page) (next c (PurgeCollecting extra after) (TakeWaiting all))
   collected_by all extra after low on =
-      let h = (hull_is (all ++ option_to_list extra)).covered page (covers_append page all (option_to_list extra) ∙ or_first (covers all page) (covers (option_to_list extra) page) on) in
+      let h = (hull_is (all ++ option_to_list extra)).covered page (covers_append page all (option_to_list extra) ∙ or_left (covers all page) (covers (option_to_list extra) page) on) in
       record {
         place = PurgeFlushing h.0 all after;
         goes = ap (λ o. after_collecting all o after) h.1;

@@ -1,36 +1,29 @@
 -- Pages wait before they are used again, in every trace.
-use Rattle.std.proofs.Common.{◌≡◌, ℕ, zero, suc, ◌<◌, inl, inr, true, false, List, [], ◌∷◌, ◌++◌, length, replicate, slice_get, slice_set, Some, None, refl, ap, sym, ◌∙◌, subst, arith}
-use Rattle.std.proofs.lemmas.List.{length-replicate}
-use Rattle.std.proofs.lemmas.Option.{slice_get_within}
+use Rattle.std.proofs.Common.{◌≡◌, ℕ, zero, suc, inl, inr, true, List, [], ◌∷◌, ◌++◌, slice_get, slice_set, Some, refl, ap, sym, ◌∙◌, subst, arith}
 use Rattle.vm_model.specs.declared.calls.Call.{Call}
 use Rattle.vm_model.specs.Space.{covers}
 use Rattle.vm_model.specs.Setup.{Setup}
 use Rattle.vm_model.specs.PlainMap.{PlainMap, Free, at_first}
 use Rattle.vm_model.specs.Events.{Section}
-use Rattle.vm_model.specs.Legal.{IsMarked, IsBare, IsLegalAs}
+use Rattle.vm_model.specs.Legal.{IsMarked, IsLegalAs}
 use Rattle.vm_model.specs.Effects.{effect_as}
 use Rattle.vm_model.specs.Carried.{flushed}
 use Rattle.vm_model.specs.Places.{Place, ask}
 use Rattle.vm_model.specs.Next.{Go, next}
 use Rattle.vm_model.specs.Calls.{Answered}
 use Rattle.vm_model.specs.LegalHistory.{Meets, IsReached}
-use Rattle.vm_model.specs.History.{World, Local, started, made_by, made_if, moved_to, step_of, placing_calls, opening_world, opening_answers, callers_from, with_callers}
+use Rattle.vm_model.specs.History.{World, Local, started, made_by, moved_to, placing_calls, opening_world, opening_answers, callers_from, with_callers}
 use Rattle.vm_model.specs.Rules.{IsTrace}
 use Rattle.vm_model.specs.Laws.{IsFreedAt, PagesWaitBeforeReuse}
-use Rattle.vm_model.proofs.Elements.{slice_get-replicate}
-use Rattle.map_parts.specs.Kept.{KeepsApart}
-use Rattle.map_parts.proofs.StepKeeps.{steps_keep_apart}
-use Rattle.map_parts.proofs.ReachedKept.{opening_keeps, callers_keep}
 use Rattle.map_laws.specs.Waits.{FreedPagesHaveWaited}
 use Rattle.map_laws.proofs.Lists.{append_cases, append_first}
 use Rattle.map_laws.proofs.Frames.{IsFramed, not_over, has_call}
-use Rattle.map_laws.proofs.Places.{IsProper, OnNext, HaveBeginnings, begins_with, moved_has}
-use Rattle.map_laws.proofs.AreaWorlds.{IsLegalStep, IsLegallyLasting, legally_lasts}
-use Rattle.map_laws.proofs.TurnProofs.{AreTurnsProper, turns_first, turns_last}
+use Rattle.map_laws.proofs.Places.{OnNext, HaveBeginnings, begins_with, moved_has}
+use Rattle.map_laws.proofs.AreaWorlds.{IsAreaWorld, IsLegalStep, IsLegallyLasting, legally_lasts}
+use Rattle.map_laws.proofs.TraceWorlds.{IsTraceWorld, trace_lasts, trace_first}
 use Rattle.map_laws.proofs.Stories.{map_at-end}
 use Rattle.map_laws.proofs.WaitStories.{IsStoried}
-use Rattle.map_laws.proofs.SitedChunks.{IsSited}
-use Rattle.map_laws.proofs.WaitWorlds.{Follows, Waiting, Taken, IsWaiting, IsWaitWorld, is_idle, idle_sited, idle_storied, idle_flushed, wait_section}
+use Rattle.map_laws.proofs.WaitWorlds.{Follows, Waiting, Taken, IsWaiting, IsWaitWorld, is_idle, idle_storied, idle_flushed, wait_section}
 
 idle_begins : (P : Place → Type 0) (c : Setup) → ((p : Place) → is_idle p ≡ true → P p) → HaveBeginnings P c
 idle_begins P c have = record {
@@ -50,7 +43,7 @@ idle_begins P c have = record {
 }
 
 pub record IsWaitedWorld (c : Setup) (first : PlainMap) (w : World) : Type 0 where
-  pub proper : AreTurnsProper w
+  pub traced : IsTraceWorld c w
   pub waits : IsWaitWorld c first w
 
 -- Each legal section keeps it.
@@ -72,11 +65,8 @@ module _ (c : Setup) (opening : List Call) (calls : List (List Call)) (trace : I
     same : made_by w l s ≡ by c k
     same = ap (λ d. by d l.caller) setup ∙ ap (by c) caller
 
-    apart_now : KeepsApart c (made_by w l s)
-    apart_now = subst (KeepsApart c) (ap (step_of w) legal.step.here ∙ ap (made_if w l) legal.step.gives) (steps_keep_apart c w k trace.setup kept.waits.apart)
-
-    proper_now : AreTurnsProper (made_by w l s)
-    proper_now = (turns_last c calls).steps w k l s framed kept.proper legal.step
+    traced_now : IsTraceWorld c (made_by w l s)
+    traced_now = (trace_lasts c opening calls trace).steps w k l s framed kept.traced legal
 
     placed : (P : Place → Type 0) → OnNext P (next c l.place s) → ((p : Place) → is_idle p ≡ true → P p) → P moved.place
     placed P on have = moved_has P l (idle_begins P l.setup have) (has_call c k l (framed.own k l legal.step.here) (not_over l.setup w.map l.place s legal.step.gives)) (next l.setup l.place s) (subst (λ d. OnNext P (next d l.place s)) (sym setup) on)
@@ -86,10 +76,10 @@ module _ (c : Setup) (opening : List Call) (calls : List (List Call)) (trace : I
 
     wait_step : IsWaitedWorld c first (made_by w l s)
     wait_step = record {
-      proper = proper_now;
+      traced = traced_now;
       waits = subst (IsWaitWorld c first) (sym same)
-          (wait_section c first trace.setup w kept.waits k l s legal.step.here (subst (λ d. IsProper d l.place) setup (kept.proper.proper.each k l legal.step.here)) (subst (λ d. Meets d (ask d l.place) s) setup legal.meets)
-          (subst (λ d. IsLegalAs d w.map k s) setup legal.legal) moved goes placed (subst (KeepsApart c) same apart_now) (subst AreTurnsProper same proper_now).turns);
+          (wait_section c first w kept.traced.area kept.waits k l s legal.step.here (subst (λ d. Meets d (ask d l.place) s) setup legal.meets) (subst (λ d. IsLegalAs d w.map k s) setup legal.legal) moved goes placed
+          (subst IsAreaWorld same traced_now.area));
     }
 
   -- More callers begin without any of this.
@@ -100,7 +90,7 @@ module _ (c : Setup) (opening : List Call) (calls : List (List Call)) (trace : I
       subst (λ (x : Local). is_idle x.place ≡ true) e (begins_with (λ p. is_idle p ≡ true) c (idle_begins (λ p. is_idle p ≡ true) c (λ p idle. idle)) answers [] (slice_get own 0))
   idle_starts answers number (own ∷ more) (suc j) l h = idle_starts answers (suc number) more j l h
 
-  module _ (w : World) (one : length w.locals ≡ 1) (kept : IsWaitWorld c first w) where
+  module _ (w : World) (kept : IsWaitWorld c first w) where
     abbrev joined : World
     joined = with_callers c calls w
 
@@ -114,12 +104,8 @@ module _ (c : Setup) (opening : List Call) (calls : List (List Call)) (trace : I
     waiting_joins : (page : ℕ) → IsWaiting c first w page → IsWaiting c first joined page
     waiting_joins page is = record { wait = is.wait; waits = is.waits; since = is.since }
 
-    wait_joins : AreTurnsProper joined → IsWaitWorld c first joined
-    wait_joins turns = record {
-      apart = callers_keep c opening calls w trace kept.apart one;
-      turns = turns.turns;
-      sited = by_local (λ k p. IsSited c w.map.chunks p) kept.sited (λ k p idle. idle_sited c w.map.chunks p idle);
-      clean = kept.clean;
+    wait_joins : IsWaitWorld c first joined
+    wait_joins = record {
       story = kept.story;
       storied = by_local (IsStoried c first w.events) kept.storied (λ k p idle. idle_storied c first w.events k p idle);
       followed = λ i page waits since. follows_more i page (kept.followed i page waits since);
@@ -133,7 +119,7 @@ module _ (c : Setup) (opening : List Call) (calls : List (List Call)) (trace : I
   wait_lasts : IsLegallyLasting c calls (IsWaitedWorld c first)
   wait_lasts = record {
     steps = wait_step;
-    joins = λ w framed one kept over. (let turns = (turns_last c calls).joins w framed one kept.proper over in record { proper = turns; waits = wait_joins w one kept.waits turns });
+    joins = λ w framed one kept over. record { traced = (trace_lasts c opening calls trace).joins w framed one kept.traced over; waits = wait_joins w kept.waits };
   }
 
 -- The first world.
@@ -141,12 +127,6 @@ module _ (c : Setup) (opening : List Call) (calls : List (List Call)) (trace : I
 module _ (c : Setup) (opening : List Call) (calls : List (List Call)) (trace : IsTrace c opening calls) where
   abbrev at_start : PlainMap
   at_start = at_first c (placing_calls (opening ∷ calls))
-
-  free_within : (page : ℕ) → IsMarked at_start Free page → page < c.space
-  free_within page h = omega (arith, slice_get_within (replicate c.space Free) page Free h, length-replicate c.space Free)
-
-  bare_first : (page : ℕ) → IsMarked at_start Free page → IsBare at_start page
-  bare_first page h = record { unmapped = slice_get-replicate c.space page None (free_within page h); not_stale = slice_get-replicate c.space page false (free_within page h) }
 
   first_idle : (P : ℕ → Place → Type 0) → ((k : ℕ) (p : Place) → is_idle p ≡ true → P k p) → (k : ℕ) (l : Local) → slice_get (opening_world c opening calls).locals k ≡ Some l → P k l.place
   first_idle P have zero l h = let e : started c [] 0 opening ≡ l = cc in subst (λ (x : Local). P 0 x.place) e (begins_with (P 0) c (idle_begins (P 0) c (have 0)) [] [] (slice_get opening 0))
@@ -157,12 +137,8 @@ module _ (c : Setup) (opening : List Call) (calls : List (List Call)) (trace : I
 
   wait_first : IsWaitedWorld c at_start (opening_world c opening calls)
   wait_first = record {
-    proper = turns_first c opening calls;
+    traced = trace_first c opening calls trace;
     waits = record {
-      apart = opening_keeps c opening calls trace;
-      turns = (turns_first c opening calls).turns;
-      sited = first_idle (λ k p. IsSited c [] p) (λ k p idle. idle_sited c [] p idle);
-      clean = bare_first;
       story = refl;
       storied = first_idle (IsStoried c at_start []) (λ k p idle. idle_storied c at_start [] k p idle);
       followed = λ i page waits since. (let at = waits.waits in cc);

@@ -59,7 +59,7 @@ module _ (events : List Event) (e : Event) where
   abbrev pub taken_more : (i k page : ℕ) → IsTakenSince events i k page → IsTakenSince (events ++ e ∷ []) i k page
   taken_more i k page is = record { taken = is.taken; all = is.all; after = is.after; takes = event_first events e is.taken k (TakeWaiting is.all) is.takes; took = is.took }
 
-  pub flushed_more : (i k page : ℕ) → IsFlushedSince events i k page → IsFlushedSince (events ++ e ∷ []) i k page
+  flushed_more : (i k page : ℕ) → IsFlushedSince events i k page → IsFlushedSince (events ++ e ∷ []) i k page
   flushed_more i k page is = record {
     since = taken_more i k page is.since;
     flush = is.flush;

@@ -1,38 +1,34 @@
 -- Pages wait before they are used again, in each reached world.
-use Rattle.std.proofs.Common.{◌≡◌, ◌≢◌, ℕ, zero, suc, ◌<◌, ◌≤◌, ◌⊎◌, inl, inr, Bool, true, false, List, [], ◌∷◌, ◌++◌, length, slice_get, slice_set, Some, refl, ap, sym, ◌∙◌, subst, arith}
+use Rattle.std.proofs.Common.{◌≡◌, ℕ, zero, suc, ◌<◌, ◌≤◌, ◌⊎◌, inl, inr, Bool, true, false, List, [], ◌∷◌, ◌++◌, length, slice_get, slice_set, Some, refl, ap, sym, ◌∙◌, subst, arith}
 use Rattle.std.proofs.lemmas.Option.{same_Some}
 use Rattle.vm_model.specs.declared.areas.Span.{Span}
 use Rattle.vm_model.specs.declared.areas.AreaKind.{AreaKind}
-use Rattle.vm_model.specs.Space.{holds, covers, times, one_if}
+use Rattle.vm_model.specs.Space.{holds, covers, times}
 use Rattle.vm_model.specs.Setup.{Setup}
-use Rattle.vm_model.specs.PlainMap.{PlainMap, Chunk, Free}
-use Rattle.vm_model.specs.Events.{Section, Event, Wait, TakeWaiting, Drop, Return, Flush, Spare}
-use Rattle.vm_model.specs.Legal.{IsMarked, IsUnmapped, IsBare, IsLegalAs}
+use Rattle.vm_model.specs.PlainMap.{PlainMap, Free}
+use Rattle.vm_model.specs.Events.{Section, Event, Wait, TakeWaiting, Drop, Return, Flush}
+use Rattle.vm_model.specs.Legal.{IsMarked, IsUnmapped, IsLegalAs}
 use Rattle.vm_model.specs.Effects.{effect_as}
-use Rattle.vm_model.specs.Carried.{held, flushed, has_alloc}
-use Rattle.vm_model.specs.Places.{Place, MappingArea, Dropping, PurgeCollecting, PurgeFlushing, PurgeReturning, Populating, Filling, Then, ask}
+use Rattle.vm_model.specs.Carried.{held, flushed}
+use Rattle.vm_model.specs.Places.{Place, MappingArea, Dropping, PurgeCollecting, PurgeFlushing, PurgeReturning, Then, ask}
 use Rattle.vm_model.specs.Next.{Go, next}
 use Rattle.vm_model.specs.LegalHistory.{Meets}
 use Rattle.vm_model.specs.History.{World, Local}
-use Rattle.vm_model.specs.Rules.{IsSetup}
-use Rattle.vm_model.specs.Laws.{map_after, map_at, as_free, IsEvent, IsTakenFrom, IsFreedAt, IsReturned, IsDropped}
-use Rattle.map_parts.specs.Owners.{every, of_place}
-use Rattle.map_parts.specs.Kept.{KeepsApart}
-use Rattle.map_parts.proofs.Sums.{member-le}
-use Rattle.map_parts.proofs.PoolMoves.{covers-le-times}
-use Rattle.map_laws.specs.Turns.{AreTurnsKept}
+use Rattle.vm_model.specs.Laws.{map_after, map_at, IsEvent, IsTakenFrom, IsFreedAt, IsReturned, IsDropped}
 use Rattle.map_laws.specs.Waits.{IsWaitOf, HasWaited, IsFreedWell}
 use Rattle.map_laws.proofs.Lists.{same_or, set_cases, set_same, set_other}
-use Rattle.map_laws.proofs.Spans.{times-one, covers_one}
+use Rattle.map_laws.proofs.Spans.{covers_times, covers_one}
 use Rattle.map_laws.proofs.OutMoves.{sum_two}
-use Rattle.map_laws.proofs.Places.{IsProper, OnNext}
-use Rattle.map_laws.proofs.Deeds.{Spares, deed, spares_at, drops_at, returns_at, collects_at}
+use Rattle.map_laws.proofs.Places.{OnNext}
+use Rattle.map_laws.proofs.Deeds.{drops_at, returns_at, collects_at}
 use Rattle.map_laws.proofs.Stories.{map_after-append, map_at-last, map_at-before, map_at-more, more_events, event_first, event_last, event_low, WhichEvent, Before, Last, which_event}
-use Rattle.map_laws.proofs.BarePages.{IsFreed, Still, Dropped, Returned, freed, free_count, gains, unmapped_stays, bare_stays, waiting_from, waiting_to, waits_now}
-use Rattle.map_laws.proofs.SitedChunks.{IsSited, sited_stays, sited_next}
-use Rattle.map_laws.proofs.MappedPages.{IsOwnPage, own_page}
+use Rattle.map_laws.proofs.AreaFacts.{bare_at}
+use Rattle.map_laws.proofs.AreaWorlds.{IsAreaWorld}
+use Rattle.map_laws.proofs.MapMoves.{free_one}
+use Rattle.map_laws.proofs.Chosen.{sum_has}
+use Rattle.map_laws.proofs.FreedPages.{IsFreed, Still, Dropped, Returned, freed, waiting_from, waiting_to, waits_now}
 use Rattle.map_laws.proofs.WaitStories.{IsBehind, behind_flushed, IsCarvedBy, IsStoried, behind_more, returned_more, taken_before, freed_before, dropped_more, storied_more}
-use Rattle.map_laws.proofs.WaitNext.{still_unmapped, storied_next, IsLedTo, collected_next, behind_next, flushed_next}
+use Rattle.map_laws.proofs.WaitNext.{storied_next, IsLedTo, collected_next, behind_next, flushed_next}
 
 -- a page that waits, or that a caller is about to flush or to return since event i
 pub data Follows (w : World) (i page : ℕ) : Type 0 where
@@ -45,12 +41,8 @@ pub record IsWaiting (c : Setup) (first : PlainMap) (w : World) (page : ℕ) : T
   pub waits : IsWaitOf w.events wait page
   pub since : IsTakenFrom c first w.events page (suc wait) (length w.events)
 
--- what each event keeps of the pages that wait, are taken or were carved, beside who has each page
+-- what each event keeps of the pages that wait, are taken or were carved
 pub record IsWaitWorld (c : Setup) (first : PlainMap) (w : World) : Type 0 where
-  pub apart : KeepsApart c w
-  pub turns : AreTurnsKept w
-  pub sited : (k : ℕ) (l : Local) → slice_get w.locals k ≡ Some l → IsSited c w.map.chunks l.place
-  pub clean : (page : ℕ) → IsMarked w.map Free page → IsBare w.map page
   pub story : w.map ≡ map_after c first w.events
   pub storied : (k : ℕ) (l : Local) → slice_get w.locals k ≡ Some l → IsStoried c first w.events k l.place
   pub followed : (i page : ℕ) → IsWaitOf w.events i page → IsTakenFrom c first w.events page (suc i) (length w.events) → Follows w i page
@@ -61,40 +53,38 @@ pub record IsWaitWorld (c : Setup) (first : PlainMap) (w : World) : Type 0 where
 
 -- Who has a page has it alone.
 
-module _ (c : Setup) (w : World) (kept : KeepsApart c w) where
-  abbrev places : ℕ → Local → ℕ
-  places page x = of_place c x.place every page
+module _ (w : World) (area : IsAreaWorld w) where
+  abbrev holdings : ℕ → Local → ℕ
+  holdings page x = times page (held x.setup x.place)
 
-  flushed_least : (p : Place) (page : ℕ) → covers (flushed p) page ≡ true → 1 ≤ of_place c p every page
-  flushed_least p page on = omega (arith, covers-le-times (flushed p) page, ap one_if on)
+  abbrev flushings : ℕ → Local → ℕ
+  flushings page x = times page (flushed x.place)
 
-  pub waiting_free : (page : ℕ) → covers w.map.waiting page ≡ true → IsMarked w.map Free page → ⊥
-  waiting_free page on free = let once = kept.owners.once page in omega (arith, covers-le-times w.map.waiting page, ap one_if on, free_count w.map page free)
+  waiting_free : (page : ℕ) → covers w.map.waiting page ≡ true → IsMarked w.map Free page → ⊥
+  waiting_free page on free = let once = area.once page in omega (arith, covers_times page w.map.waiting on, free_one w.map page free)
 
-  pub flushed_free : (k : ℕ) (l : Local) (page : ℕ) → slice_get w.locals k ≡ Some l → covers (flushed l.place) page ≡ true → IsMarked w.map Free page → ⊥
+  flushed_free : (k : ℕ) (l : Local) (page : ℕ) → slice_get w.locals k ≡ Some l → covers (flushed l.place) page ≡ true → IsMarked w.map Free page → ⊥
   flushed_free k l page here on free =
-      let once = kept.owners.once page in omega (arith, member-le (places page) w.locals k l here, flushed_least l.place page on, free_count w.map page free)
+      let once = area.once page in omega (arith, sum_has (flushings page) w.locals l k here, covers_times page (flushed l.place) on, free_one w.map page free)
 
-  pub waiting_had : (k : ℕ) (l : Local) (page : ℕ) → slice_get w.locals k ≡ Some l → covers w.map.waiting page ≡ true → 1 ≤ of_place c l.place every page → ⊥
-  waiting_had k l page here on n = let once = kept.owners.once page in omega (arith, covers-le-times w.map.waiting page, ap one_if on, member-le (places page) w.locals k l here)
-
-  pub two_had : (k j : ℕ) (l x : Local) (page : ℕ) → slice_get w.locals k ≡ Some l → slice_get w.locals j ≡ Some x → k ≢ j → 1 ≤ of_place c l.place every page → 1 ≤ of_place c x.place every page → ⊥
-  two_had k j l x page here there apart n o = let once = kept.owners.once page in omega (arith, sum_two (places page) w.locals k j l x here there apart)
-
-  -- a page that is followed is nobody else's
-  pub follows_none : (k : ℕ) (l : Local) (i page : ℕ) → slice_get w.locals k ≡ Some l → 1 ≤ of_place c l.place every page → covers (flushed l.place) page ≡ false → Follows w i page → ⊥
-  follows_none k l i page here n none (Waiting on) = waiting_had k l page here on n
-  follows_none k l i page here n none (Taken j x at is) = elim (same_or k j) [
-    | inl same ↦ (let e : l ≡ x = same_Some l x (sym here ∙ ap (slice_get w.locals) same ∙ at) in let on = ap (λ (y : Local). covers (flushed y.place) page) e ∙ behind_flushed w.events i j page x.place is in cc)
-    | inr apart ↦ two_had k j l x page here at apart n (flushed_least x.place page (behind_flushed w.events i j page x.place is))
-  ]
+  -- a page that is followed is held by nobody
+  follows_none : (k : ℕ) (l : Local) (i page : ℕ) → slice_get w.locals k ≡ Some l → covers (held l.setup l.place) page ≡ true → Follows w i page → ⊥
+  follows_none k l i page here on (Waiting e) =
+      let once = area.once page in omega (arith, sum_has (holdings page) w.locals l k here, covers_times page (held l.setup l.place) on, covers_times page w.map.waiting e)
+  follows_none k l i page here on (Taken j x at is) =
+      let once = area.once page in
+      omega (arith, sum_has (holdings page) w.locals l k here, covers_times page (held l.setup l.place) on, sum_has (flushings page) w.locals x j at, covers_times page (flushed x.place) (behind_flushed w.events i j page x.place is))
 
   -- and a page that a caller flushes is followed by that caller alone
-  pub follows_own : (k : ℕ) (l : Local) (i page : ℕ) → slice_get w.locals k ≡ Some l → covers (flushed l.place) page ≡ true → Follows w i page → IsBehind w.events i k page l.place
-  follows_own k l i page here on (Waiting e) = absurd (waiting_had k l page here e (flushed_least l.place page on))
+  follows_own : (k : ℕ) (l : Local) (i page : ℕ) → slice_get w.locals k ≡ Some l → covers (flushed l.place) page ≡ true → Follows w i page → IsBehind w.events i k page l.place
+  follows_own k l i page here on (Waiting e) =
+      let once = area.once page in absurd (omega (arith, sum_has (flushings page) w.locals l k here, covers_times page (flushed l.place) on, covers_times page w.map.waiting e))
   follows_own k l i page here on (Taken j x at is) = elim (same_or k j) [
     | inl same ↦ (let e : x ≡ l = same_Some x l (sym at ∙ ap (slice_get w.locals) (sym same) ∙ here) in subst (λ n. IsBehind w.events i n page l.place) (sym same) (subst (λ (y : Local). IsBehind w.events i j page y.place) e is))
-    | inr apart ↦ absurd (two_had k j l x page here at apart (flushed_least l.place page on) (flushed_least x.place page (behind_flushed w.events i j page x.place is)))
+    | inr apart ↦ absurd (
+        let once = area.once page in
+        omega (arith, sum_two (flushings page) w.locals k j l x here at apart, covers_times page (flushed l.place) on, covers_times page (flushed x.place) (behind_flushed w.events i j page x.place is))
+        )
   ]
 
 -- Places of callers that have none of this.
@@ -104,14 +94,7 @@ is_idle (MappingArea s kd) = false
 is_idle (Dropping s) = false
 is_idle (PurgeFlushing h waited after) = false
 is_idle (PurgeReturning waited after) = false
-is_idle (Populating at missing) = false
-is_idle (Filling chunk base page filled) = false
 is_idle _ = true
-
-pub idle_sited : (c : Setup) (chunks : List Chunk) (p : Place) → is_idle p ≡ true → IsSited c chunks p
-idle_sited c chunks (Populating at missing) h = cc
-idle_sited c chunks (Filling chunk base page filled) h = cc
-idle_sited c chunks _ h = tt
 
 pub idle_storied : (c : Setup) (m : PlainMap) (events : List Event) (k : ℕ) (p : Place) → is_idle p ≡ true → IsStoried c m events k p
 idle_storied c m events k (MappingArea s kd) h = cc
@@ -122,20 +105,6 @@ pub idle_flushed : (page : ℕ) (p : Place) → is_idle p ≡ true → covers (f
 idle_flushed page (PurgeFlushing h waited after) e = cc
 idle_flushed page (PurgeReturning waited after) e = cc
 idle_flushed page _ e = refl
-
--- only a caller with the alloc turn has a chunk that must stay
-sited_or : (c : Setup) (p : Place) → (has_alloc p ≡ true) ⊎ ((chunks : List Chunk) → IsSited c chunks p)
-sited_or c (Populating at missing) = inl refl
-sited_or c (Filling chunk base page filled) = inl refl
-sited_or c _ = inr (λ chunks. tt)
-
-pub data SpareOr : Section → Type 0 where
-  IsSpare : (chunk base : ℕ) (populated : List ℕ) → SpareOr (Spare chunk base populated)
-  NoSpare : (s : Section) → deed s ≢ Spares → SpareOr s
-
-spare_or : (s : Section) → SpareOr s
-spare_or (Spare chunk base populated) = IsSpare chunk base populated
-spare_or s = NoSpare s (λ e. cc)
 
 le_or : (a b : ℕ) → (a ≤ b) ⊎ (b < a)
 le_or zero b = inl (omega arith)
@@ -153,25 +122,10 @@ order a b = elim (le_or a b) [
   | inr more ↦ Above more
 ]
 
--- Free pages stay bare, since none of them gets a frame.
-
-module _ (c : Setup) (m : PlainMap) (k page : ℕ) (clean : IsMarked m Free page → IsBare m page) where
-  still_bare : (s : Section) (b : Bool) → gains c s page ≡ b → IsLegalAs c m k s → (gains c s page ≡ true → as_free (slice_get m.marks page) ≡ 0) → IsMarked m Free page → IsBare (effect_as c m k s) page
-  still_bare s true e legal own was = absurd (omega (arith, own e, free_count m page was))
-  still_bare s false e legal own was = bare_stays c m k s page legal e (clean was)
-
-  by_freed : (s : Section) → IsLegalAs c m k s → (gains c s page ≡ true → as_free (slice_get m.marks page) ≡ 0) → IsFreed m page s → IsBare (effect_as c m k s) page
-  by_freed r legal own (Still s was) = still_bare s (gains c s page) refl legal own was
-  by_freed r legal own (Dropped dropped on) = let is = legal.1 page (covers_one dropped page ∙ on) in record { unmapped = is.unmapped; not_stale = is.not_stale }
-  by_freed r legal own (Returned spans on) = let is = legal.1 page on in record { unmapped = is.unmapped; not_stale = is.not_stale }
-
-  pub clean_section : (s : Section) → IsLegalAs c m k s → (gains c s page ≡ true → as_free (slice_get m.marks page) ≡ 0) → IsMarked (effect_as c m k s) Free page → IsBare (effect_as c m k s) page
-  clean_section s legal own now = by_freed s legal own (freed c m k s page now)
-
 -- A legal section of one caller, over the setup itself and under its number.
 
-module _ (c : Setup) (first : PlainMap) (is : IsSetup c) (w : World) (kept : IsWaitWorld c first w) (k : ℕ) (l : Local) (s : Section) (here : slice_get w.locals k ≡ Some l) (proper : IsProper c l.place)
-    (meets : Meets c (ask c l.place) s) (legal : IsLegalAs c w.map k s) (moved : Local) where
+module _ (c : Setup) (first : PlainMap) (w : World) (area : IsAreaWorld w) (kept : IsWaitWorld c first w) (k : ℕ) (l : Local) (s : Section) (here : slice_get w.locals k ≡ Some l) (meets : Meets c (ask c l.place) s)
+    (legal : IsLegalAs c w.map k s) (moved : Local) where
   abbrev event : Event
   event = record { caller = k; section = s }
 
@@ -207,46 +161,6 @@ module _ (c : Setup) (first : PlainMap) (is : IsSetup c) (w : World) (kept : IsW
     };
     since = not_free_since was.wait page never was.since;
   }
-
-  -- the page is the caller's own where it gets a frame
-  gained : (page : ℕ) → gains c s page ≡ true → IsOwnPage w k page
-  gained page e = own_page c is w kept.apart k l here (kept.sited k l here) s page meets e
-
-  -- Free pages, and those that were carved.
-
-  clean_now : (page : ℕ) → IsMarked made.map Free page → IsBare made.map page
-  clean_now page now = clean_section c w.map k page (kept.clean page) s legal (λ e. (gained page e).taken) now
-
-  ungained : (page : ℕ) (b : Bool) → gains c s page ≡ b → (gains c s page ≡ true → ⊥) → IsUnmapped w.map page → IsUnmapped made.map page
-  ungained page true e never was = absurd (never e)
-  ungained page false e never was = unmapped_stays c w.map k s page e was
-
-  holds_place : (x : Local) (place : Span) (page : ℕ) → (x.place ≡ Dropping place) ⊎ ((kd : AreaKind) × (x.place ≡ MappingArea place kd)) → holds place page ≡ true → 1 ≤ times page (held x.setup x.place)
-  holds_place x place page (inl e) on = omega (arith, ap (λ p. times page (held x.setup p)) e, times-one page place, ap one_if on)
-  holds_place x place page (inr e) on = omega (arith, ap (λ p. times page (held x.setup p)) e.1, times-one page place, ap one_if on)
-
-  storied_other : (j : ℕ) (x : Local) → slice_get w.locals j ≡ Some x → j ≢ k → IsStoried c first made.events j x.place
-  storied_other j x at apart = storied_more c first w.events event j x.place
-      (λ place carved e page on. subst (λ m. IsUnmapped (effect_as c m k s) page) kept.story
-      (ungained page _ refl (λ g. (let none = (gained page g).others j x at apart in let some = holds_place x place page e on in omega arith)) (still_unmapped c first w.map w.events kept.story kept.clean j place carved page on)))
-      (kept.storied j x at)
-
-  -- The chunk that gets frames.
-
-  sited_other : (j : ℕ) (x : Local) → slice_get w.locals j ≡ Some x → j ≢ k → SpareOr s → IsSited c made.map.chunks x.place
-  sited_other j x at apart or = by_spare s refl or
-    where
-      by_spare : (t : Section) → s ≡ t → SpareOr t → IsSited c made.map.chunks x.place
-      by_spare r e (IsSpare chunk base populated) = elim (sited_or c x.place) [
-        | inl theirs ↦ (
-            let p = spares_at c l.place chunk base populated (subst (Meets c (ask c l.place)) e meets) in
-            let mine = kept.turns.alloc.mine k l here (ap has_alloc p) in
-            let other = kept.turns.alloc.mine j x at theirs in
-            absurd (apart (let f : k ≡ j = cc in sym f))
-            )
-        | inr any ↦ any made.map.chunks
-      ]
-      by_spare r e (NoSpare t n) = sited_stays c w.map k s x.place (subst (λ y. deed y ≢ Spares) (sym e) n) (kept.sited j x at)
 
   -- What is followed.
 
@@ -333,9 +247,9 @@ module _ (c : Setup) (first : PlainMap) (is : IsSetup c) (w : World) (kept : IsW
 
   followed_returns : (i page : ℕ) → Follows w i page → IsFreeing page → IsReturned made.events page i (length w.events)
   followed_returns i page follows (Returns spans after e at on) =
-      return_now i page spans after e on (subst (IsBehind w.events i k page) at (follows_own c w kept.apart k l i page here (ap (λ p. covers (flushed p) page) at ∙ on) follows))
+      return_now i page spans after e on (subst (IsBehind w.events i k page) at (follows_own w area k l i page here (ap (λ p. covers (flushed p) page) at ∙ on) follows))
   followed_returns i page follows (Drops dropped e at on) =
-      absurd (follows_none c w kept.apart k l i page here (omega (arith, ap (λ p. of_place c p every page) at, times-one page dropped, ap one_if on)) (ap (λ p. covers (flushed p) page) at) follows)
+      absurd (follows_none w area k l i page here (ap (λ p. covers (held l.setup p) page) at ∙ covers_one dropped page ∙ on) follows)
 
   dropped_now : (page : ℕ) (dropped : Span) → s ≡ Drop dropped → holds dropped page ≡ true → IsCarvedBy c first w.events k dropped → IsDropped c first made.events page (length w.events)
   dropped_now page dropped e on carved = record {
@@ -415,18 +329,17 @@ module _ (c : Setup) (first : PlainMap) (is : IsSetup c) (w : World) (kept : IsW
 
   -- What waits, and what is flushed.
 
-  waited_now : KeepsApart c made → (page : ℕ) → covers made.map.waiting page ≡ true → IsWaiting c first made page
-  waited_now apart page on = elim (waiting_from c w.map k s page on) [
-    | inl was ↦ waiting_more page (waiting_free c made apart page on) (kept.waited page was)
+  waited_now : IsAreaWorld made → (page : ℕ) → covers made.map.waiting page ≡ true → IsWaiting c first made page
+  waited_now later page on = elim (waiting_from c w.map k s page on) [
+    | inl was ↦ waiting_more page (waiting_free made later page on) (kept.waited page was)
     | inr now ↦ record {
       wait = length w.events;
       waits = record { caller = k; waiting = now.1; spans = now.0; waits = last_event (Wait now.0 now.1) now.2; waited = now.3 };
-      since = λ n a b free. waiting_free c made apart page on (subst (λ x. IsMarked x Free page) (map_now n a) free);
+      since = λ n a b free. waiting_free made later page on (subst (λ x. IsMarked x Free page) (map_now n a) free);
     }
   ]
 
-  module _ (goes : (q : Place) → next c l.place s ≡ Go q → moved.place ≡ q) (placed : (P : Place → Type 0) → OnNext P (next c l.place s) → ((p : Place) → is_idle p ≡ true → P p) → P moved.place) (apart : KeepsApart c made)
-      (turns : AreTurnsKept made) where
+  module _ (goes : (q : Place) → next c l.place s ≡ Go q → moved.place ≡ q) (placed : (P : Place → Type 0) → OnNext P (next c l.place s) → ((p : Place) → is_idle p ≡ true → P p) → P moved.place) (later : IsAreaWorld made) where
     flushed_had : (j : ℕ) (x : Local) → slice_get made.locals j ≡ Some x → (page : ℕ) → covers (flushed x.place) page ≡ true → IsWaiting c first w page
     flushed_had j x at page on = elim (set_cases w.locals k j moved x at) [
       | inl e ↦ placed (λ p. covers (flushed p) page ≡ true → IsWaiting c first w page)
@@ -435,32 +348,30 @@ module _ (c : Setup) (first : PlainMap) (is : IsSetup c) (w : World) (kept : IsW
       | inr e ↦ kept.flushed j x e.1 page on
     ]
 
-    sited_now : (j : ℕ) (x : Local) → slice_get made.locals j ≡ Some x → IsSited c made.map.chunks x.place
-    sited_now j x at = elim (set_cases w.locals k j moved x at) [
-      | inl e ↦ subst (λ (y : Local). IsSited c made.map.chunks y.place) (sym e.1) (placed (IsSited c made.map.chunks) (sited_next c w.map k l.place s proper meets legal) (idle_sited c made.map.chunks))
-      | inr e ↦ sited_other j x e.1 e.0 (spare_or s)
-    ]
-
     storied_own : IsStoried c first made.events k moved.place
-    storied_own = placed (IsStoried c first made.events k) (storied_next c first w.map w.events kept.story kept.clean k l.place s meets legal (kept.storied k l here)) (idle_storied c first made.events k)
+    storied_own = placed (IsStoried c first made.events k) (storied_next c first w.map w.events kept.story (λ page. (area.fine.pages page).free) k l.place s meets legal (kept.storied k l here)) (idle_storied c first made.events k)
+
+    -- what another caller carved is bare still
+    storied_other : (j : ℕ) (x : Local) → slice_get made.locals j ≡ Some x → slice_get w.locals j ≡ Some x → IsStoried c first made.events j x.place
+    storied_other j x at was = storied_more c first w.events event j x.place (λ place carved e page on. subst (λ m. IsUnmapped (effect_as c m k s) page) kept.story (carved_bare e page (covers_one place page ∙ on))) (kept.storied j x was)
+      where
+        carved_bare : {place : Span} → (x.place ≡ Dropping place) ⊎ ((kd : AreaKind) × (x.place ≡ MappingArea place kd)) → (page : ℕ) → covers (place ∷ []) page ≡ true → IsUnmapped made.map page
+        carved_bare (inl e) page on = ((later.each j x at).bare page (ap (λ p. covers (bare_at x.setup p) page) e ∙ on)).unmapped
+        carved_bare (inr e) page on = ((later.each j x at).bare page (ap (λ p. covers (bare_at x.setup p) page) e.1 ∙ on)).unmapped
 
     storied_now : (j : ℕ) (x : Local) → slice_get made.locals j ≡ Some x → IsStoried c first made.events j x.place
     storied_now j x at = elim (set_cases w.locals k j moved x at) [
       | inl e ↦ subst (λ (y : Local). IsStoried c first made.events j y.place) (sym e.1) (subst (λ i. IsStoried c first made.events i moved.place) (sym e.0) storied_own)
-      | inr e ↦ storied_other j x e.1 e.0
+      | inr e ↦ storied_other j x at e.1
     ]
 
     pub wait_section : IsWaitWorld c first made
     wait_section = record {
-      apart = apart;
-      turns = turns;
-      sited = sited_now;
-      clean = clean_now;
       story = story_now;
       storied = storied_now;
       followed = followed_now goes;
-      waited = waited_now apart;
-      flushed = λ j x at page on. waiting_more page (flushed_free c made apart j x page at on) (flushed_had j x at page on);
+      waited = waited_now later;
+      flushed = λ j x at page on. waiting_more page (flushed_free made later j x page at on) (flushed_had j x at page on);
       waits = λ page i n less waits since at. waits_by page i n (order n (length w.events)) less waits since at;
       freed = λ page n at. freed_by page n (order n (length w.events)) at;
     }

@@ -22,7 +22,7 @@ pub cell_at : (frames : List (Option ℕ)) (byte frame : ℕ) → HasFrame frame
 cell_at frames byte frame h = ap (λ o. cell_in (joined_option o) byte) h
 
 -- a cell is that of one word
-pub same_cell : (frames : List (Option ℕ)) (byte other frame own : ℕ) → ((page other frame : ℕ) → slice_get frames page ≡ Some (Some frame) → slice_get frames other ≡ Some (Some frame) → page ≡ other) → HasFrame frames byte frame → HasFrame frames other own → IsWord byte
+same_cell : (frames : List (Option ℕ)) (byte other frame own : ℕ) → ((page other frame : ℕ) → slice_get frames page ≡ Some (Some frame) → slice_get frames other ≡ Some (Some frame) → page ≡ other) → HasFrame frames byte frame → HasFrame frames other own → IsWord byte
     → IsWord other → 1024 * frame + (byte % 4096) / 4 ≡ 1024 * own + (other % 4096) / 4 → byte ≡ other
 same_cell frames byte other frame own apart h g is is' e =
     let low : (byte % 4096) / 4 < 1024 = omega arith in

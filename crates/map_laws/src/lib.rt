@@ -1,7 +1,7 @@
 //! Laws of the plain map: what holds after each event of every legal history.
 #![tactic(auto)]
 
-ghost use Rattle.vm_model.specs.Laws.{ThePurgeTurnIsTakenLast, MoreFuelChangesNothing, AreasAreDisjointAndAligned, TheGuardIsNeverMapped, FreePagesAreClean, PagesWaitBeforeReuse, PartsOfABlockAreDisjoint, ObjectsAreMappedInEveryUnit, WhatIsCarriedIsKept, HistoriesAreLegal};
+ghost use Rattle.vm_model.specs.Laws.{ThePurgeTurnIsTakenLast, MoreFuelChangesNothing, AreasAreDisjointAndAligned, TheGuardIsNeverMapped, FreePagesAreClean, PagesWaitBeforeReuse, PartsOfABlockAreDisjoint, ObjectsAreMappedInEveryUnit, SumsAreTheAdds, WhatIsCarriedIsKept, HistoriesAreLegal};
 ghost use Rattle.map_laws.specs.Turns.{TheTurnsAreKept};
 ghost use Rattle.map_laws.specs.Ends.{EveryRunEnds, HistoriesAreShort};
 ghost use Rattle.map_laws.specs.Steps.{StepsAreReached};
@@ -22,10 +22,10 @@ pub fn ends()
 {}
 
 /// In every trace areas are disjoint and start where their kind and their call want it, a guard is never mapped, free pages
-/// are clean and a frame is one page's, pages wait before they are used again, the parts of a block are disjoint, and a
-/// live object is mapped in every unit and shares no byte with another. What callers carry between two sections is kept,
-/// the history is one legal history in which every caller ends, and each step leads from a world of legal histories to
-/// another.
+/// are clean and a frame is one page's, pages wait before they are used again, the parts of a block are disjoint, a live
+/// object is mapped in every unit and shares no byte with another, and a sum is what was added. What callers carry between
+/// two sections is kept, the history is one legal history in which every caller ends, and each step leads from a world of
+/// legal histories to another.
 pub fn every_trace()
     ensures apart { AreasAreDisjointAndAligned }
     ensures guard { TheGuardIsNeverMapped }
@@ -34,6 +34,7 @@ pub fn every_trace()
     ensures waited { FreedPagesHaveWaited }
     ensures parts { PartsOfABlockAreDisjoint }
     ensures objects { ObjectsAreMappedInEveryUnit }
+    ensures sums { SumsAreTheAdds }
     ensures carried { WhatIsCarriedIsKept }
     ensures legal { HistoriesAreLegal }
     ensures steps { StepsAreReached }

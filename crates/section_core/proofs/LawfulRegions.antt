@@ -7,11 +7,11 @@ use Rattle.vm_model.specs.Legal.{OnEach}
 use Rattle.std.proofs.lemmas.Option.{slice_get-map, slice_get_within}
 use Rattle.vm_model.specs.declared.calls.Call.{Call}
 use Rattle.vm_model.specs.declared.areas.Span.{Span}
-use Rattle.vm_model.specs.Space.{span, holds, covers, runs, end_of, is_open, count_from}
+use Rattle.vm_model.specs.Space.{times, span, holds, covers, runs, end_of, is_open, count_from}
 use Rattle.vm_model.specs.Setup.{Setup, cpus}
 use Rattle.vm_model.specs.PlainMap.{PlainMap, Mark, Held, is_free, taken, free_runs}
 use Rattle.vm_model.specs.Legal.{IsMarked}
-use Rattle.vm_model.specs.Places.{Place, Dropping, MappingArea}
+use Rattle.vm_model.specs.Places.{Place, Dropping, MappingArea, SettlingArea}
 use Rattle.vm_model.specs.History.{World, Local, most_events}
 use Rattle.vm_model.specs.Carried.{IsKept}
 use Rattle.vm_model.specs.Parts.{Region, Desk, PurgeTurn, AllocTurn, FreeRuns, LiveAreas, WaitingSpans, Pages, Percpu, CpuBlocks, regions_of, cpu_blocks, wants}
@@ -20,12 +20,16 @@ use Rattle.vm_model.proofs.Runs.{covers-runs}
 use Rattle.map_parts.specs.Kept.{KeepsApart, IsSoundLocal}
 use Rattle.map_parts.proofs.ReachedKept.{reached_worlds_keep_apart}
 use Rattle.map_laws.proofs.CarriedKept.{carried_kept}
+use Rattle.map_laws.proofs.MapLaws.{areas_apart}
+use Rattle.map_laws.proofs.Chosen.{sum_has}
+use Rattle.vm_model.specs.Areas.{spans_of}
+use Rattle.vm_model.specs.declared.areas.Area.{Area}
 use Rattle.map_laws.proofs.EndProofs.{histories_short}
 use Rattle.section_core.specs.declared.place.Place.{Place as Code}
 use Rattle.section_core.specs.declared.place.Place.TheVariants as code
-use Rattle.map_laws.proofs.Spans.{covers_one}
+use Rattle.map_laws.proofs.Spans.{covers_one, holds_times, none_covers, times-one}
 use Rattle.section_core.specs.Places.{place_of, IsSized}
-use Rattle.section_core.specs.Sections.{AreRunsOf, IsDroppable, IsDroppedWell, IsMappable, IsMappedWell}
+use Rattle.section_core.specs.Sections.{AreRunsOf, IsDroppable, IsDroppedWell, IsMappable, IsMappedWell, IsSettledWell}
 use Rattle.section_core.proofs.Memory.{memory_reached}
 use Rattle.page_pool.specs.Pages as page_pool
 use Rattle.vm_model.specs.Legal as map_bare
@@ -151,6 +155,29 @@ module _ (c : Setup) (opening : List Call) (calls : List (List Call)) (w : World
       by_place (code.PurgeCollecting s) sized at = tt
       by_place (code.PurgeGiving s) sized at = tt
 
+  -- what is settled is no live area's yet
+  unused : (s : Span) → l.place ≡ SettlingArea s kind.Vmalloc → (page : ℕ) → holds s page ≡ true → covers (spans_of w.map.areas) page ≡ false
+  unused s at page h =
+      let once = (areas_apart c opening calls w is.trace is.reached).once page in
+      let mine : times page (held l.setup l.place) ≡ 1 = ap (λ p. times page (held l.setup p)) at ∙ times-one page s ∙ holds_times s page h in
+      none_covers page (spans_of w.map.areas) (omega (arith, sum_has (λ (x : Local). times page (held x.setup x.place)) w.locals l k here))
+
+  pub settled_well : (p : Code) → l.place ≡ place_of p → IsSettledWell l.place w.map.areas
+  settled_well p at = subst (λ q. IsSettledWell q w.map.areas) (sym at) (by_place p at)
+    where
+      by_place : (p : Code) → l.place ≡ place_of p → IsSettledWell (place_of p) w.map.areas
+      by_place (code.SettlingArea s) at = unused s at
+      by_place code.Over at = tt
+      by_place (code.Refusing r) at = tt
+      by_place (code.Finding s) at = tt
+      by_place (code.FindingAgain s) at = tt
+      by_place (code.MappingArea s) at = tt
+      by_place (code.Dropping s) at = tt
+      by_place (code.PurgeTaking s) at = tt
+      by_place (code.PurgeFragmenting s) at = tt
+      by_place (code.PurgeCollecting s) at = tt
+      by_place (code.PurgeGiving s) at = tt
+
   pub memory_here : length w.map.cells ≡ 1024 * l.setup.frames
   memory_here = memory_reached c opening calls w is.reached ∙ ap (λ (d : Setup). 1024 * d.frames) (sym sound.setup)
 
@@ -218,3 +245,19 @@ mapped_there l pages p st sized at = let s = in_one_state l (Pages pages.frames 
 pub memory_there : (l : Local) (pages : page_pool.Pages) → StandTogether wants IsLawful l (Pages pages.frames pages.stale pages.cells) → length pages.cells ≡ 1024 * l.setup.frames
 memory_there l pages st = let s = in_one_state l (Pages pages.frames pages.stale pages.cells) st in
     ap (λ (p : page_pool.Pages). length p.cells) (sym (pages_there s.c s.w.map s.number pages s.there)) ∙ memory_here s.c s.opening s.calls s.w s.running s.k l s.here
+
+abbrev pub areas_held : Region → List Area
+areas_held (LiveAreas areas next) = areas
+areas_held _ = []
+
+-- the region that has the live areas has those of the world
+pub areas_there : (c : Setup) (m : PlainMap) (n : ℕ) (areas : List Area) (next : ℕ) → slice_get (regions_of c m) n ≡ Some (LiveAreas areas next) → m.areas ≡ areas
+areas_there c m n areas next h =
+    let e = region_number c m n (LiveAreas areas next) h in
+    let at : Some (LiveAreas m.areas m.next_area) ≡ Some (LiveAreas areas next) = sym (ap (slice_get (regions_of c m)) e) ∙ h in
+    let same : LiveAreas m.areas m.next_area ≡ LiveAreas areas next = cc in
+    ap areas_held same
+
+pub settled_there : (l : Local) (areas : List Area) (next : ℕ) (p : Code) → StandTogether wants IsLawful l (LiveAreas areas next) → l.place ≡ place_of p → IsSettledWell l.place areas
+settled_there l areas next p st at = let s = in_one_state l (LiveAreas areas next) st in
+    subst (IsSettledWell l.place) (areas_there s.c s.w.map s.number areas next s.there) (settled_well s.c s.opening s.calls s.w s.running s.k l s.here p at)

@@ -1,5 +1,4 @@
 pub mod Answered
-pub mod Inserted
 pub mod Moved
 pub mod FreeSections
 pub mod Counted

@@ -227,3 +227,18 @@ pub within_there : (k : KernelState) (caller n : ℕ) (l : Local) → IsSomewher
 within_there k caller n l is here wanted =
     let st = is.4 in
     subst (λ rs. n < length rs) (sym st.regions) (wanted_there is.0 is.1 is.2 is.3 st.running caller l (ap (λ ls. slice_get ls caller) (sym st.locals) ∙ here) n wanted)
+
+-- who doesn't move changes nothing
+stays_as : (s : List Region × List Local) (k : ℕ) (stepped : Stepped) → SectionAs s k stepped → stepped ≢ Moved → section_by wants moves after s k (slice_get s.1 k) ≡ s
+stays_as s k Moved how n = absurd (n refl)
+stays_as s k Stays how n = ap (section_by wants moves after s k) how.3 ∙ (run_of_sections wants moves after).stayed s k how.1 how.0 how.2 how.4 how.5 how.6
+stays_as s k Ended how n = ap (section_by wants moves after s k) how.1 ∙ (run_of_sections wants moves after).ended s k how.0 how.2
+
+pub unchanged_after : (regions : Vec Region Global) (locals : Vec Local Global) (moved moved' : Vec ℕ Global) (k : ℕ) (stepped : Stepped) (rs rs' : List Region) (ls ls' : List Local)
+    (regions_were : rs ≡ regions.items) (locals_were : ls ≡ locals.items) (made : (rs', ls') ≡ section_by wants moves after (rs, ls) k (slice_get ls k)) → SectionAs (rs, ls) k stepped → stepped ≢ Moved → moved'.items ≡ moved.items
+    → ◌≡◌ {A = KernelState} (record { regions = (with_items regions rs').items; locals = (with_items locals ls').items; moved = moved'.items }) (record { regions = regions.items; locals = locals.items; moved = moved.items })
+unchanged_after regions locals moved moved' k stepped rs rs' ls ls' regions_were locals_were made how n same =
+    let both : (rs', ls') ≡ (rs, ls) = made ∙ stays_as (rs, ls) k stepped how n in
+    ap {B = KernelState} (λ x. record { regions = x; locals = (with_items locals ls').items; moved = moved'.items }) (regions_made regions locals moved moved' k stepped rs rs' ls ls' regions_were locals_were made ∙ ap (λ (s : List Region × List Local). s.0) both ∙ regions_were)
+    ∙ ap {B = KernelState} (λ x. record { regions = regions.items; locals = x; moved = moved'.items }) (locals_made regions locals moved moved' k stepped rs rs' ls ls' regions_were locals_were made ∙ ap (λ (s : List Region × List Local). s.1) both ∙ locals_were)
+    ∙ ap {B = KernelState} (λ x. record { regions = regions.items; locals = locals.items; moved = x }) same

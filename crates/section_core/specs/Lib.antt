@@ -1,6 +1,5 @@
 pub mod Places
 pub mod Locals
-pub mod LiveRows
 pub mod Regions
 pub mod Sections
 pub mod Lawful

@@ -3,9 +3,11 @@ use Rattle.std.specs.Prelude.{◌+◌, ◌-◌, ◌≤◌, ◌≡◌, ℕ, Bool,
 use Rattle.vm_model.specs.declared.areas.Span.{Span}
 use Rattle.vm_model.specs.Space.{span, end_of, holds, covers, runs}
 use Rattle.vm_model.specs.Setup.{Setup}
-use Rattle.vm_model.specs.Places.{Place, MappingArea, Dropping, Ask, AskSearch, AskDrop, AskReturn, AskSettle, AskWait, AskAddChunk, AskAddBlock, AskFragment}
+use Rattle.vm_model.specs.Places.{Place, MappingArea, SettlingArea, Dropping, Ask, AskSearch, AskDrop, AskReturn, AskSettle, AskWait, AskAddChunk, AskAddBlock, AskFragment}
 use Rattle.vm_model.specs.History.{Local}
 use Rattle.vm_model.specs.Parts.{Region, moves, after}
+use Rattle.vm_model.specs.declared.areas.Area.{Area}
+use Rattle.busy_areas.specs.Kept.{IsUnused}
 use Rattle.page_pool.specs.Pages.{Pages, IsBare}
 use Rattle.section_core.specs.declared.region.Stepped.{Stepped}
 use Rattle.section_core.specs.declared.region.Stepped.TheVariants.{Moved, Stays, Ended}
@@ -59,3 +61,8 @@ pub record IsMappable (s : Span) (p : Pages) : Type 0 where
 abbrev pub IsMappedWell : Place → Pages → Type 0
 IsMappedWell (MappingArea s k) p = IsMappable s p
 IsMappedWell _ p = Unit {0}
+
+-- no live area has a page of what is settled
+abbrev pub IsSettledWell : Place → List Area → Type 0
+IsSettledWell (SettlingArea s k) areas = IsUnused areas s
+IsSettledWell _ areas = Unit {0}

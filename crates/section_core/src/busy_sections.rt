@@ -5,12 +5,13 @@ ghost use Rattle.vm_model.specs.Space.{end_of};
 ghost use Rattle.vm_model.specs.Places as model;
 ghost use Rattle.vm_model.specs.Places.{ask};
 ghost use Rattle.vm_model.specs.Parts.{LiveAreas, wants};
-ghost use Rattle.section_core.specs.Sections.{IsMoved, TakesMemory};
+ghost use Rattle.busy_areas.specs.Kept.{IsUnused};
+ghost use Rattle.section_core.specs.Sections.{IsMoved, TakesMemory, IsSettledWell};
 
 use crate::answers::Made;
-use crate::busy_side::BusySide;
 use crate::local::Local;
 use crate::place::Place;
+use busy_areas::BusySide;
 use std::alloc::AllocError;
 use vm_model::{AreaKind, Reply, Span};
 
@@ -23,7 +24,9 @@ const FIRST_ADDRESS: u64 = 0xffff_c900_0000_0000;
 /// Settles a mapped span as a live area, whose address answers the call.
 fn settle(local: &mut Local, busy: &mut BusySide, span: Span) -> Result<(), AllocError>
     requires place { local.old.place ≡ model.SettlingArea span kind.Vmalloc }
+    requires some { 1 ≤ span.pages }
     requires within { end_of span ≤ 1048576 }
+    requires unused { IsUnused busy.old.areas span }
     requires at_hand { length local.old.answers < length local.old.calls }
     requires events { local.old.events + 1 < 2 ^ 32 }
     ensures ok { OnOk result (IsMoved local.old (LiveAreas busy.old.areas busy.old.next) local.new (LiveAreas busy.new.areas busy.new.next)) }
@@ -41,6 +44,7 @@ fn settle(local: &mut Local, busy: &mut BusySide, span: Span) -> Result<(), Allo
 /// The section of a caller that wants the live areas.
 pub(crate) fn at_busy(local: &mut Local, busy: &mut BusySide) -> Result<(), AllocError>
     requires wants { wants local.old ≡ Some 4 }
+    requires settled { IsSettledWell local.old.place busy.old.areas }
     requires events { local.old.events + 1 < 2 ^ 32 }
     ensures ok { OnOk result (IsMoved local.old (LiveAreas busy.old.areas busy.old.next) local.new (LiveAreas busy.new.areas busy.new.next)) }
     ensures memory { OnErr result (TakesMemory (ask local.old.setup local.old.place)) }

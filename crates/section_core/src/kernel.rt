@@ -9,6 +9,7 @@ ghost use Rattle.vm_model.specs.Tables.{entries_of, tables_of};
 ghost use Rattle.vm_model.specs.LegalHistory.{AllOver};
 ghost use Rattle.vm_model.specs.Parts.{wants, moves, after};
 ghost use Rattle.vm_model.specs.Run.{section_by};
+ghost use Rattle.section_core.specs.declared.region.Stepped.TheVariants.{Moved};
 ghost use Rattle.section_core.specs.Lawful.{IsLawful};
 ghost use Rattle.section_core.specs.Kernels.{KernelState, IsStanding, IsSteppedAs, SectionAs, CanStart, CanJoin, start_of, opening_of, callers_of};
 
@@ -112,6 +113,7 @@ impl Kernel {
         requires { caller < length self.old.locals }
         ensures ok { OnOk result ((c : Setup) (opening : List Call) (calls : List (List Call)) (w : World) → IsStanding c opening calls w self.old → IsStanding c opening calls (step w caller) self.new) }
         ensures stepped { IfOk result (λ stepped. (c : Setup) (opening : List Call) (calls : List (List Call)) (w : World) → IsStanding c opening calls w self.old → IsSteppedAs w caller stepped) }
+        ensures unchanged { IfOk result (λ stepped. stepped ≢ Moved → self.new ≡ self.old) }
         ensures callers { length self.new.locals ≡ length self.old.locals }
         ensures err { OnErr result (self.new ≡ self.old) }
     {

@@ -4,7 +4,6 @@
 mod answers;
 mod begin;
 mod busy_sections;
-mod busy_side;
 mod free_sections;
 pub mod kernel;
 pub mod local;

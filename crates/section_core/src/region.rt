@@ -8,8 +8,8 @@ ghost use Rattle.vm_model.specs.Parts.{regions_of, FreeRuns, LiveAreas};
 ghost use Rattle.vm_model.specs.Config.{setup_of};
 ghost use Rattle.section_core.specs.Regions.{region_of};
 
-use crate::busy_side::BusySide;
 use augmented_tree::FreeSide;
+use busy_areas::BusySide;
 use page_pool::PageSide;
 use std::alloc::{AllocError, Global};
 use std::marker::Model;

@@ -6,8 +6,27 @@ use Rattle.trace_text.specs.Words.{is_number, within}
 use Rattle.trace_text.specs.Lines.{Space, Callers}
 use Rattle.trace_text.specs.Reading.{Reading, Header}
 use Rattle.trace_text.specs.Grammar.{follows}
-use Rattle.trace_text.specs.Held.{IsHeld, Steps}
+use Rattle.trace_text.specs.Held.{IsHeld, Steps, header_of}
 use Rattle.trace_text.proofs.NumberLines.{space_lines, callers_lines, number_refused, number_stands}
+
+-- what is held after a line that changes the rank and the header alone
+pub held_with_header : (p : Progress) (r : Reading) (rank space callers : ℕ) (header : Header) → IsHeld p r → header ≡ header_of space callers → r.caller ≤ header.callers → (rank < 10 → r.caller ≡ 0)
+    → IsHeld (record p { rank = rank; space = space; callers = callers }) (record r { rank = rank; header = header })
+held_with_header p r rank space callers header held says among opening = record {
+  rank = refl;
+  header = says;
+  caller = held.caller;
+  among = among;
+  opening = opening;
+  closed = held.closed;
+  calls = held.calls;
+  uncalled = held.uncalled;
+  count = held.count;
+  counts = held.counts;
+  picks = held.picks;
+  names = held.names;
+  unnamed = held.unnamed;
+}
 
 space_at : (rank : ℕ) → follows rank 2 ≡ true → rank ≡ 1
 space_at rank h = grind (arith, nat_tests)
@@ -37,21 +56,7 @@ pub space_stands : (p : Progress) (r : Reading) (text : List ℕ) (n : ℕ) → 
 space_stands p r text n held wide e rank low high =
     let first : r.rank ≡ 1 = sym held.rank ∙ rank in
     number_stands _ r (codes "space") text Space 2 (within 1 1048576) n (space_lines r) wide e (follows_one r.rank first) (is_within 1 1048576 n low high)
-    (record {
-      rank = refl;
-      header = ap (λ (header : Header). record header { space = n }) held.header;
-      caller = held.caller;
-      among = held.among;
-      opening = λ early. held.opening (omega arith);
-      closed = held.closed;
-      calls = held.calls;
-      uncalled = held.uncalled;
-      count = held.count;
-      counts = held.counts;
-      picks = held.picks;
-      names = held.names;
-      unnamed = held.unnamed;
-    })
+    (held_with_header p r 2 n p.callers (record (r.header) { space = n }) held (ap (λ (header : Header). record header { space = n }) held.header) held.among (λ early. held.opening (omega arith)))
 
 pub callers_refused : (p q : Progress) (r : Reading) (text : List ℕ) (n : ℕ) → IsHeld p r → is_number n ≡ true → text ≡ decimal n → (2 ≤ p.rank → p.rank < 8 → 1 ≤ n → n ≤ 16 → ⊥) → Steps r (codes "callers " ++ text) false q
 callers_refused p q r text n held wide e none =
@@ -67,18 +72,4 @@ callers_stands p r text n held wide e after before low high =
     let same = held.rank in
     let opens : r.caller ≡ 0 = held.opening (omega arith) in
     number_stands _ r (codes "callers") text Callers 8 (within 1 16) n (callers_lines r) wide e (follows_header r.rank (omega arith) (omega arith)) (is_within 1 16 n low high)
-    (record {
-      rank = refl;
-      header = ap (λ (header : Header). record header { callers = n }) held.header;
-      caller = held.caller;
-      among = omega arith;
-      opening = λ early. opens;
-      closed = held.closed;
-      calls = held.calls;
-      uncalled = held.uncalled;
-      count = held.count;
-      counts = held.counts;
-      picks = held.picks;
-      names = held.names;
-      unnamed = held.unnamed;
-    })
+    (held_with_header p r 8 p.space n (record (r.header) { callers = n }) held (ap (λ (header : Header). record header { callers = n }) held.header) (omega arith) (λ early. opens))

@@ -2,7 +2,7 @@ use Rattle.std.proofs.Common.{◌∙◌, sym, ap}
 use Rattle.vm_model.specs.Parts as parts
 use Rattle.vm_model.specs.Parts.{Region, FreeRuns, LiveAreas}
 use Rattle.page_pool.specs.Pages as pool
-use Rattle.section_core.specs.LiveRows.{LiveRows}
+use Rattle.busy_areas.specs.LiveRows.{LiveRows}
 use Rattle.section_core.proofs.Starts.{free_at_first, same_nine}
 use Rattle.section_core.proofs.region.first_regions.Goals as goal
 

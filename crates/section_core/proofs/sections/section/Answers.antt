@@ -3,7 +3,7 @@ use Rattle.vm_model.specs.Run.{StandTogether}
 use Rattle.vm_model.specs.Parts.{wants}
 use Rattle.section_core.specs.Regions.{region_of}
 use Rattle.section_core.specs.Lawful.{IsLawful}
-use Rattle.section_core.proofs.LawfulRegions.{few_more, runs_there, dropped_there, mapped_there, memory_there}
+use Rattle.section_core.proofs.LawfulRegions.{few_more, runs_there, dropped_there, mapped_there, memory_there, settled_there}
 use Rattle.section_core.proofs.sections.section.Goals as goal
 
 pub at_desk-requires-clause-events : goal.at_desk-requires-clause-events
@@ -46,3 +46,8 @@ pub at_pages-requires-clause-memory : goal.at_pages-requires-clause-memory
 at_pages-requires-clause-memory c =
     let is : region_of c.region.inside.side ≡ c.args.region.now = c.region.view_is in
     memory_there c.args.local.now c.in-Pages.pages (subst (StandTogether wants IsLawful c.args.local.now) (sym is ∙ ap region_of c.in-Pages.is) c.requires)
+
+pub at_busy-requires-clause-settled : goal.at_busy-requires-clause-settled
+at_busy-requires-clause-settled c =
+    let is : region_of c.region.inside.side ≡ c.args.region.now = c.region.view_is in
+    settled_there c.args.local.now c.in-Busy.busy.areas c.in-Busy.busy.next c.place-place.result (subst (StandTogether wants IsLawful c.args.local.now) (sym is ∙ ap region_of c.in-Busy.is) c.requires) c.place-place.ensures.place

@@ -2,7 +2,7 @@ use Rattle.std.proofs.Common.{length, ◌≡◌, ◌∷◌, ◌++◌, [], inl, i
 use Rattle.vm_model.specs.History.{step}
 use Rattle.section_core.specs.declared.region.Stepped.TheVariants.{Moved, Stays, Ended}
 use Rattle.section_core.specs.Kernels.{KernelState, IsStanding}
-use Rattle.section_core.proofs.SectionsMade.{stands_after, stepped_there, as_many}
+use Rattle.section_core.proofs.SectionsMade.{stands_after, stepped_there, as_many, unchanged_after}
 use Rattle.section_core.proofs.kernel.Kernel.step.Goals as goal
 
 pub invariant_of-self-in-Moved : goal.invariant_of-self-in-Moved
@@ -30,6 +30,9 @@ returns-in-Moved-clause-stepped c = λ setup opening calls w st.
     c.deref_mut.result.now c.section_of.new.regions c.deref_mut-2.result.now c.section_of.new.locals c.deref_mut.ensures.value c.deref_mut-2.ensures.value c.in_ok-stepped.ensures.ok
     setup opening calls w (subst (IsStanding setup opening calls w) (sym c.self.view_is) st) c.in_ok-stepped.ensures.ended
 
+pub returns-in-Moved-clause-unchanged : goal.returns-in-Moved-clause-unchanged
+returns-in-Moved-clause-unchanged c = λ n. absurd (n c.in-Moved.is)
+
 pub returns-in-Moved-clause-callers : goal.returns-in-Moved-clause-callers
 returns-in-Moved-clause-callers c =
     as_many c.self.inside.regions c.self.inside.locals c.self.inside.moved c.push_reserved.new.self c.args.caller c.in_ok-stepped.stepped
@@ -47,6 +50,11 @@ returns-in-Stays c = record {
       stepped_there c.self.inside.regions c.self.inside.locals c.self.inside.moved c.reserve.new.self c.args.caller c.in_ok-stepped.stepped
       c.deref_mut.result.now c.section_of.new.regions c.deref_mut-2.result.now c.section_of.new.locals c.deref_mut.ensures.value c.deref_mut-2.ensures.value c.in_ok-stepped.ensures.ok
       setup opening calls w (subst (IsStanding setup opening calls w) (sym c.self.view_is) st) c.in_ok-stepped.ensures.ended;
+  unchanged = λ n.
+      unchanged_after c.self.inside.regions c.self.inside.locals c.self.inside.moved c.reserve.new.self c.args.caller c.in_ok-stepped.stepped
+          c.deref_mut.result.now c.section_of.new.regions c.deref_mut-2.result.now c.section_of.new.locals c.deref_mut.ensures.value c.deref_mut-2.ensures.value c.in_ok-stepped.ensures.ok
+          c.in_ok-stepped.ensures.ended n c.in_ok-reserve.ensures.items
+      ∙ c.self.view_is;
   callers =
       as_many c.self.inside.regions c.self.inside.locals c.self.inside.moved c.reserve.new.self c.args.caller c.in_ok-stepped.stepped
       c.deref_mut.result.now c.section_of.new.regions c.deref_mut-2.result.now c.section_of.new.locals c.deref_mut.ensures.value c.deref_mut-2.ensures.value c.in_ok-stepped.ensures.ok

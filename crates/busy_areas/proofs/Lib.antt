@@ -1,0 +1,4 @@
+pub mod Apart
+pub mod Named
+pub mod Last
+pub mod Looks

@@ -1,0 +1,243 @@
+//! The live areas, by start: what `vmap_area_root` holds in the kernel.
+ghost use Rattle.std.specs.Prelude.{◌≡◌, ◌+◌, ◌^◌, ◌<◌, ◌↔◌, ℕ, [], ◌∷◌, length, find, slice_get, Some, IfOk, OnOk, OnErr, IfSome, IfNone, OnSome, IsTrue};
+ghost use Rattle.std.specs.Ordering.{nat_cmp};
+ghost use Rattle.std.specs.BTreeMap.{insert_entry};
+ghost use Rattle.vm_model.specs.declared.areas.Area.{Area};
+ghost use Rattle.vm_model.specs.Space.{holds, put_by};
+ghost use Rattle.vm_model.specs.Areas.{named_areas, without_area};
+ghost use Rattle.busy_areas.specs.Kept.{IsUnused};
+
+use std::alloc::{AllocError, Global};
+use std::collections::BTreeMap;
+use std::marker::Model;
+use vm_model::{Area, AreaKind, AreaList, Span};
+
+/// The live areas of a space, and the serial of the next. No two share a page.
+#[derive(Drop)]
+pub struct BusySide {
+    areas: BTreeMap<u32, Area>,
+    next: u32,
+}
+
+impl Model for BusySide {
+    ghost use Rattle.std.specs.BTreeMap.{values};
+    ghost use Rattle.busy_areas.specs.LiveRows.{LiveRows};
+    ghost use Rattle.busy_areas.specs.Kept.{AreKept};
+
+    ghost Value = { LiveRows };
+
+    ghost view = { λ s. record { areas = values s.areas; next = s.next } };
+
+    ghost invariant = { λ s. AreKept s.areas.entries s.next };
+}
+
+/// Puts an area under its start.
+fn put_area(areas: &mut BTreeMap<u32, Area>, area: Area) -> Result<(), AllocError>
+    ensures ok { OnOk result (areas.new.entries ≡ insert_entry nat_cmp areas.old.entries area.span.start area) }
+    ensures err { OnErr result (areas.new.entries ≡ areas.old.entries) }
+{
+    match areas.insert(area.span.start, area) {
+        Ok(_) => Ok(()),
+        Err(_) => Err(AllocError),
+    }
+}
+
+impl BusySide {
+    /// No area; serials begin at 1.
+    pub fn new(alloc: Global) -> BusySide
+        ensures { result ≡ record { areas = []; next = 1 } }
+    {
+        BusySide {
+            areas: BTreeMap::new(alloc),
+            next: 1,
+        }
+    }
+
+    /// A new area, which gets the next serial. An error, which also comes after 4,294,967,294 areas, leaves all as it was.
+    pub fn insert(&mut self, span: Span, kind: AreaKind, caller: u16) -> Result<u32, AllocError>
+        requires page { 0 < span.pages }
+        requires unused { IsUnused self.old.areas span }
+        ensures serial { IfOk result (λ serial. serial ≡ self.old.next) }
+        ensures ok { OnOk result (self.new ≡ record { areas = put_by (λ (a : Area). a.span.start) (record { span = span; kind = kind; caller = caller; serial = self.old.next }) self.old.areas; next = self.old.next + 1 }) }
+        ensures err { OnErr result (self.new ≡ self.old) }
+    {
+        let serial = self.next;
+        let next = serial.checked_add(1).ok_or(AllocError)?;
+        let area = Area {
+            span,
+            kind,
+            caller,
+            serial,
+        };
+        put_area(&mut self.areas, area)?;
+        self.next = next;
+        Ok(serial)
+    }
+
+    /// Takes the area with this start and serial away, if there is one. It takes no memory.
+    pub fn remove(&mut self, start: u32, serial: u32) -> Option<Area>
+        ensures found { IfSome result (λ area. named_areas start serial self.old.areas ≡ area ∷ []) }
+        ensures none { IfNone result (named_areas start serial self.old.areas ≡ []) }
+        ensures gone { OnSome result (self.new ≡ record self.old { areas = without_area start serial self.old.areas }) }
+        ensures unchanged { IfNone result (self.new ≡ self.old) }
+    {
+        match self.areas.get(&start) {
+            Some(area) if area.serial == serial => self.areas.remove(&start),
+            _ => None,
+        }
+    }
+
+    /// The area that holds a page.
+    pub fn find(&self, page: u32) -> Option<Area>
+        ensures { result ≡ find (λ (a : Area). holds a.span page) self.now.areas }
+    {
+        let (_, area) = self.areas.range(..=page).next_back()?;
+        if page - area.span.start < area.span.pages {
+            Some(*area)
+        } else {
+            None
+        }
+    }
+
+    /// How many areas there are.
+    pub fn len(&self) -> u32
+        ensures { result ≡ length self.now.areas }
+    {
+        self.areas.len() as u32
+    }
+
+    /// Whether there is no area.
+    pub fn is_empty(&self) -> bool
+        ensures { IsTrue result ↔ (self.now.areas ≡ []) }
+    {
+        self.areas.is_empty()
+    }
+
+    /// An area by its place among all by rising start, from 0. It takes time for all before it.
+    pub fn area_at(&self, index: u32) -> Area
+        requires { index < length self.now.areas }
+        ensures { slice_get self.now.areas index ≡ Some result }
+    {
+        match self.areas.values().nth(index as usize) {
+            Some(area) => *area,
+            None => unreachable!(),
+        }
+    }
+
+    /// All areas by rising start, in one pass.
+    pub fn areas(&self, alloc: Global) -> Result<AreaList, AllocError>
+        ensures { IfOk result (λ areas. areas ≡ self.now.areas) }
+    {
+        Ok(AreaList::of(self.areas.values().copied().collect(alloc)?))
+    }
+}
+
+#[cfg(test)]
+mod tests {
+    use super::*;
+
+    /// Whether a span may become an area: it has a page, and no area holds a page of it.
+    fn is_open(side: &BusySide, span: Span) -> bool
+        ensures page { IsTrue result → 0 < span.pages }
+        ensures unused { IsTrue result → IsUnused side.now.areas span }
+    {
+        if span.pages == 0 || span.pages > u32::MAX - span.start {
+            return false;
+        }
+        for page in span.start..span.start + span.pages {
+            if side.find(page).is_some() {
+                return false;
+            }
+        }
+        true
+    }
+
+    /// An area of `vmalloc` that caller 7 made.
+    fn area(start: u32, pages: u32, serial: u32) -> Area {
+        Area {
+            span: Span { start, pages },
+            kind: AreaKind::Vmalloc,
+            caller: 7,
+            serial,
+        }
+    }
+
+    /// Makes such an area, and answers its serial.
+    fn insert(side: &mut BusySide, start: u32, pages: u32) -> Result<u32, AllocError>
+        requires page { 0 < pages }
+        requires unused { IsUnused side.old.areas (record { start = start; pages = pages }) }
+    {
+        side.insert(Span { start, pages }, AreaKind::Vmalloc, 7)
+    }
+
+    #[test]
+    fn keeps_areas_by_start(rt: HostRuntime) -> Result<(), AllocError> {
+        let mut side = BusySide::new(rt.alloc());
+        assert!(rt; side.is_empty());
+        for (start, pages, serial) in [(8, 4, 1), (0, 2, 2), (40, 1, 3), (4, 4, 4), (3, 1, 5)] {
+            assert!(rt; is_open(&side, Span { start, pages }));
+            assert_eq!(rt; insert(&mut side, start, pages)?, serial);
+        }
+        for (start, pages) in [(7, 1), (2, 7), (12, 29), (0, 1)] {
+            assert!(rt; !is_open(&side, Span { start, pages }), "{start}");
+        }
+        let rows = [
+            area(0, 2, 2),
+            area(3, 1, 5),
+            area(4, 4, 4),
+            area(8, 4, 1),
+            area(40, 1, 3),
+        ];
+        assert_eq!(rt; side.areas(rt.alloc())?.as_slice(), rows.as_slice());
+        assert_eq!(rt; side.len(), 5);
+        for index in 0..side.len() {
+            assert_eq!(rt; side.area_at(index), rows[index as usize]);
+        }
+        for (page, start) in [
+            (0, Some(0)),
+            (1, Some(0)),
+            (2, None),
+            (3, Some(3)),
+            (7, Some(4)),
+            (8, Some(8)),
+            (11, Some(8)),
+            (12, None),
+            (40, Some(40)),
+            (41, None),
+        ] {
+            assert_eq!(rt;
+                side.find(page).map(|area| area.span.start),
+                start,
+                "{page}"
+            );
+        }
+        Ok(())
+    }
+
+    #[test]
+    fn removes_by_start_and_serial(rt: HostRuntime) -> Result<(), AllocError> {
+        let mut side = BusySide::new(rt.alloc());
+        let first = Span { start: 4, pages: 2 };
+        assert!(rt; is_open(&side, first));
+        assert_eq!(rt; insert(&mut side, 4, 2)?, 1);
+        assert!(rt; is_open(&side, Span { start: 6, pages: 3 }));
+        assert_eq!(rt; insert(&mut side, 6, 3)?, 2);
+
+        assert_eq!(rt; side.remove(4, 2), None);
+        assert_eq!(rt; side.remove(5, 1), None);
+        assert_eq!(rt; side.len(), 2);
+        assert_eq!(rt; side.remove(4, 1), Some(area(4, 2, 1)));
+        assert_eq!(rt; side.remove(4, 1), None);
+
+        assert!(rt; is_open(&side, first));
+        assert_eq!(rt; insert(&mut side, 4, 2)?, 3);
+        assert_eq!(rt; side.remove(4, 1), None);
+        assert_eq!(rt; side.find(5), Some(area(4, 2, 3)));
+        assert_eq!(rt; side.remove(6, 2), Some(area(6, 3, 2)));
+        assert_eq!(rt;
+            side.areas(rt.alloc())?.as_slice(),
+            [area(4, 2, 3)].as_slice()
+        );
+        Ok(())
+    }
+}

@@ -1,0 +1,14 @@
+-- Spans that wait, as a set keeps them.
+use Rattle.std.specs.Prelude.{◌≡◌, ℕ, ◌^◌, ◌<◌, List, All}
+use Rattle.vm_model.specs.declared.areas.Span.{Span}
+use Rattle.vm_model.specs.Space.{end_of, sum_of_pages}
+
+-- the page after the span has a number of 32 bits
+abbrev pub HasEnd : Span → Type 0
+HasEnd s = end_of s < 2 ^ 32
+
+-- the pages of the spans are counted, and each span has an end
+pub record AreCounted (spans : List Span) (pages : ℕ) : Type 0 where
+  pub count : pages ≡ sum_of_pages spans
+  pub fits : pages < 2 ^ 32
+  pub ends : All HasEnd spans

@@ -1,0 +1,191 @@
+-- What each caller's answers say of its calls, and which call an add and a sum are made for.
+use Rattle.std.proofs.Common.{◌≡◌, ℕ, zero, suc, ◌+◌, ◌<◌, inl, inr, Bool, true, false, nat_le, List, [], ◌∷◌, ◌++◌, length, slice_get, Option, Some, None, refl, ap, sym, ◌∙◌, subst, arith, ℤ, length-append}
+use Rattle.std.proofs.lemmas.Option.{same_Some}
+use Rattle.vm_model.specs.declared.calls.Call.{Call}
+use Rattle.vm_model.specs.declared.calls.Call.TheVariants.{Vmalloc, Vfree, MapRam, UnmapRam, UnmapAliases, AllocPercpu, AllocAtomic, FreePercpu, Add, Sum, Balance}
+use Rattle.vm_model.specs.declared.calls.Target.{Target}
+use Rattle.vm_model.specs.Setup.{Setup}
+use Rattle.vm_model.specs.Events.{Section}
+use Rattle.vm_model.specs.Places.{Made, MadeNothing, MadeArea, MadePart, MadeObject, Place, Adding, Summing, SettlingObject, SettlingAtomic, GivingAlloc, ask}
+use Rattle.vm_model.specs.Next.{Next, Go, Answer, next}
+use Rattle.vm_model.specs.Calls.{Answered, begin, begin_call, begin_free_area, begin_unmap_ram, begin_free_percpu, begin_add, begin_sum, target_of, was_freed, answers_in, is_bad_vmalloc_size, is_bad_vmalloc_align, is_bad_map_size, is_bad_object_size, is_bad_object_align}
+use Rattle.vm_model.specs.LegalHistory.{Meets}
+use Rattle.vm_model.specs.History.{World, Local, started, answered, moved_to, opening_world, opening_answers, callers_from}
+use Rattle.map_laws.proofs.Lists.{set_cases, append_cases}
+use Rattle.map_laws.proofs.Frames.{not_over, has_call}
+use Rattle.map_laws.proofs.Places.{OnNext, either_place, answers_call}
+use Rattle.map_laws.proofs.AreaWorlds.{IsLegallyLasting}
+use Rattle.map_laws.proofs.MadeNext.{is_using, IsMakingNone, makes_object, making_none}
+use Rattle.map_laws.proofs.SizedPlaces.{IsMadeSized, IsSizedAt, IsNextSized, sized_next, call_bytes, begins_sized}
+
+-- the call that a caller adds or sums for, and the object that its target names
+abbrev pub IsUse : Local → Place → Type 0
+IsUse l (Adding at serial cpu index amount) = (t : Target) × (slice_get l.calls (length l.answers) ≡ Some (Add t cpu index amount)) × (target_of l.opening l.answers t ≡ MadeObject at serial)
+IsUse l (Summing at serial index) = (t : Target) × (slice_get l.calls (length l.answers) ≡ Some (Sum t index)) × (target_of l.opening l.answers t ≡ MadeObject at serial)
+IsUse l _ = Unit {0}
+
+unused : (l : Local) (p : Place) → is_using p ≡ false → IsUse l p
+unused l (Adding at serial cpu index amount) h = cc
+unused l (Summing at serial index) h = cc
+unused l _ h = tt
+
+module _ (l : Local) where
+  free_use : (made : Made) → IsUse l (begin_free_area made)
+  free_use MadeNothing = tt
+  free_use (MadeArea start serial) = tt
+  free_use (MadePart cpu page serial) = tt
+  free_use (MadeObject at serial) = tt
+
+  unmap_use : (made : Made) → IsUse l (begin_unmap_ram made)
+  unmap_use MadeNothing = tt
+  unmap_use (MadeArea start serial) = tt
+  unmap_use (MadePart cpu page serial) = tt
+  unmap_use (MadeObject at serial) = tt
+
+  object_use : (made : Made) → IsUse l (begin_free_percpu made)
+  object_use MadeNothing = tt
+  object_use (MadeArea start serial) = tt
+  object_use (MadePart cpu page serial) = tt
+  object_use (MadeObject at serial) = tt
+
+  add_use : (t : Target) (cpu index : ℕ) (amount : ℤ) (freed : Bool) (made : Made) → slice_get l.calls (length l.answers) ≡ Some (Add t cpu index amount) → target_of l.opening l.answers t ≡ made → IsUse l (begin_add freed cpu index amount made)
+  add_use t cpu index amount freed MadeNothing h e = tt
+  add_use t cpu index amount freed (MadeArea start serial) h e = tt
+  add_use t cpu index amount freed (MadePart own page serial) h e = tt
+  add_use t cpu index amount true (MadeObject at serial) h e = tt
+  add_use t cpu index amount false (MadeObject at serial) h e = (t, h, e)
+
+  sum_use : (t : Target) (index : ℕ) (freed : Bool) (made : Made) → slice_get l.calls (length l.answers) ≡ Some (Sum t index) → target_of l.opening l.answers t ≡ made → IsUse l (begin_sum freed index made)
+  sum_use t index freed MadeNothing h e = tt
+  sum_use t index freed (MadeArea start serial) h e = tt
+  sum_use t index freed (MadePart own page serial) h e = tt
+  sum_use t index true (MadeObject at serial) h e = tt
+  sum_use t index false (MadeObject at serial) h e = (t, h, e)
+
+  call_use : (c : Setup) (call : Call) → slice_get l.calls (length l.answers) ≡ Some call → IsUse l (begin_call c l.opening l.answers call)
+  call_use c (Vmalloc bytes align) h = either_place (IsUse l) (is_bad_vmalloc_size c bytes) _ _ (λ e. tt) (λ e. either_place (IsUse l) (is_bad_vmalloc_align align) _ _ (λ f. tt) (λ f. tt))
+  call_use c (Vfree t) h = free_use (target_of l.opening l.answers t)
+  call_use c (MapRam cpu pages) h = either_place (IsUse l) (is_bad_map_size c pages) _ _ (λ e. tt) (λ e. either_place (IsUse l) (nat_le pages c.part_limit) _ _ (λ f. tt) (λ f. tt))
+  call_use c (UnmapRam t) h = unmap_use (target_of l.opening l.answers t)
+  call_use c UnmapAliases h = tt
+  call_use c (AllocPercpu bytes align) h = either_place (IsUse l) (is_bad_object_size bytes) _ _ (λ e. tt) (λ e. either_place (IsUse l) (is_bad_object_align align) _ _ (λ f. tt) (λ f. tt))
+  call_use c (AllocAtomic bytes align) h = either_place (IsUse l) (is_bad_object_size bytes) _ _ (λ e. tt) (λ e. either_place (IsUse l) (is_bad_object_align align) _ _ (λ f. tt) (λ f. tt))
+  call_use c (FreePercpu t) h = object_use (target_of l.opening l.answers t)
+  call_use c (Add t cpu index amount) h = add_use t cpu index amount (was_freed (answers_in l.opening l.answers t) t.call) (target_of l.opening l.answers t) h refl
+  call_use c (Sum t index) h = sum_use t index (was_freed (answers_in l.opening l.answers t) t.call) (target_of l.opening l.answers t) h refl
+  call_use c Balance h = tt
+
+  begin_use : (c : Setup) (o : Option Call) → slice_get l.calls (length l.answers) ≡ o → IsUse l (begin c l.opening l.answers o)
+  begin_use c None h = tt
+  begin_use c (Some call) h = call_use c call h
+
+begin_sized : (c : Setup) (opening own : List Answered) (o : Option Call) (call : Call) (bytes : ℕ) → o ≡ Some call → call_bytes call ≡ Some bytes → IsSizedAt bytes (begin c opening own o)
+begin_sized c opening own o call bytes e f = subst (λ x. IsSizedAt bytes (begin c opening own x)) (sym e) (begins_sized c opening own call bytes f)
+
+-- no section begins an add or a sum
+unused_next : (c : Setup) (p : Place) (s : Section) (b : Bool) → makes_object p ≡ b → OnNext (λ q. is_using q ≡ false) (next c p s)
+unused_next c p s false e = by_next (next c p s) (making_none c p s e)
+  where
+    by_next : (n : Next) → IsMakingNone n → OnNext (λ q. is_using q ≡ false) n
+    by_next (Go q) is = is.0
+    by_next (Answer r made) is = tt
+unused_next c (SettlingObject at) s true e = refl
+unused_next c (SettlingAtomic at) s true e = tt
+unused_next c (GivingAlloc r made) s true e = tt
+unused_next c _ s true e = cc
+
+-- of a caller with these calls
+pub record IsLocalSized (own : List Call) (l : Local) : Type 0 where
+  pub calls : l.calls ≡ own
+  pub ordered : (i : ℕ) (a : Answered) → slice_get l.answers i ≡ Some a → slice_get l.calls i ≡ Some a.call
+  pub sized : (i : ℕ) (a : Answered) (bytes : ℕ) → slice_get l.answers i ≡ Some a → call_bytes a.call ≡ Some bytes → IsMadeSized bytes a.made
+  pub now : (call : Call) (bytes : ℕ) → slice_get l.calls (length l.answers) ≡ Some call → call_bytes call ≡ Some bytes → IsSizedAt bytes l.place
+  pub used : IsUse l l.place
+
+module _ (own : List Call) (l : Local) (a : Answered) (is : IsLocalSized own l) (here : slice_get l.calls (length l.answers) ≡ Some a.call) (made : (bytes : ℕ) → call_bytes a.call ≡ Some bytes → IsMadeSized bytes a.made) where
+  one_more : suc (length l.answers) ≡ length (l.answers ++ a ∷ [])
+  one_more = omega (arith, length-append l.answers (a ∷ []))
+
+  answered_sized : IsLocalSized own (answered l a)
+  answered_sized = record {
+    calls = is.calls;
+    ordered = λ i b h. elim (append_cases l.answers (a ∷ []) i b h) [ inl e ↦ is.ordered i b e | inr e ↦ ordered_last i e.0 b e.1 e.2 ];
+    sized = λ i b bytes h f. elim (append_cases l.answers (a ∷ []) i b h) [ inl e ↦ is.sized i b bytes e f | inr e ↦ sized_last e.0 b bytes e.2 f ];
+    now = λ call bytes h f. begin_sized l.setup l.opening (l.answers ++ a ∷ []) (slice_get l.calls (suc (length l.answers))) call bytes (ap (slice_get l.calls) one_more ∙ h) f;
+    used = begin_use (answered l a) l.setup (slice_get l.calls (suc (length l.answers))) (ap (slice_get l.calls) (sym one_more));
+  }
+    where
+      ordered_last : (i j : ℕ) (b : Answered) → i ≡ length l.answers + j → slice_get (a ∷ []) j ≡ Some b → slice_get l.calls i ≡ Some b.call
+      ordered_last i zero b e h = let same : a ≡ b = same_Some a b h in let n : i ≡ length l.answers = omega arith in ap (slice_get l.calls) n ∙ here ∙ ap (λ (x : Answered). Some x.call) same
+      ordered_last i (suc j) b e h = cc
+
+      sized_last : (j : ℕ) (b : Answered) (bytes : ℕ) → slice_get (a ∷ []) j ≡ Some b → call_bytes b.call ≡ Some bytes → IsMadeSized bytes b.made
+      sized_last zero b bytes h f = let same : a ≡ b = same_Some a b h in subst (λ (x : Answered). IsMadeSized bytes x.made) same (made bytes (ap (λ (x : Answered). call_bytes x.call) same ∙ f))
+      sized_last (suc j) b bytes h f = cc
+
+module _ (own : List Call) (l : Local) (s : Section) (is : IsLocalSized own l) (call : length l.answers < length l.calls) (meets : Meets l.setup (ask l.setup l.place) s) where
+  moved_sized : (n : Next) → next l.setup l.place s ≡ n → IsLocalSized own (moved_to l n)
+  moved_sized (Go p) e = record {
+    calls = is.calls;
+    ordered = is.ordered;
+    sized = is.sized;
+    now = λ own_call bytes h f. subst (IsNextSized bytes) e (sized_next l.setup bytes l.place s (is.now own_call bytes h f) meets);
+    used = unused (moved_to l (Go p)) p (subst (OnNext (λ q. is_using q ≡ false)) e (unused_next l.setup l.place s (makes_object l.place) refl));
+  }
+  moved_sized (Answer r made) e =
+      let at = answers_call l r made call in
+      subst (IsLocalSized own) (sym at.2) (answered_sized own l (record { call = at.0; reply = r; made = made; own_event = suc l.events }) is at.1
+      (λ bytes f. subst (IsNextSized bytes) e (sized_next l.setup bytes l.place s (is.now at.0 bytes at.1 f) meets)))
+
+-- a caller at its start
+started_sized : (c : Setup) (opening : List Answered) (k : ℕ) (own : List Call) → IsLocalSized own (started c opening k own)
+started_sized c opening k own = record {
+  calls = refl;
+  ordered = λ i a h. cc;
+  sized = λ i a bytes h f. cc;
+  now = λ call bytes h f. begin_sized c opening [] (slice_get own 0) call bytes h f;
+  used = begin_use (started c opening k own) c (slice_get own 0) refl;
+}
+
+-- the calls of the opening, and of each caller
+abbrev pub calls_at : List Call → List (List Call) → ℕ → Option (List Call)
+calls_at opening calls zero = Some opening
+calls_at opening calls (suc k) = slice_get calls k
+
+pub record AreSized (opening : List Call) (calls : List (List Call)) (w : World) : Type 0 where
+  pub each : (k : ℕ) (l : Local) → slice_get w.locals k ≡ Some l → (own : List Call) × (calls_at opening calls k ≡ Some own) × IsLocalSized own l
+
+module _ (c : Setup) (opening : List Call) (calls : List (List Call)) where
+  joined_sized : (answers : List Answered) (first : ℕ) (more : List (List Call)) (j : ℕ) (l : Local) → slice_get (callers_from c answers first more) j ≡ Some l → (own : List Call) × (slice_get more j ≡ Some own) × IsLocalSized own l
+  joined_sized answers first [] j l h = cc
+  joined_sized answers first (own ∷ more) zero l h = let e = same_Some (started c answers first own) l h in (own, refl, subst (IsLocalSized own) e (started_sized c answers first own))
+  joined_sized answers first (own ∷ more) (suc j) l h = joined_sized answers (suc first) more j l h
+
+  pub sized_lasts : IsLegallyLasting c calls (AreSized opening calls)
+  sized_lasts = record {
+    steps = λ w k l s framed all step. record {
+      each = λ j x h. (let own = framed.own k l step.step.here in
+          elim (set_cases w.locals l.caller j (moved_to l (next l.setup l.place s)) x h) [
+            | inl e ↦ (let was = all.each k l step.step.here in (
+              was.0,
+              ap (calls_at opening calls) (e.0 ∙ own.caller) ∙ was.1,
+              subst (IsLocalSized was.0) (sym e.1)
+                  (moved_sized was.0 l s was.2 (has_call c k l own (not_over l.setup w.map l.place s step.step.gives)) step.meets (next l.setup l.place s) refl),
+            ))
+            | inr e ↦ all.each j x e.1
+          ]);
+    };
+    joins = λ w framed one all over. record {
+      each = λ k l h. elim (append_cases w.locals (callers_from c (opening_answers w.locals) 1 calls) k l h) [
+        | inl e ↦ all.each k l e
+        | inr e ↦ (let has = joined_sized (opening_answers w.locals) 1 calls e.0 l e.2 in let n : k ≡ suc e.0 = omega (arith, one, e.1) in (has.0, ap (calls_at opening calls) n ∙ has.1, has.2))
+      ];
+    };
+  }
+
+  pub sized_first : AreSized opening calls (opening_world c opening calls)
+  sized_first = record { each = by_number }
+    where
+      by_number : (k : ℕ) (l : Local) → slice_get (opening_world c opening calls).locals k ≡ Some l → (own : List Call) × (calls_at opening calls k ≡ Some own) × IsLocalSized own l
+      by_number zero l h = let e = same_Some (started c [] 0 opening) l h in (opening, refl, subst (IsLocalSized opening) e (started_sized c [] 0 opening))
+      by_number (suc k) l h = cc

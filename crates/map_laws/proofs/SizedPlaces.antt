@@ -1,0 +1,145 @@
+-- An object has the bytes of the call that makes it.
+use Rattle.std.proofs.Common.{◌≡◌, ℕ, suc, ◌*◌, max, inl, inr, Bool, true, false, nat_lt, if◌then◌else◌, List, [], ◌∷◌, ◌++◌, Option, Some, None, refl, sym, ◌∙◌, subst}
+use Rattle.vm_model.specs.declared.areas.Span.{Span}
+use Rattle.vm_model.specs.declared.calls.Call.{Call}
+use Rattle.vm_model.specs.declared.calls.Call.TheVariants.{AllocPercpu, AllocAtomic}
+use Rattle.std.proofs.lemmas.Option.{same_Some}
+use Rattle.vm_model.specs.declared.calls.Reply.TheVariants as reply
+use Rattle.vm_model.specs.Setup.{Setup, cpus}
+use Rattle.vm_model.specs.Events.{Section}
+use Rattle.vm_model.specs.Told.{carved, carved_base, had_frames, spans_taken, blocks_gone}
+use Rattle.vm_model.specs.Places.{Made, MadeObject, Aim, ForArea, ForBlock, ForChunk, Then, SearchAgain, ReplyWith, SpareAgain, Place, Refusing, Finding, FindingAgain, PurgeTaking, PurgeFragmenting, PurgeUnlinking, PurgeWaiting, PurgeCollecting, PurgeFlushing, PurgeReturning, PurgeGiving, TakingAlloc, Choosing, SettlingGroups, AddingChunk, Populating, SettlingObject, Unplacing, GivingAlloc, ChoosingAtomic, Zeroing, SettlingAtomic, ask}
+use Rattle.vm_model.specs.Next.{Next, Go, Answer, next, found, without_space, go_on, after_fragments, after_collecting, after_flush}
+use Rattle.vm_model.specs.Calls.{Answered, words_for, is_bad_object_size, is_bad_object_align, begin_call}
+use Rattle.vm_model.specs.LegalHistory.{Meets}
+
+abbrev pub IsAimSized : ℕ → Aim → Type 0
+IsAimSized bytes (ForChunk chunk own align) = own ≡ bytes
+IsAimSized bytes _ = ⊥
+
+abbrev pub IsThenSized : ℕ → Then → Type 0
+IsThenSized bytes (SearchAgain search aim) = IsAimSized bytes aim
+IsThenSized bytes _ = ⊥
+
+abbrev pub IsMadeSized : ℕ → Made → Type 0
+IsMadeSized bytes (MadeObject at serial) = at.bytes ≡ bytes
+IsMadeSized bytes _ = Unit {0}
+
+-- the places of a call for an object of so many bytes
+abbrev pub IsSizedAt : ℕ → Place → Type 0
+IsSizedAt bytes (Refusing r) = Unit {0}
+IsSizedAt bytes (TakingAlloc own align) = own ≡ bytes
+IsSizedAt bytes (Choosing own align) = own ≡ bytes
+IsSizedAt bytes (Finding search aim) = IsAimSized bytes aim
+IsSizedAt bytes (FindingAgain search aim) = IsAimSized bytes aim
+IsSizedAt bytes (PurgeTaking extra after) = IsThenSized bytes after
+IsSizedAt bytes (PurgeFragmenting cpu gone extra after) = IsThenSized bytes after
+IsSizedAt bytes (PurgeUnlinking gone extra after) = IsThenSized bytes after
+IsSizedAt bytes (PurgeWaiting gone extra after) = IsThenSized bytes after
+IsSizedAt bytes (PurgeCollecting extra after) = IsThenSized bytes after
+IsSizedAt bytes (PurgeFlushing s waited after) = IsThenSized bytes after
+IsSizedAt bytes (PurgeReturning waited after) = IsThenSized bytes after
+IsSizedAt bytes (PurgeGiving after) = IsThenSized bytes after
+IsSizedAt bytes (SettlingGroups base chunk own align) = own ≡ bytes
+IsSizedAt bytes (AddingChunk base chunk own align) = own ≡ bytes
+IsSizedAt bytes (Populating at missing) = at.bytes ≡ bytes
+IsSizedAt bytes (SettlingObject at) = at.bytes ≡ bytes
+IsSizedAt bytes (Unplacing at) = Unit {0}
+IsSizedAt bytes (GivingAlloc r made) = IsMadeSized bytes made
+IsSizedAt bytes (ChoosingAtomic own align) = own ≡ bytes
+IsSizedAt bytes (Zeroing at) = at.bytes ≡ bytes
+IsSizedAt bytes (SettlingAtomic at) = at.bytes ≡ bytes
+IsSizedAt bytes _ = ⊥
+
+abbrev pub IsNextSized : ℕ → Next → Type 0
+IsNextSized bytes (Go p) = IsSizedAt bytes p
+IsNextSized bytes (Answer r made) = IsMadeSized bytes made
+
+either_sized : (bytes : ℕ) (b : Bool) (x y : Next) → IsNextSized bytes x → IsNextSized bytes y → IsNextSized bytes (if b then x else y)
+either_sized bytes true x y p q = p
+either_sized bytes false x y p q = q
+
+module _ (c : Setup) (bytes : ℕ) where
+  found_sized : (aim : Aim) (o : Option Span) (base : Option ℕ) (otherwise : Next) → IsAimSized bytes aim → IsNextSized bytes otherwise → IsNextSized bytes (found aim o base otherwise)
+  found_sized (ForArea kd) o base otherwise is q = absurd is
+  found_sized (ForBlock cpu pages) o base otherwise is q = absurd is
+  found_sized (ForChunk chunk own align) (Some place) base otherwise is q = tt
+  found_sized (ForChunk chunk own align) None (Some base) otherwise is q = is
+  found_sized (ForChunk chunk own align) None None otherwise is q = q
+
+  no_space_sized : (aim : Aim) → IsAimSized bytes aim → IsNextSized bytes (without_space aim)
+  no_space_sized (ForArea kd) is = absurd is
+  no_space_sized (ForBlock cpu pages) is = absurd is
+  no_space_sized (ForChunk chunk own align) is = tt
+
+  went_on_sized : (after : Then) → IsThenSized bytes after → IsNextSized bytes (go_on after)
+  went_on_sized (SearchAgain search aim) is = is
+  went_on_sized (ReplyWith r) is = absurd is
+  went_on_sized SpareAgain is = absurd is
+
+  fragments_sized : (gone : List ℕ) (extra : Option Span) (after : Then) → IsThenSized bytes after → IsSizedAt bytes (after_fragments gone extra after)
+  fragments_sized [] extra after is = is
+  fragments_sized (start ∷ gone) extra after is = is
+
+  collected_sized : (waited : List Span) (o : Option Span) (after : Then) → IsThenSized bytes after → IsNextSized bytes (after_collecting waited o after)
+  collected_sized waited None after is = is
+  collected_sized waited (Some s) after is = is
+
+  flushed_sized : (waited : List Span) (after : Then) → IsThenSized bytes after → IsNextSized bytes (after_flush waited after)
+  flushed_sized [] after is = is
+  flushed_sized (s ∷ waited) after is = is
+
+  chosen_sized : (own align : ℕ) (s : Section) → own ≡ bytes → Meets c (ask c (Choosing own align)) s → IsNextSized bytes (next c (Choosing own align) s)
+  chosen_sized own align s is (inl w) = subst (λ x. IsNextSized bytes (next c (Choosing own align) x)) (sym w.3) (w.2 ∙ is)
+  chosen_sized own align s is (inr w) = subst (λ x. IsNextSized bytes (next c (Choosing own align) x)) (sym w.1) is
+
+  added_sized : (base chunk own align : ℕ) (s : Section) → own ≡ bytes → Meets c (ask c (AddingChunk base chunk own align)) s → IsNextSized bytes (next c (AddingChunk base chunk own align) s)
+  added_sized base chunk own align s is w = subst (λ x. IsNextSized bytes (next c (AddingChunk base chunk own align) x)) (sym w.3) (w.2 ∙ is)
+
+  atomic_sized : (own align : ℕ) (s : Section) → own ≡ bytes → Meets c (ask c (ChoosingAtomic own align)) s → IsNextSized bytes (next c (ChoosingAtomic own align) s)
+  atomic_sized own align s is (inl w) = subst (λ x. IsNextSized bytes (next c (ChoosingAtomic own align) x)) (sym w.2) (w.1 ∙ is)
+  atomic_sized own align s is (inr w) = subst (λ x. IsNextSized bytes (next c (ChoosingAtomic own align) x)) (sym w) tt
+
+  pub sized_next : (p : Place) (s : Section) → IsSizedAt bytes p → Meets c (ask c p) s → IsNextSized bytes (next c p s)
+  sized_next (Refusing r) s is w = tt
+  sized_next (TakingAlloc own align) s is w = is
+  sized_next (Choosing own align) s is w = chosen_sized own align s is w
+  sized_next (Finding search aim) s is w = found_sized aim (carved s) (carved_base s) _ is is
+  sized_next (FindingAgain search aim) s is w = found_sized aim (carved s) (carved_base s) _ is (no_space_sized aim is)
+  sized_next (PurgeTaking extra after) s is w = is
+  sized_next (PurgeFragmenting cpu gone extra after) s is w = either_sized bytes (nat_lt (suc cpu) (cpus c)) _ _ is (fragments_sized (gone ++ blocks_gone s) extra after is)
+  sized_next (PurgeUnlinking gone extra after) s is w = is
+  sized_next (PurgeWaiting gone extra after) s is w = is
+  sized_next (PurgeCollecting extra after) s is w = collected_sized (spans_taken s) _ after is
+  sized_next (PurgeFlushing h waited after) s is w = flushed_sized waited after is
+  sized_next (PurgeReturning waited after) s is w = is
+  sized_next (PurgeGiving after) s is w = went_on_sized after is
+  sized_next (SettlingGroups base chunk own align) s is w = is
+  sized_next (AddingChunk base chunk own align) s is w = added_sized base chunk own align s is w
+  sized_next (Populating at missing) s is w = either_sized bytes (had_frames s) _ _ is tt
+  sized_next (SettlingObject at) s is w = is
+  sized_next (Unplacing at) s is w = tt
+  sized_next (GivingAlloc r made) s is w = is
+  sized_next (ChoosingAtomic own align) s is w = atomic_sized own align s is w
+  sized_next (Zeroing at) s is w = is
+  sized_next (SettlingAtomic at) s is w = is
+  sized_next _ s is w = absurd is
+
+  -- where such a call begins
+  alloc_by : (place : ℕ → ℕ → Place) (asked to : ℕ) → IsSizedAt bytes (place bytes to) → bytes ≡ 4 * words_for asked → (b d : Bool) → IsSizedAt bytes (if b then Refusing reply.BadSize else (if d then Refusing reply.BadAlign else place (4 * words_for asked) to))
+  alloc_by place asked to is e true d = tt
+  alloc_by place asked to is e false true = tt
+  alloc_by place asked to is e false false = subst (λ n. IsSizedAt bytes (place n to)) e is
+
+-- a call for an object, and its bytes
+abbrev pub call_bytes : Call → Option ℕ
+call_bytes (AllocPercpu bytes align) = Some (4 * words_for bytes)
+call_bytes (AllocAtomic bytes align) = Some (4 * words_for bytes)
+call_bytes _ = None
+
+pub begins_sized : (c : Setup) (opening own : List Answered) (call : Call) (bytes : ℕ) → call_bytes call ≡ Some bytes → IsSizedAt bytes (begin_call c opening own call)
+begins_sized c opening own (AllocPercpu asked align) bytes e =
+    let same : bytes ≡ 4 * words_for asked = sym (same_Some (4 * words_for asked) bytes e) in alloc_by c bytes TakingAlloc asked (max align 4) refl same (is_bad_object_size asked) (is_bad_object_align align)
+begins_sized c opening own (AllocAtomic asked align) bytes e =
+    let same : bytes ≡ 4 * words_for asked = sym (same_Some (4 * words_for asked) bytes e) in alloc_by c bytes ChoosingAtomic asked (max align 4) refl same (is_bad_object_size asked) (is_bad_object_align align)
+begins_sized c opening own _ bytes e = cc

@@ -1,0 +1,150 @@
+-- A sum is what was added to its object and index: each legal section keeps it.
+use Rattle.std.proofs.Common.{◌≡◌, ◌≢◌, ℕ, ◌+◌, ◌*◌, ◌<◌, ◌≤◌, inl, inr, Bool, true, false, ◌&&◌, ◌==◌, if◌then◌else◌, take, slice_get, Some, refl, ap, sym, ◌∙◌, subst, arith, ℤ, pos, ◌+ℤ◌}
+use Rattle.std.proofs.lemmas.Bool.Decides.{nat_tests}
+use Rattle.std.proofs.Math.IntN.{+ℤ_idr}
+use Rattle.std.proofs.lemmas.Option.{get_or_from_slice_get}
+use Rattle.vm_model.specs.Setup.{Setup, cpus}
+use Rattle.vm_model.specs.PlainMap.{PlainMap, Life, InHand, Lives}
+use Rattle.vm_model.specs.Frames.{word_at, add_word}
+use Rattle.vm_model.specs.Chunks.{ObjectAt, copy_at, object_pages}
+use Rattle.vm_model.specs.Events.{Section, Event, Populate, Zero, AddWord, SumWords}
+use Rattle.vm_model.specs.Legal.{OnPages, IsMapped, IsLegalAs, sum_of}
+use Rattle.vm_model.specs.Effects.{effect_as}
+use Rattle.vm_model.specs.Places.{ask}
+use Rattle.vm_model.specs.History.{World, Local}
+use Rattle.vm_model.specs.LegalHistory.{Meets}
+use Rattle.vm_model.specs.Laws.{IsEvent, amount_of, added}
+use Rattle.map_laws.proofs.Lists.{same_or}
+use Rattle.map_laws.proofs.Deeds.{populates_at, zeroes_at}
+use Rattle.map_laws.proofs.ObjectFacts.{IsObject, IsObjectAt}
+use Rattle.map_laws.proofs.ObjectWorlds.{SomeonePlaces}
+use Rattle.map_laws.proofs.ObjectWords.{IsWordOf}
+use Rattle.map_laws.proofs.WordSums.{sums_agree, sums_grow, is_add}
+use Rattle.map_laws.proofs.ObjectsBefore.{one_object}
+use Rattle.map_laws.proofs.ZeroedPlaces.{IsZeroedAt}
+use Rattle.map_laws.proofs.TouchedWords.{AreWordsOwn, IsUsable, Touches, AreApartFrames, adding, add_word_of, word_same, word_grows}
+
+-- what is kept of serials, of what was added, and of objects that are about to be settled
+pub record IsSummed (c : Setup) (w : World) : Type 0 where
+  pub serials : (at : ObjectAt) (serial : ℕ) → IsObject w.map.chunks at (Lives serial) → serial < w.map.next_object
+  pub unique : (at own : ObjectAt) (serial : ℕ) → IsObject w.map.chunks at (Lives serial) → IsObject w.map.chunks own (Lives serial) → (at.chunk ≡ own.chunk) × (at.off ≡ own.off)
+  pub later : (serial index : ℕ) → w.map.next_object ≤ serial → added serial index w.events ≡ pos 0
+  pub sums : (at : ObjectAt) (serial index : ℕ) → IsObject w.map.chunks at (Lives serial) → 4 * index < at.bytes → sum_of c w.map at index ≡ added serial index w.events
+  pub zeroed : (k : ℕ) (l : Local) (at : ObjectAt) → slice_get w.locals k ≡ Some l → IsZeroedAt l.place at → (cpu index byte : ℕ) → IsWordOf c at cpu index byte → word_at w.map.frames w.map.cells byte ≡ pos 0
+  pub told : (i caller serial index : ℕ) (at : ObjectAt) (total : ℤ) → IsEvent w.events i caller (SumWords at serial index total) → total ≡ added serial index (take i w.events)
+
+-- the words of an index, by processor
+abbrev pub byte_in : ObjectAt → (index unit : ℕ) → ℕ
+byte_in at index unit = copy_at at unit + 4 * index
+
+unit_word : (c : Setup) (at : ObjectAt) (cpu index unit : ℕ) → slice_get c.units cpu ≡ Some unit → 4 * index < at.bytes → IsWordOf c at cpu index (byte_in at index unit)
+unit_word c at cpu index unit there inside = record { unit = unit; at_unit = there; inside = inside; is = refl }
+
+test_is : (a b : ℕ) (t : Bool) → (a == b) ≡ t → a ≡ b → t ≡ true
+test_is a b true e f = refl
+test_is a b false e f = let g : (a == b) ≡ true = grind (arith, nat_tests) in cc
+
+test_not : (a b : ℕ) (t : Bool) → (a == b) ≡ t → a ≢ b → t ≡ false
+test_not a b true e n = absurd (n (let f : a ≡ b = grind (arith, nat_tests) in f))
+test_not a b false e n = refl
+
+-- what an add comes to, for its own serial and index, and for others
+amount_own : (at : ObjectAt) (serial cpu index : ℕ) (amount : ℤ) → amount_of serial index (AddWord at serial cpu index amount) ≡ amount
+amount_own at serial cpu index amount = by_tests (serial == serial) (index == index) (test_is serial serial (serial == serial) refl refl) (test_is index index (index == index) refl refl)
+  where
+    by_tests : (a b : Bool) → a ≡ true → b ≡ true → (if a && b then amount else pos 0) ≡ amount
+    by_tests true true e f = refl
+    by_tests false b e f = cc
+    by_tests true false e f = cc
+
+pub amount_serial : (at : ObjectAt) (serial own cpu index at_index : ℕ) (amount : ℤ) → own ≢ serial → amount_of serial index (AddWord at own cpu at_index amount) ≡ pos 0
+amount_serial at serial own cpu index at_index amount n = by_tests (own == serial) (at_index == index) (test_not own serial (own == serial) refl n)
+  where
+    by_tests : (a b : Bool) → a ≡ false → (if a && b then amount else pos 0) ≡ pos 0
+    by_tests true b e = cc
+    by_tests false true e = refl
+    by_tests false false e = refl
+
+amount_index : (at : ObjectAt) (serial own cpu index at_index : ℕ) (amount : ℤ) → at_index ≢ index → amount_of serial index (AddWord at own cpu at_index amount) ≡ pos 0
+amount_index at serial own cpu index at_index amount n = by_tests (own == serial) (at_index == index) (test_not at_index index (at_index == index) refl n)
+  where
+    by_tests : (a b : Bool) → b ≡ false → (if a && b then amount else pos 0) ≡ pos 0
+    by_tests a true e = cc
+    by_tests true false e = refl
+    by_tests false false e = refl
+
+-- A legal section of one caller, over the setup itself and under its number.
+
+module _ (c : Setup) (w : World) (own : AreWordsOwn c w) (kept : IsSummed c w) (k : ℕ) (l : Local) (here : slice_get w.locals k ≡ Some l) (hand : IsObjectAt w.map k l.place) (usable : IsUsable c w.map l.place) where
+  one_life : (at o : ObjectAt) (life life' : Life) → IsObject w.map.chunks at life → IsObject w.map.chunks o life' → at.chunk ≡ o.chunk → at.off ≡ o.off → life ≡ life'
+  one_life at o life life' is is' e f = (one_object c (SomeonePlaces w) w.map.chunks own.fine at o life life' is is' e f).lives
+
+  -- words that a section doesn't touch
+  pub live_untouched : (at : ObjectAt) (serial cpu index : ℕ) (s : Section) → is_add s ≡ false → Meets c (ask c l.place) s → IsObject w.map.chunks at (Lives serial) → Touches s at cpu index → ⊥
+  live_untouched at serial cpu index (Populate o missing) quiet meets is t = let hold = subst (IsObjectAt w.map k) (populates_at c l.place o missing meets) hand in let e = one_life at o (Lives serial) (InHand k) is hold t.0 t.1 in cc
+  live_untouched at serial cpu index (Zero o) quiet meets is t = let hold = subst (IsObjectAt w.map k) (zeroes_at c l.place o meets) hand in let e = one_life at o (Lives serial) (InHand k) is hold t.0 t.1 in cc
+  live_untouched at serial cpu index (AddWord o own' cpu' index' amount) quiet meets is t = cc
+  live_untouched at serial cpu index _ quiet meets is t = absurd t
+
+  pub hand_untouched : (at : ObjectAt) (j cpu index : ℕ) (s : Section) → j ≢ k → Meets c (ask c l.place) s → IsObject w.map.chunks at (InHand j) → Touches s at cpu index → ⊥
+  hand_untouched at j cpu index (Populate o missing) apart meets is t =
+      let hold = subst (IsObjectAt w.map k) (populates_at c l.place o missing meets) hand in let e = one_life at o (InHand j) (InHand k) is hold t.0 t.1 in apart (let f : j ≡ k = cc in f)
+  hand_untouched at j cpu index (Zero o) apart meets is t = let hold = subst (IsObjectAt w.map k) (zeroes_at c l.place o meets) hand in let e = one_life at o (InHand j) (InHand k) is hold t.0 t.1 in apart (let f : j ≡ k = cc in f)
+  hand_untouched at j cpu index (AddWord o serial cpu' index' amount) apart meets is t = let live = adding c w own k l.place hand usable o serial cpu' index' amount meets in let e = one_life at o (InHand j) (Lives serial) is live.0 t.0 t.1 in cc
+  hand_untouched at j cpu index _ apart meets is t = absurd t
+
+  module _ (s : Section) (meets : Meets c (ask c l.place) s) (legal : IsLegalAs c w.map k s) (apart : AreApartFrames (effect_as c w.map k s).frames) where
+    abbrev after : PlainMap
+    after = effect_as c w.map k s
+
+    abbrev event : Event
+    event = record { caller = k; section = s }
+
+    -- the sum of untouched words stays
+    pub sum_same : (at : ObjectAt) (life : Life) (index : ℕ) → IsObject w.map.chunks at life → OnPages (object_pages c at) (IsMapped w.map) → OnPages (object_pages c at) (IsMapped after) → 4 * index < at.bytes → ((cpu : ℕ) → Touches s at cpu index → ⊥)
+        → sum_of c after at index ≡ sum_of c w.map at index
+    sum_same at life index is mapped mapped' inside never = sums_agree w.map.frames after.frames w.map.cells after.cells (byte_in at index) c.units
+        (λ cpu unit there. word_same c w own k l.place hand usable at life is mapped cpu index (byte_in at index unit) (unit_word c at cpu index unit there inside) s meets legal apart mapped' (never cpu))
+
+  -- An add.
+
+  module _ (o : ObjectAt) (serial cpu index : ℕ) (amount : ℤ) (meets : Meets c (ask c l.place) (AddWord o serial cpu index amount)) (legal : IsLegalAs c w.map k (AddWord o serial cpu index amount))
+      (apart : AreApartFrames (effect_as c w.map k (AddWord o serial cpu index amount)).frames) where
+    abbrev added_map : PlainMap
+    added_map = effect_as c w.map k (AddWord o serial cpu index amount)
+
+    target : IsObject w.map.chunks o (Lives serial) × (cpu < cpus c) × (4 * index < o.bytes)
+    target = adding c w own k l.place hand usable o serial cpu index amount meets
+
+    -- the sum of its own object and index grows
+    sum_grown : (at : ObjectAt) → IsObject w.map.chunks at (Lives serial) → at.chunk ≡ o.chunk → at.off ≡ o.off → OnPages (object_pages c at) (IsMapped added_map) → 4 * index < at.bytes → sum_of c added_map at index ≡ (sum_of c w.map at index +ℤ amount)
+    sum_grown at is e f mapped' inside =
+        let same = one_object c (SomeonePlaces w) w.map.chunks own.fine at o (Lives serial) (Lives serial) is target.0 e f in
+        let word = add_word_of c w own k l.place hand usable o cpu index target.1 target.2 in
+        let base = same.base in
+        let byte : byte_in at index word.1.unit ≡ word.0 = (let i = word.1.is in omega arith) in
+        sums_grow w.map.frames w.map.frames w.map.cells added_map.cells (byte_in at index) c.units cpu word.1.unit amount word.1.at_unit
+        (ap (λ b. word_at w.map.frames (add_word w.map.frames b amount w.map.cells) (byte_in at index word.1.unit)) (ap (λ u. copy_at o u + 4 * index) (get_or_from_slice_get c.units cpu word.1.unit 0 word.1.at_unit) ∙ sym word.1.is)
+        ∙ subst (λ b. word_at w.map.frames (add_word w.map.frames word.0 amount w.map.cells) b ≡ (word_at w.map.frames w.map.cells b +ℤ amount)) (sym byte) (word_grows c w own k l.place hand usable o serial cpu index word.0 amount target.0 word.1))
+        (λ i unit there n. word_same c w own k l.place hand usable at (Lives serial) is (own.live at serial is) i index (byte_in at index unit) (unit_word c at i index unit there inside) (AddWord o serial cpu index amount) meets legal apart mapped'
+        (λ t. n (let g = t.2 in g)))
+
+    pub sum_added : (at : ObjectAt) (own_serial own_index : ℕ) → IsObject w.map.chunks at (Lives own_serial) → OnPages (object_pages c at) (IsMapped added_map) → 4 * own_index < at.bytes
+        → sum_of c added_map at own_index ≡ (sum_of c w.map at own_index +ℤ amount_of own_serial own_index (AddWord o serial cpu index amount))
+    sum_added at own_serial own_index is mapped' inside = elim (same_or serial own_serial) [
+      | inr n ↦ sum_same (AddWord o serial cpu index amount) meets legal apart at (Lives own_serial) own_index is (own.live at own_serial is) mapped' inside
+          (λ i t. n (let e = one_life at o (Lives own_serial) (Lives serial) is target.0 t.0 t.1 in let f : serial ≡ own_serial = cc in f))
+          ∙ sym (+ℤ_idr (sum_of c w.map at own_index)) ∙ ap (λ v. sum_of c w.map at own_index +ℤ v) (sym (amount_serial o own_serial serial cpu own_index index amount n))
+      | inl e ↦ elim (same_or index own_index) [
+        | inr n ↦ sum_same (AddWord o serial cpu index amount) meets legal apart at (Lives own_serial) own_index is (own.live at own_serial is) mapped' inside (λ i t. n (sym t.3))
+            ∙ sym (+ℤ_idr (sum_of c w.map at own_index)) ∙ ap (λ v. sum_of c w.map at own_index +ℤ v) (sym (amount_index o own_serial serial cpu own_index index amount n))
+        | inl f ↦ (
+            let is' : IsObject w.map.chunks at (Lives serial) = subst (λ n. IsObject w.map.chunks at (Lives n)) (sym e) is in
+            let place = kept.unique at o serial is' target.0 in
+            let inside' : 4 * index < at.bytes = omega arith in
+            subst (λ i. sum_of c added_map at i ≡ (sum_of c w.map at i +ℤ amount_of own_serial i (AddWord o serial cpu index amount))) f
+            (sum_grown at is' place.0 place.1 mapped' inside'
+            ∙ ap (λ v. sum_of c w.map at index +ℤ v) (sym (subst (λ n. amount_of n index (AddWord o serial cpu index amount) ≡ amount) e (amount_own o serial cpu index amount))))
+            )
+      ]
+    ]
