@@ -10,7 +10,7 @@ use Rattle.vm_model.specs.Parts.{Region, regions_of, wants, moves}
 use Rattle.section_core.specs.declared.region.Stepped.{Stepped}
 use Rattle.section_core.specs.declared.region.Stepped.TheVariants.{Moved, Stays, Ended}
 use Rattle.vm_model.specs.Rules.{IsTrace}
-use Rattle.section_core.specs.Locals.{AreVmalloc}
+use Rattle.section_core.specs.Locals.{AreBuilt}
 use Rattle.section_core.specs.Lawful.{IsRunning}
 
 -- the regions and the callers by their numbers, and the caller of each event
@@ -60,7 +60,7 @@ callers_of (opening ∷ calls) = calls
 pub record CanStart (c : Setup) (sections : List (List Call)) : Type 0 where
   pub some : 1 ≤ length sections
   pub trace : IsTrace c (opening_of sections) (callers_of sections)
-  pub built : (k : ℕ) (own : List Call) → slice_get sections k ≡ Some own → AreVmalloc own
+  pub built : (k : ℕ) (own : List Call) → slice_get sections k ≡ Some own → AreBuilt own
 
 -- where the opening has ended, and the callers stand before their first calls
 abbrev pub start_of : Setup → List (List Call) → World

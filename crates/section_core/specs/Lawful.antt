@@ -6,13 +6,13 @@ use Rattle.vm_model.specs.History.{World, Local}
 use Rattle.vm_model.specs.LegalHistory.{IsReached}
 use Rattle.vm_model.specs.Rules.{IsTrace}
 use Rattle.vm_model.specs.Parts.{Region, state_of}
-use Rattle.section_core.specs.Locals.{AreVmalloc}
+use Rattle.section_core.specs.Locals.{AreBuilt}
 
 -- a world of a trace whose calls are of the built words
 pub record IsRunning (c : Setup) (opening : List Call) (calls : List (List Call)) (w : World) : Type 0 where
   pub trace : IsTrace c opening calls
-  pub opening_built : AreVmalloc opening
-  pub callers_built : (k : ℕ) (own : List Call) → slice_get calls k ≡ Some own → AreVmalloc own
+  pub opening_built : AreBuilt opening
+  pub callers_built : (k : ℕ) (own : List Call) → slice_get calls k ≡ Some own → AreBuilt own
   pub reached : IsReached c opening calls w
 
 -- regions and locals that are the parts of such a world

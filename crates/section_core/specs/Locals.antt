@@ -6,7 +6,7 @@ use Rattle.vm_model.specs.Config.{setup_of}
 use Rattle.vm_model.specs.Setup.{Setup, cpus}
 use Rattle.vm_model.specs.Calls as model
 use Rattle.vm_model.specs.History as history
-use Rattle.vm_model.specs.Rules.{IsVmallocCall}
+use Rattle.vm_model.specs.declared.calls.Call.TheVariants.{Vmalloc, Vfree}
 use Rattle.history_book.specs.declared.noted.Noted.{Noted}
 use Rattle.section_core.specs.declared.answers.Made.{Made}
 use Rattle.section_core.specs.declared.answers.Answered.{Answered}
@@ -35,12 +35,21 @@ local_of a = record {
   calls = a.calls;
   answers = answers_with a.calls a.book.rows a.made.items;
   events = a.events;
-  place = place_of a.place;
+  place = place_of a.place a.waited;
 }
 
--- the calls are of the built words
-abbrev pub AreVmalloc : List Call → Type 0
-AreVmalloc calls = (i : ℕ) (call : Call) → slice_get calls i ≡ Some call → IsVmallocCall (Some call)
+-- what each of these answered calls made
+abbrev pub MadeBy : List Made → List model.Answered → Type 0
+MadeBy made answers = map made_of made ≡ map (λ (a : model.Answered). a.made) answers
+
+-- a call of the built words
+abbrev pub IsBuiltCall : Call → Type 0
+IsBuiltCall (Vmalloc bytes align) = Unit {0}
+IsBuiltCall (Vfree target) = Unit {0}
+IsBuiltCall _ = ⊥
+
+abbrev pub AreBuilt : List Call → Type 0
+AreBuilt calls = (i : ℕ) (call : Call) → slice_get calls i ≡ Some call → IsBuiltCall call
 
 -- who isn't over has a call at hand
 abbrev pub HasCall : Place → ℕ → List Call → Type 0
@@ -55,7 +64,7 @@ pub record IsPlain (c : Setup) : Type 0 where
 -- a caller's parts fit together, and there is room for the answers to come
 pub record IsOrderly (a : Inside) : Type 0 where
   pub space : a.config.space ≤ 1048576
-  pub built : AreVmalloc a.calls
+  pub built : AreBuilt a.calls
   pub few : length a.calls ≤ 100000
   pub made : length a.made.items ≡ length a.book.rows
   pub room : length a.book.rows + a.book.spare ≡ length a.calls

@@ -1,48 +1,83 @@
 -- The code's places as those of the definitions.
-use Rattle.std.specs.Prelude.{◌≤◌, [], None}
+use Rattle.std.specs.Prelude.{◌≡◌, ◌≤◌, List, [], ◌∷◌, None}
+use Rattle.vm_model.specs.declared.areas.Span.{Span}
 use Rattle.vm_model.specs.declared.areas.AreaKind.TheVariants as kind
+use Rattle.vm_model.specs.declared.calls.Reply.TheVariants as reply
 use Rattle.vm_model.specs.Space.{end_of}
 use Rattle.vm_model.specs.Events.{ForPages}
 use Rattle.vm_model.specs.Places as model
-use Rattle.vm_model.specs.Places.{ForArea, SearchAgain}
+use Rattle.vm_model.specs.Places.{ForArea, SearchAgain, ReplyWith}
 use Rattle.section_core.specs.declared.place.Search.{Search}
+use Rattle.section_core.specs.declared.place.After.{After}
+use Rattle.section_core.specs.declared.place.After.TheVariants as then
 use Rattle.section_core.specs.declared.place.Place.{Place}
-use Rattle.section_core.specs.declared.place.Place.TheVariants.{Over, Refusing, Finding, FindingAgain, MappingArea, Dropping, SettlingArea, PurgeTaking, PurgeFragmenting, PurgeCollecting, PurgeGiving}
+use Rattle.section_core.specs.declared.place.Place.TheVariants.{Over, Refusing, Finding, FindingAgain, MappingArea, Dropping, SettlingArea, Removing, UnmappingArea, Waiting, PurgeTaking, PurgeFragmenting, PurgeCollecting, PurgeFlushing, PurgeReturning, PurgeGiving}
 use Rattle.section_core.specs.declared.answers.Made.{Made}
 use Rattle.section_core.specs.declared.answers.Made.TheVariants.{Nothing, Area}
 
 -- what follows a purge
-abbrev pub again : Search → model.Then
-again s = SearchAgain (ForPages s.pages s.align) (ForArea kind.Vmalloc)
+abbrev pub then_of : After → model.Then
+then_of (then.Search s) = SearchAgain (ForPages s.pages s.align) (ForArea kind.Vmalloc)
+then_of (then.Reply r) = ReplyWith r
 
-abbrev pub place_of : Place → model.Place
-place_of Over = model.Over
-place_of (Refusing reply) = model.Refusing reply
-place_of (Finding s) = model.Finding (ForPages s.pages s.align) (ForArea kind.Vmalloc)
-place_of (FindingAgain s) = model.FindingAgain (ForPages s.pages s.align) (ForArea kind.Vmalloc)
-place_of (MappingArea s) = model.MappingArea s kind.Vmalloc
-place_of (Dropping s) = model.Dropping s
-place_of (SettlingArea s) = model.SettlingArea s kind.Vmalloc
-place_of (PurgeTaking s) = model.PurgeTaking None (again s)
-place_of (PurgeFragmenting s) = model.PurgeFragmenting 0 [] None (again s)
-place_of (PurgeCollecting s) = model.PurgeCollecting None (again s)
-place_of (PurgeGiving s) = model.PurgeGiving (again s)
+-- a place, with the spans that its caller flushes
+abbrev pub place_of : Place → List Span → model.Place
+place_of Over waited = model.Over
+place_of (Refusing r) waited = model.Refusing r
+place_of (Finding s) waited = model.Finding (ForPages s.pages s.align) (ForArea kind.Vmalloc)
+place_of (FindingAgain s) waited = model.FindingAgain (ForPages s.pages s.align) (ForArea kind.Vmalloc)
+place_of (MappingArea s) waited = model.MappingArea s kind.Vmalloc
+place_of (Dropping s) waited = model.Dropping s
+place_of (SettlingArea s) waited = model.SettlingArea s kind.Vmalloc
+place_of (Removing start serial) waited = model.Removing start serial
+place_of (UnmappingArea area) waited = model.UnmappingArea area
+place_of (Waiting s) waited = model.Waiting (s ∷ []) (ReplyWith reply.Done)
+place_of (PurgeTaking after) waited = model.PurgeTaking None (then_of after)
+place_of (PurgeFragmenting after) waited = model.PurgeFragmenting 0 [] None (then_of after)
+place_of (PurgeCollecting after) waited = model.PurgeCollecting None (then_of after)
+place_of (PurgeFlushing hull after) waited = model.PurgeFlushing hull waited (then_of after)
+place_of (PurgeReturning after) waited = model.PurgeReturning waited (then_of after)
+place_of (PurgeGiving after) waited = model.PurgeGiving (then_of after)
+
+-- the spans that a caller flushes or returns there
+abbrev pub waited_at : model.Place → List Span
+waited_at (model.PurgeFlushing hull waited after) = waited
+waited_at (model.PurgeReturning waited after) = waited
+waited_at _ = []
+
+-- a place at which no span is flushed or returned
+abbrev pub HasNoWaited : Place → Type 0
+HasNoWaited (PurgeFlushing hull after) = ⊥
+HasNoWaited (PurgeReturning after) = ⊥
+HasNoWaited _ = Unit {0}
 
 -- a search is for a page at least, and a span has one and lies in the largest space
 pub record IsSearch (s : Search) : Type 0 where
   pub pages : 1 ≤ s.pages
   pub align : 1 ≤ s.align
 
+pub record IsSpan (s : Span) : Type 0 where
+  pub pages : 1 ≤ s.pages
+  pub ends : end_of s ≤ 1048576
+
+abbrev pub IsSizedAfter : After → Type 0
+IsSizedAfter (then.Search s) = IsSearch s
+IsSizedAfter (then.Reply r) = Unit {0}
+
 abbrev pub IsSized : Place → Type 0
 IsSized (Finding s) = IsSearch s
 IsSized (FindingAgain s) = IsSearch s
-IsSized (MappingArea s) = (1 ≤ s.pages) × (end_of s ≤ 1048576)
-IsSized (Dropping s) = (1 ≤ s.pages) × (end_of s ≤ 1048576)
-IsSized (SettlingArea s) = (1 ≤ s.pages) × (end_of s ≤ 1048576)
-IsSized (PurgeTaking s) = IsSearch s
-IsSized (PurgeFragmenting s) = IsSearch s
-IsSized (PurgeCollecting s) = IsSearch s
-IsSized (PurgeGiving s) = IsSearch s
+IsSized (MappingArea s) = IsSpan s
+IsSized (Dropping s) = IsSpan s
+IsSized (SettlingArea s) = IsSpan s
+IsSized (UnmappingArea area) = (area.kind ≡ kind.Vmalloc) × IsSpan area.span
+IsSized (Waiting s) = IsSpan s
+IsSized (PurgeTaking after) = IsSizedAfter after
+IsSized (PurgeFragmenting after) = IsSizedAfter after
+IsSized (PurgeCollecting after) = IsSizedAfter after
+IsSized (PurgeFlushing hull after) = IsSizedAfter after
+IsSized (PurgeReturning after) = IsSizedAfter after
+IsSized (PurgeGiving after) = IsSizedAfter after
 IsSized _ = Unit {0}
 
 -- what a call made

@@ -1,14 +1,16 @@
 -- What a section over one region answers and leaves.
-use Rattle.std.specs.Prelude.{◌+◌, ◌-◌, ◌≤◌, ◌≡◌, ℕ, Bool, true, false, List, length}
+use Rattle.std.specs.Prelude.{◌+◌, ◌-◌, ◌<◌, ◌≤◌, ◌≡◌, ◌^◌, ◌++◌, ℕ, Bool, true, false, All, List, length}
 use Rattle.vm_model.specs.declared.areas.Span.{Span}
-use Rattle.vm_model.specs.Space.{span, end_of, holds, covers, runs}
+use Rattle.vm_model.specs.Space.{span, end_of, holds, covers, runs, times, sum_of_pages}
 use Rattle.vm_model.specs.Setup.{Setup}
-use Rattle.vm_model.specs.Places.{Place, MappingArea, SettlingArea, Dropping, Ask, AskSearch, AskDrop, AskReturn, AskSettle, AskWait, AskAddChunk, AskAddBlock, AskFragment}
+use Rattle.vm_model.specs.Places.{Place, MappingArea, SettlingArea, Dropping, UnmappingArea, Waiting, PurgeFlushing, PurgeReturning, Ask, AskSearch, AskDrop, AskReturn, AskSettle, AskWait, AskAddChunk, AskAddBlock, AskFragment}
 use Rattle.vm_model.specs.History.{Local}
 use Rattle.vm_model.specs.Parts.{Region, moves, after}
 use Rattle.vm_model.specs.declared.areas.Area.{Area}
 use Rattle.busy_areas.specs.Kept.{IsUnused}
-use Rattle.page_pool.specs.Pages.{Pages, IsBare}
+use Rattle.page_pool.specs.Pages.{Pages, IsBare, IsMapped}
+use Rattle.vm_model.specs.declared.areas.AreaKind.TheVariants as kind
+use Rattle.section_core.specs.Places.{IsSpan}
 use Rattle.section_core.specs.declared.region.Stepped.{Stepped}
 use Rattle.section_core.specs.declared.region.Stepped.TheVariants.{Moved, Stays, Ended}
 
@@ -61,6 +63,43 @@ pub record IsMappable (s : Span) (p : Pages) : Type 0 where
 abbrev pub IsMappedWell : Place → Pages → Type 0
 IsMappedWell (MappingArea s k) p = IsMappable s p
 IsMappedWell _ p = Unit {0}
+
+-- the pages of a freed area but for its guard are mapped
+pub record IsUnmappable (s : Span) (p : Pages) : Type 0 where
+  pub inside : s.start + (s.pages - 1) ≤ length p.frames
+  pub mapped : (page : ℕ) → holds (span s.start (s.pages - 1)) page ≡ true → IsMapped p page
+
+abbrev pub IsUnmappedWell : Place → Pages → Type 0
+IsUnmappedWell (UnmappingArea a) p = IsUnmappable a.span p
+IsUnmappedWell _ p = Unit {0}
+
+-- what is flushed lies in the space
+abbrev pub IsFlushedWell : Place → Pages → Type 0
+IsFlushedWell (PurgeFlushing hull waited after) p = end_of hull ≤ length p.frames
+IsFlushedWell _ p = Unit {0}
+
+-- each live area is a vmalloc area, with a page at least, in the largest space
+abbrev pub AreSpans : List Area → Type 0
+AreSpans areas = All (λ (a : Area). (a.kind ≡ kind.Vmalloc) × IsSpan a.span) areas
+
+-- no page is twice among what is returned, none of them is free, and all lie in the space
+pub record AreReturnable (c : Setup) (spans : List Span) (blocks : List Span) : Type 0 where
+  pub pages : All (λ (s : Span). 1 ≤ s.pages) spans
+  pub within : All (λ (s : Span). end_of s ≤ c.space) spans
+  pub disjoint : (page : ℕ) → times page spans ≤ 1
+  pub taken : (page : ℕ) → covers spans page ≡ true → covers blocks page ≡ false
+
+abbrev pub AreReturnedWell : Setup → Place → List Span → Type 0
+AreReturnedWell c (PurgeReturning waited after) blocks = AreReturnable c waited blocks
+AreReturnedWell c _ blocks = Unit {0}
+
+-- so many pages may wait
+abbrev pub HaveFewPages : List Span → Type 0
+HaveFewPages spans = sum_of_pages spans < 2 ^ 32
+
+abbrev pub IsWaitingWell : Place → List Span → Type 0
+IsWaitingWell (Waiting spans after) waiting = HaveFewPages (waiting ++ spans)
+IsWaitingWell _ waiting = Unit {0}
 
 -- no live area has a page of what is settled
 abbrev pub IsSettledWell : Place → List Area → Type 0

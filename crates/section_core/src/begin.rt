@@ -1,12 +1,14 @@
 //! How calls begin: the refusals at the desk, and what a call looks for first.
-ghost use Rattle.std.specs.Prelude.{◌≡◌, ◌≤◌, ◌^◌, List, length, slice_get};
+ghost use Rattle.std.specs.Prelude.{◌≡◌, ◌≤◌, ◌^◌, List, [], length, map, slice_get};
 ghost use Rattle.vm_model.specs.Config.{setup_of};
-ghost use Rattle.vm_model.specs.Calls.{Answered, align_pages, is_power_to, begin_vmalloc, begin};
-ghost use Rattle.section_core.specs.Places.{place_of, IsSized};
-ghost use Rattle.section_core.specs.Locals.{AreVmalloc, HasCall};
+ghost use Rattle.vm_model.specs.Calls as model;
+ghost use Rattle.vm_model.specs.Calls.{align_pages, is_power_to, begin_vmalloc, begin_free_area, begin, target_of};
+ghost use Rattle.section_core.specs.Places.{place_of, made_of, IsSized, HasNoWaited};
+ghost use Rattle.section_core.specs.Locals.{AreBuilt, HasCall, MadeBy, answer_of};
 
+use crate::answers::{Answered, Made};
 use crate::place::{Place, Search};
-use vm_model::{Call, Config, Reply};
+use vm_model::{Call, Config, Reply, Target};
 
 /// The bytes of a page.
 const PAGE: u64 = 4096;
@@ -33,8 +35,9 @@ fn align_in_pages(align: u64) -> u32
 /// Where a `vmalloc` begins: at its search, unless its size or its alignment is refused.
 fn vmalloc_place(config: &Config, bytes: u64, align: u64) -> Place
     requires { config.now.space ≤ 1048576 }
-    ensures place { place_of result ≡ begin_vmalloc (setup_of config.now) bytes align }
+    ensures place { place_of result [] ≡ begin_vmalloc (setup_of config.now) bytes align }
     ensures sized { IsSized result }
+    ensures empty_handed { HasNoWaited result }
 {
     let pages = bytes.div_ceil(PAGE);
     if bytes == 0 || (config.space as u64) < pages {
@@ -49,12 +52,44 @@ fn vmalloc_place(config: &Config, bytes: u64, align: u64) -> Place
     })
 }
 
-/// The place before the first event of the call with this index, or the end after the last call.
-pub(crate) fn place_before(config: &Config, calls: &[Call], index: usize) -> Place
-    requires space { config.now.space ≤ 1048576 }
-    requires built { AreVmalloc calls.now }
-    ensures place { (opening own : List Answered) → place_of result ≡ begin (setup_of config.now) opening own (slice_get calls.now index) }
+/// What the target's call made.
+fn made_by(opening: &[Answered], own: &[Made], target: Target) -> Made
+    ensures { (answers : List model.Answered) → MadeBy own.now answers → made_of result ≡ target_of (map answer_of opening.now) answers target }
+{
+    let index = (target.call as usize).saturating_sub(1);
+    let made = if target.opening {
+        opening.get(index).map(|answered| answered.made)
+    } else {
+        own.get(index).copied()
+    };
+    made.unwrap_or(Made::Nothing)
+}
+
+/// Where a `vfree` begins: at the area that its target's call made, if that made one.
+fn vfree_place(opening: &[Answered], own: &[Made], target: Target) -> Place
+    ensures place { (answers : List model.Answered) → MadeBy own.now answers → place_of result [] ≡ begin_free_area (target_of (map answer_of opening.now) answers target) }
     ensures sized { IsSized result }
+    ensures empty_handed { HasNoWaited result }
+{
+    match made_by(opening, own, target) {
+        Made::Area { start, serial } => Place::Removing { start, serial },
+        Made::Nothing => Place::Refusing(Reply::Unbound),
+    }
+}
+
+/// The place before the first event of the call with this index, or the end after the last call.
+pub(crate) fn place_before(
+    config: &Config,
+    calls: &[Call],
+    index: usize,
+    opening: &[Answered],
+    own: &[Made],
+) -> Place
+    requires space { config.now.space ≤ 1048576 }
+    requires built { AreBuilt calls.now }
+    ensures place { (answers : List model.Answered) → MadeBy own.now answers → place_of result [] ≡ begin (setup_of config.now) (map answer_of opening.now) answers (slice_get calls.now index) }
+    ensures sized { IsSized result }
+    ensures empty_handed { HasNoWaited result }
     ensures at_hand { HasCall result index calls.now }
 {
     let Some(call) = calls.get(index) else {
@@ -62,6 +97,7 @@ pub(crate) fn place_before(config: &Config, calls: &[Call], index: usize) -> Pla
     };
     match call {
         Call::Vmalloc { bytes, align } => vmalloc_place(config, *bytes, *align),
+        Call::Vfree { target } => vfree_place(opening, own, *target),
         _ => unreachable!(),
     }
 }

@@ -6,12 +6,12 @@ ghost use Rattle.vm_model.specs.Events.{ForPages};
 ghost use Rattle.vm_model.specs.Places as model;
 ghost use Rattle.vm_model.specs.Places.{ForArea, ask};
 ghost use Rattle.vm_model.specs.Parts.{FreeRuns, wants};
-ghost use Rattle.section_core.specs.Places.{place_of, IsSearch};
-ghost use Rattle.section_core.specs.Sections.{IsMoved, TakesMemory, AreRunsOf, IsDroppable, IsDroppedWell};
+ghost use Rattle.section_core.specs.Places.{place_of, then_of, waited_at, IsSearch, IsSizedAfter};
+ghost use Rattle.section_core.specs.Sections.{IsMoved, TakesMemory, AreRunsOf, AreReturnable, IsDroppable, IsDroppedWell, AreReturnedWell};
 
 use crate::answers::Made;
 use crate::local::Local;
-use crate::place::{Place, Search};
+use crate::place::{After, Place, Search};
 use augmented_tree::FreeSide;
 use std::alloc::AllocError;
 use vm_model::{Reply, Span};
@@ -29,7 +29,7 @@ fn find(local: &mut Local, free: &mut FreeSide, search: Search) -> Result<(), Al
 {
     match free.carve(search.pages, search.align)? {
         Some(span) => local.go(Place::MappingArea(span)),
-        None => local.go(Place::PurgeTaking(search)),
+        None => local.go(Place::PurgeTaking(After::Search(search))),
     }
     Ok(())
 }
@@ -69,11 +69,29 @@ fn drop_span(local: &mut Local, free: &mut FreeSide, span: Span) -> Result<(), A
     Ok(())
 }
 
+/// Gives back the spans that a purge has flushed.
+fn return_spans(local: &mut Local, free: &mut FreeSide, after: After) -> Result<(), AllocError>
+    requires place { local.old.place ≡ model.PurgeReturning (waited_at local.old.place) (then_of after) }
+    requires sized { IsSizedAfter after }
+    requires runs { AreRunsOf local.old.setup free.old.blocks }
+    requires returnable { AreReturnable local.old.setup (waited_at local.old.place) free.old.blocks }
+    requires space { local.old.setup.space ≤ 1048576 }
+    requires at_hand { length local.old.answers < length local.old.calls }
+    requires events { local.old.events + 1 < 2 ^ 32 }
+    ensures ok { OnOk result (IsMoved local.old (FreeRuns free.old.blocks) local.new (FreeRuns free.new.blocks)) }
+    ensures err { OnErr result ((local.new ≡ local.old) × (free.new ≡ free.old)) }
+{
+    free.release_all(local.waited())?;
+    local.go(Place::PurgeGiving(after));
+    Ok(())
+}
+
 /// The section of a caller that wants the free blocks.
 pub(crate) fn at_free(local: &mut Local, free: &mut FreeSide) -> Result<(), AllocError>
     requires wants { wants local.old ≡ Some 3 }
     requires runs { AreRunsOf local.old.setup free.old.blocks }
     requires dropped { IsDroppedWell local.old.setup local.old.place free.old.blocks }
+    requires returned { AreReturnedWell local.old.setup local.old.place free.old.blocks }
     requires events { local.old.events + 1 < 2 ^ 32 }
     ensures ok { OnOk result (IsMoved local.old (FreeRuns free.old.blocks) local.new (FreeRuns free.new.blocks)) }
     ensures memory { OnErr result (TakesMemory (ask local.old.setup local.old.place)) }
@@ -83,6 +101,7 @@ pub(crate) fn at_free(local: &mut Local, free: &mut FreeSide) -> Result<(), Allo
         Place::Finding(search) => find(local, free, search),
         Place::FindingAgain(search) => find_again(local, free, search),
         Place::Dropping(span) => drop_span(local, free, span),
+        Place::PurgeReturning(after) => return_spans(local, free, after),
         _ => unreachable!(),
     }
 }

@@ -2,6 +2,8 @@
 ghost use Rattle.std.specs.Prelude.{◌∷◌, ◌≡◌, ◌≢◌, ◌<◌, ◌≤◌, ℕ, List, All, Some, length, take, slice_get, IfOk, IfSome, OnOk, OnErr};
 ghost use Rattle.vm_model.specs.declared.calls.Call.{Call};
 ghost use Rattle.vm_model.specs.Setup.{Setup};
+ghost use Rattle.vm_model.specs.Space.{sort_by};
+ghost use Rattle.vm_model.specs.declared.areas.Span.{Span};
 ghost use Rattle.vm_model.specs.Config.{setup_of};
 ghost use Rattle.vm_model.specs.History.{World, opening_world, step, pick_all, moves_in, first_mover, finish, most_events};
 ghost use Rattle.vm_model.specs.declared.config.Config.{Config};
@@ -19,6 +21,7 @@ use crate::region::{Region, Stepped, first_regions};
 use crate::sections::{moves, section};
 use augmented_tree::FreeSide;
 use history_book::number;
+use lazy_purge::LazySide;
 use std::alloc::{AllocError, Global};
 use std::marker::Model;
 use std::sync::Arc;
@@ -207,7 +210,7 @@ impl Kernel {
             stale: pages.stale(),
             free: SpanList::of(free_blocks(alloc, free)?),
             areas: self.regions[4].busy().areas(alloc)?,
-            waiting: SpanList::of(Vec::new(alloc)),
+            waiting: SpanList::of(waiting_spans(alloc, self.regions[5].lazy())?),
             blocks: BlockList::of(Vec::new(alloc)),
             parts: PartList::of(Vec::new(alloc)),
             chunks: ChunkList::of(Vec::new(alloc)),
@@ -236,5 +239,14 @@ fn free_blocks(alloc: Global, free: &FreeSide) -> Result<Vec<Span>, AllocError>
     for index in 0..free.len() {
         spans.push(free.block_at(index))?;
     }
+    Ok(spans)
+}
+
+/// The spans that wait by rising start.
+fn waiting_spans(alloc: Global, lazy: &LazySide) -> Result<Vec<Span>, AllocError>
+    ensures { IfOk result (λ spans. spans.items ≡ sort_by (λ (s : Span). s.start) lazy.now) }
+{
+    let mut spans: Vec<Span> = lazy.spans().iter().copied().collect(alloc)?;
+    spans.sort_by_key(|span| span.start)?;
     Ok(spans)
 }

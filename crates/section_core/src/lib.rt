@@ -6,6 +6,7 @@ mod begin;
 mod busy_sections;
 mod free_sections;
 pub mod kernel;
+mod lazy_sections;
 pub mod local;
 mod page_sections;
 mod place;

@@ -1,24 +1,28 @@
 //! A caller: its calls, how they were answered, and where it stands.
-ghost use Rattle.std.specs.Prelude.{◌≡◌, ◌≤◌, ◌<◌, ◌+◌, ◌^◌, ℕ, List, All, Some, slice_get, length, map, IfOk};
+ghost use Rattle.std.specs.Prelude.{◌≡◌, ◌≤◌, ◌<◌, ◌+◌, ◌^◌, ℕ, List, [], All, Some, slice_get, length, map, IfOk};
 ghost use Rattle.std.specs.Arc.{arc_value};
 ghost use Rattle.vm_model.specs.Config.{setup_of};
-ghost use Rattle.vm_model.specs.Next.{Go, Answer};
+ghost use Rattle.vm_model.specs.Next.{Go, Answer, go_on, after_collecting, after_flush};
 ghost use Rattle.vm_model.specs.History.{started, moved_to, callers_from};
 ghost use Rattle.vm_model.specs.declared.calls.Call.{Call};
 ghost use Rattle.vm_model.specs.Parts.{wants};
 ghost use Rattle.history_book.specs.declared.noted.Noted.{Noted};
 ghost use Rattle.history_book.specs.Entries.{note_of};
-ghost use Rattle.section_core.specs.Places.{place_of, made_of, IsSized};
-ghost use Rattle.section_core.specs.Locals.{answer_of, answers_with, AreVmalloc, HasCall, IsPlain};
+ghost use Rattle.vm_model.specs.Space.{hull};
+ghost use Rattle.vm_model.specs.Places as model;
+ghost use Rattle.vm_model.specs.Places.{Then};
+ghost use Rattle.section_core.specs.Places.{place_of, then_of, made_of, waited_at, IsSized, IsSizedAfter, HasNoWaited};
+ghost use Rattle.section_core.specs.Locals.{answer_of, answers_with, AreBuilt, HasCall, IsPlain};
 
 use crate::answers::{AnswerList, Answered, Made};
 use crate::begin::place_before;
-use crate::place::Place;
+use crate::place::{After, Place};
 use history_book::Book;
+use lazy_purge::{Batch, LazySide};
 use std::alloc::{AllocError, Global};
 use std::marker::Model;
 use std::sync::Arc;
-use vm_model::{Call, CallerCalls, Config, Reply};
+use vm_model::{Call, CallerCalls, Config, Reply, Span};
 
 /// A caller between two of its sections: all that its next one needs beside its region.
 #[derive(Drop)]
@@ -31,6 +35,7 @@ pub struct Local {
     made: Vec<Made>,
     events: u32,
     place: Place,
+    waited: Batch,
 }
 
 impl Model for Local {
@@ -55,12 +60,12 @@ impl Local {
         calls: CallerCalls,
     ) -> Result<Local, AllocError>
         requires space { config.now.space ≤ 1048576 }
-        requires built { AreVmalloc calls }
+        requires built { AreBuilt calls }
         requires few { length calls ≤ 100000 }
         ensures { IfOk result (λ local. local ≡ started (setup_of config.now) (map answer_of (arc_value opening)) caller calls) }
     {
         let count = calls.as_slice().len();
-        let place = place_before(config, calls.as_slice(), 0);
+        let place = place_before(config, calls.as_slice(), 0, opening.as_slice(), &[]);
         Ok(Local {
             config: *config,
             caller,
@@ -70,12 +75,13 @@ impl Local {
             made: Vec::with_capacity(alloc, count)?,
             events: 0,
             place,
+            waited: LazySide::new(alloc).take(),
         })
     }
 
     /// Where it stands.
     pub(crate) fn place(&self) -> Place
-        ensures place { self.now.place ≡ place_of result }
+        ensures place { self.now.place ≡ place_of result (waited_at self.now.place) }
         ensures sized { IsSized result }
         ensures at_hand { HasCall result (length self.now.answers) self.now.calls }
         ensures setup { IsPlain self.now.setup }
@@ -83,15 +89,75 @@ impl Local {
         self.place
     }
 
+    /// The lazy limit in pages: more waiting pages begin a purge.
+    pub(crate) fn lazy_limit(&self) -> u32
+        ensures { result ≡ self.now.setup.lazy }
+    {
+        self.config.lazy
+    }
+
+    /// The spans that its purge has flushed and returns.
+    pub(crate) fn waited(&self) -> &[Span]
+        requires { (after : Then) × (self.now.place ≡ model.PurgeReturning (waited_at self.now.place) after) }
+        ensures { result.now ≡ waited_at self.now.place }
+    {
+        self.waited.spans()
+    }
+
     /// One event more, after which it stands there.
     pub(crate) fn go(&mut self, place: Place)
+        requires empty_handed { HasNoWaited place }
         requires sized { IsSized place }
         requires at_hand { HasCall place (length self.old.answers) self.old.calls }
         requires events { self.old.events + 1 < 2 ^ 32 }
-        ensures { self.new ≡ moved_to self.old (Go (place_of place)) }
+        ensures { self.new ≡ moved_to self.old (Go (place_of place [])) }
     {
         self.events += 1;
         self.place = place;
+    }
+
+    /// One event more, after which a purge is over: the search again, or the reply.
+    pub(crate) fn go_on(&mut self, after: After)
+        requires sized { IsSizedAfter after }
+        requires at_hand { length self.old.answers < length self.old.calls }
+        requires events { self.old.events + 1 < 2 ^ 32 }
+        ensures { self.new ≡ moved_to self.old (go_on (then_of after)) }
+    {
+        match after {
+            After::Search(search) => self.go(Place::FindingAgain(search)),
+            After::Reply(reply) => self.answer(reply, Made::Nothing),
+        }
+    }
+
+    /// One event more, which collected these spans to flush. Where there are none, only the turn is left to give back.
+    pub(crate) fn collect(&mut self, batch: Batch, after: After)
+        requires sized { IsSizedAfter after }
+        requires at_hand { length self.old.answers < length self.old.calls }
+        requires events { self.old.events + 1 < 2 ^ 32 }
+        ensures { self.new ≡ moved_to self.old (after_collecting batch (hull batch) (then_of after)) }
+    {
+        let Some(hull) = batch.hull() else {
+            return self.go(Place::PurgeGiving(after));
+        };
+        self.events += 1;
+        self.place = Place::PurgeFlushing { hull, after };
+        self.waited = batch;
+    }
+
+    /// One event more, which flushed the spans that were collected.
+    pub(crate) fn flushed(&mut self, after: After)
+        requires sized { IsSizedAfter after }
+        requires place { (hull : Span) × (self.old.place ≡ model.PurgeFlushing hull (waited_at self.old.place) (then_of after)) }
+        requires at_hand { length self.old.answers < length self.old.calls }
+        requires events { self.old.events + 1 < 2 ^ 32 }
+        ensures { self.new ≡ moved_to self.old (after_flush (waited_at self.old.place) (then_of after)) }
+    {
+        self.events += 1;
+        self.place = if self.waited.spans().is_empty() {
+            Place::PurgeGiving(after)
+        } else {
+            Place::PurgeReturning(after)
+        };
     }
 
     /// One event more, which answers the call at hand.
@@ -103,7 +169,13 @@ impl Local {
         self.events += 1;
         self.book.note(reply, self.events);
         self.made.push_reserved(made);
-        self.place = place_before(&self.config, self.calls.as_slice(), self.made.len());
+        self.place = place_before(
+            &self.config,
+            self.calls.as_slice(),
+            self.made.len(),
+            self.opening.as_slice(),
+            &self.made,
+        );
     }
 
     /// The number of the region that its next section wants, or none where all its calls are answered.
@@ -114,10 +186,15 @@ impl Local {
             Place::Over => None,
             Place::Refusing(_) => Some(0),
             Place::PurgeTaking(_) | Place::PurgeGiving(_) => Some(1),
-            Place::Finding(_) | Place::FindingAgain(_) | Place::Dropping(_) => Some(3),
-            Place::SettlingArea(_) => Some(4),
-            Place::PurgeCollecting(_) => Some(5),
-            Place::MappingArea(_) => Some(6),
+            Place::Finding(_)
+            | Place::FindingAgain(_)
+            | Place::Dropping(_)
+            | Place::PurgeReturning(_) => Some(3),
+            Place::SettlingArea(_) | Place::Removing { .. } => Some(4),
+            Place::Waiting(_) | Place::PurgeCollecting(_) => Some(5),
+            Place::MappingArea(_) | Place::UnmappingArea(_) | Place::PurgeFlushing { .. } => {
+                Some(6)
+            }
             Place::PurgeFragmenting(_) => Some(8),
         }
     }
@@ -186,7 +263,7 @@ pub(crate) fn first_callers(
     sections: Vec<CallerCalls>,
 ) -> Result<Vec<Local>, AllocError>
     requires space { config.now.space ≤ 1048576 }
-    requires built { (k : ℕ) (own : List Call) → slice_get sections.items k ≡ Some own → AreVmalloc own }
+    requires built { (k : ℕ) (own : List Call) → slice_get sections.items k ≡ Some own → AreBuilt own }
     requires few { (k : ℕ) (own : List Call) → slice_get sections.items k ≡ Some own → length own ≤ 100000 }
     requires callers { length sections.items ≤ 16 }
     ensures { IfOk result (λ locals. locals.items ≡ callers_from (setup_of config.now) (map answer_of (arc_value opening.now)) 1 sections.items) }

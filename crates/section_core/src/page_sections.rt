@@ -2,15 +2,28 @@
 ghost use Rattle.std.specs.Prelude.{◌≡◌, ◌<◌, ◌+◌, ◌*◌, ◌≤◌, ◌^◌, ℕ, length, Some};
 ghost use Rattle.vm_model.specs.declared.areas.AreaKind.TheVariants as kind;
 ghost use Rattle.vm_model.specs.Space.{end_of};
+ghost use Rattle.vm_model.specs.Areas.{mapped_part};
+ghost use Rattle.section_core.specs.Places.{then_of, waited_at, IsSpan, IsSizedAfter};
 ghost use Rattle.vm_model.specs.Places as model;
 ghost use Rattle.vm_model.specs.Parts as parts;
 ghost use Rattle.vm_model.specs.Parts.{wants};
-ghost use Rattle.section_core.specs.Sections.{IsMoved, IsMappable, IsMappedWell};
+ghost use Rattle.section_core.specs.Sections.{IsMoved, IsMappable, IsUnmappable, IsMappedWell, IsUnmappedWell, IsFlushedWell};
 
 use crate::local::Local;
-use crate::place::Place;
+use crate::place::{After, Place};
 use page_pool::PageSide;
-use vm_model::Span;
+use vm_model::{Area, Span};
+
+/// The pages of an area before its guard.
+fn but_guard(span: Span) -> Span
+    requires { 1 ≤ span.pages }
+    ensures { result ≡ mapped_part kind.Vmalloc span }
+{
+    Span {
+        start: span.start,
+        pages: span.pages - 1,
+    }
+}
 
 /// Maps the pages of a carved span but for its guard, or goes on to drop it where there are too few frames.
 fn map_area(local: &mut Local, pages: &mut PageSide, span: Span)
@@ -23,26 +36,53 @@ fn map_area(local: &mut Local, pages: &mut PageSide, span: Span)
     requires events { local.old.events + 1 < 2 ^ 32 }
     ensures { IsMoved local.old (parts.Pages pages.old.frames pages.old.stale pages.old.cells) local.new (parts.Pages pages.new.frames pages.new.stale pages.new.cells) }
 {
-    let mapped = Span {
-        start: span.start,
-        pages: span.pages - 1,
-    };
-    match pages.map(mapped) {
+    match pages.map(but_guard(span)) {
         Ok(()) => local.go(Place::SettlingArea(span)),
         Err(_) => local.go(Place::Dropping(span)),
     }
+}
+
+/// Unmaps the pages of a freed area but for its guard.
+fn unmap_area(local: &mut Local, pages: &mut PageSide, area: Area)
+    requires place { local.old.place ≡ model.UnmappingArea area }
+    requires vmalloc { area.kind ≡ kind.Vmalloc }
+    requires span { IsSpan area.span }
+    requires mapped { IsUnmappable area.span pages.old }
+    requires at_hand { length local.old.answers < length local.old.calls }
+    requires events { local.old.events + 1 < 2 ^ 32 }
+    ensures { IsMoved local.old (parts.Pages pages.old.frames pages.old.stale pages.old.cells) local.new (parts.Pages pages.new.frames pages.new.stale pages.new.cells) }
+{
+    pages.unmap(but_guard(area.span));
+    local.go(Place::Waiting(area.span));
+}
+
+/// Flushes from the lowest page to the highest of what was collected.
+fn flush(local: &mut Local, pages: &mut PageSide, hull: Span, after: After)
+    requires place { local.old.place ≡ model.PurgeFlushing hull (waited_at local.old.place) (then_of after) }
+    requires sized { IsSizedAfter after }
+    requires within { end_of hull ≤ length pages.old.frames }
+    requires at_hand { length local.old.answers < length local.old.calls }
+    requires events { local.old.events + 1 < 2 ^ 32 }
+    ensures { IsMoved local.old (parts.Pages pages.old.frames pages.old.stale pages.old.cells) local.new (parts.Pages pages.new.frames pages.new.stale pages.new.cells) }
+{
+    pages.flush(hull);
+    local.flushed(after);
 }
 
 /// The section of a caller that wants the page map.
 pub(crate) fn at_pages(local: &mut Local, pages: &mut PageSide)
     requires wants { wants local.old ≡ Some 6 }
     requires mappable { IsMappedWell local.old.place pages.old }
+    requires unmapped { IsUnmappedWell local.old.place pages.old }
+    requires flushed { IsFlushedWell local.old.place pages.old }
     requires memory { length pages.old.cells ≡ 1024 * local.old.setup.frames }
     requires events { local.old.events + 1 < 2 ^ 32 }
     ensures { IsMoved local.old (parts.Pages pages.old.frames pages.old.stale pages.old.cells) local.new (parts.Pages pages.new.frames pages.new.stale pages.new.cells) }
 {
     match local.place() {
         Place::MappingArea(span) => map_area(local, pages, span),
+        Place::UnmappingArea(area) => unmap_area(local, pages, area),
+        Place::PurgeFlushing { hull, after } => flush(local, pages, hull, after),
         _ => unreachable!(),
     }
 }

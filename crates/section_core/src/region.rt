@@ -4,12 +4,13 @@ ghost use Rattle.vm_model.specs.declared.areas.Span.{Span};
 ghost use Rattle.vm_model.specs.declared.areas.Area.{Area};
 ghost use Rattle.vm_model.specs.Parts as parts;
 ghost use Rattle.vm_model.specs.PlainMap.{at_first};
-ghost use Rattle.vm_model.specs.Parts.{regions_of, FreeRuns, LiveAreas};
+ghost use Rattle.vm_model.specs.Parts.{regions_of, FreeRuns, LiveAreas, WaitingSpans};
 ghost use Rattle.vm_model.specs.Config.{setup_of};
 ghost use Rattle.section_core.specs.Regions.{region_of};
 
 use augmented_tree::FreeSide;
 use busy_areas::BusySide;
+use lazy_purge::LazySide;
 use page_pool::PageSide;
 use std::alloc::{AllocError, Global};
 use std::marker::Model;
@@ -28,8 +29,8 @@ pub(crate) enum Side {
     Free(FreeSide),
     /// The live areas.
     Busy(BusySide),
-    /// The spans that wait for a purge: none, as no built call frees.
-    Lazy,
+    /// The spans that wait for a purge, the kernel's `purge_vmap_area_list`.
+    Lazy(LazySide),
     /// The page map.
     Pages(PageSide),
     /// No chunk is made by a built call; so many objects may be placed.
@@ -85,6 +86,17 @@ impl Region {
         }
     }
 
+    /// The spans that wait, of the region that has them.
+    pub(crate) fn lazy(&self) -> &LazySide
+        requires { (spans : List Span) × (self.now ≡ WaitingSpans spans) }
+        ensures { self.now ≡ WaitingSpans result.now }
+    {
+        match &self.side {
+            Side::Lazy(lazy) => lazy,
+            _ => unreachable!(),
+        }
+    }
+
     /// The page map, of the region that has it.
     pub(crate) fn pages(&self) -> &PageSide
         requires { (frames : List (Option ℕ)) × (stale : List Bool) × (cells : List ℤ) × (self.now ≡ parts.Pages frames stale cells) }
@@ -111,7 +123,7 @@ pub(crate) fn first_regions(alloc: Global, config: &Config) -> Result<Vec<Region
         Region::of(Side::Alloc(None)),
         Region::of(Side::Free(free)),
         Region::of(Side::Busy(BusySide::new(alloc))),
-        Region::of(Side::Lazy),
+        Region::of(Side::Lazy(LazySide::new(alloc))),
         Region::of(Side::Pages(pages)),
         Region::of(Side::Percpu(0)),
         Region::of(Side::Blocks),

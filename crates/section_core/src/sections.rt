@@ -8,11 +8,12 @@ ghost use Rattle.section_core.specs.Sections.{Answers, TakesMemory};
 
 use crate::busy_sections::at_busy;
 use crate::free_sections::at_free;
+use crate::lazy_sections::at_lazy;
 use crate::local::Local;
 use crate::page_sections::at_pages;
 use crate::place::Place;
 use crate::region::{Region, Side, Stepped};
-use crate::turn_sections::{at_blocks, at_desk, at_lazy, at_purge};
+use crate::turn_sections::{at_blocks, at_desk, at_purge};
 use std::alloc::AllocError;
 
 /// Makes the caller's next section over the region that it wants: one event. It stays where the region is a turn that
@@ -29,7 +30,7 @@ pub fn section(local: &mut Local, region: &mut Region) -> Result<Stepped, AllocE
         Side::Purge(turn) => return Ok(at_purge(local, turn)),
         Side::Free(free) => at_free(local, free)?,
         Side::Busy(busy) => at_busy(local, busy)?,
-        Side::Lazy => at_lazy(local),
+        Side::Lazy(lazy) => at_lazy(local, lazy)?,
         Side::Pages(pages) => at_pages(local, pages),
         Side::Blocks => at_blocks(local),
         Side::Alloc(_) | Side::Percpu(_) => unreachable!(),

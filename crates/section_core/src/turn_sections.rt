@@ -1,6 +1,6 @@
-//! The sections over the desk and the purge turn, and those of a purge that finds nothing to do.
+//! The sections over the desk and the purge turn, and over the blocks of the one processor, of which there are none.
 ghost use Rattle.std.specs.Prelude.{◌≡◌, ◌<◌, ◌+◌, ◌^◌, ℕ, [], length, Some};
-ghost use Rattle.vm_model.specs.Parts.{Desk, PurgeTurn, WaitingSpans, CpuBlocks, wants};
+ghost use Rattle.vm_model.specs.Parts.{Desk, PurgeTurn, CpuBlocks, wants};
 ghost use Rattle.section_core.specs.Sections.{IsMoved, Answers};
 
 use crate::answers::Made;
@@ -27,32 +27,20 @@ pub(crate) fn at_purge(local: &mut Local, turn: &mut Option<u16>) -> Stepped
     ensures { Answers local.old (PurgeTurn turn.old) local.new (PurgeTurn turn.new) result }
 {
     match local.place() {
-        Place::PurgeTaking(search) => {
+        Place::PurgeTaking(after) => {
             if turn.is_some() {
                 return Stepped::Stays;
             }
             *turn = Some(local.caller());
-            local.go(Place::PurgeFragmenting(search));
+            local.go(Place::PurgeFragmenting(after));
         }
-        Place::PurgeGiving(search) => {
+        Place::PurgeGiving(after) => {
             *turn = None;
-            local.go(Place::FindingAgain(search));
+            local.go_on(after);
         }
         _ => unreachable!(),
     }
     Stepped::Moved
-}
-
-/// Collects what waits, which is nothing.
-pub(crate) fn at_lazy(local: &mut Local)
-    requires wants { wants local.old ≡ Some 5 }
-    requires events { local.old.events + 1 < 2 ^ 32 }
-    ensures { IsMoved local.old (WaitingSpans []) local.new (WaitingSpans []) }
-{
-    match local.place() {
-        Place::PurgeCollecting(search) => local.go(Place::PurgeGiving(search)),
-        _ => unreachable!(),
-    }
 }
 
 /// Takes out the fragmented blocks of the one processor, of which there are none.
@@ -62,7 +50,7 @@ pub(crate) fn at_blocks(local: &mut Local)
     ensures { IsMoved local.old (CpuBlocks 0 [] 1) local.new (CpuBlocks 0 [] 1) }
 {
     match local.place() {
-        Place::PurgeFragmenting(search) => local.go(Place::PurgeCollecting(search)),
+        Place::PurgeFragmenting(after) => local.go(Place::PurgeCollecting(after)),
         _ => unreachable!(),
     }
 }
