@@ -170,6 +170,7 @@ impl Kernel {
         ensures ok { OnOk result ((c : Setup) (opening : List Call) (calls : List (List Call)) (w : World) → IsStanding c opening calls w self.old → IsStanding c opening calls (finish most_events w) self.new) }
         ensures over { OnOk result ((c : Setup) (opening : List Call) (calls : List (List Call)) (w : World) → IsStanding c opening calls w self.old → AllOver self.new.locals) }
         ensures callers { length self.new.locals ≡ length self.old.locals }
+        ensures err { OnErr result ((n : ℕ) × (n < most_events) × ((c : Setup) (opening : List Call) (calls : List (List Call)) (w : World) → IsStanding c opening calls w self.old → IsStanding c opening calls (finish n w) self.new)) }
     {
         for _ in 0..MOST_EVENTS {
             let Some(caller) = self.first_mover() else {

@@ -1,12 +1,19 @@
-use Rattle.std.proofs.Common.{IfSome, ◌≡◌, ◌<◌, ◌-◌, ◌+◌, suc, length, Some, None, sym, ◌∙◌, ap, subst, arith}
+use Rattle.std.proofs.Common.{IfSome, ◌≡◌, ◌<◌, ◌-◌, ◌+◌, suc, length, Some, None, refl, sym, ◌∙◌, ap, subst, arith}
 use Rattle.vm_model.specs.History.{step, finish, first_mover, most_events}
 use Rattle.section_core.specs.Kernels.{IsStanding}
 use Rattle.map_laws.proofs.EndProofs.{finish_zero, finish_some, finish_stays}
 use Rattle.section_core.proofs.Callers.{over_there}
+use Rattle.section_core.proofs.Picks.{finish_next}
 use Rattle.section_core.proofs.kernel.Kernel.finish.Goals as goal
 
 pub step-requires : goal.step-requires
 step-requires c = subst (λ o. IfSome o (λ caller. caller < length c.loop.self.locals)) c.in-Some.is c.first_mover.ensures.within
+
+pub loop-init : goal.loop-init
+loop-init c = record {
+  callers = refl;
+  stands = λ setup opening calls w st. (w, st, refl, sym (finish_zero w));
+}
 
 pub loop-preserved : goal.loop-preserved
 loop-preserved c = record {
@@ -18,6 +25,7 @@ loop-preserved c = record {
         step is.0 c.in-Some.caller,
         c.in_ok-step.ensures.ok setup opening calls is.0 is.1,
         sym (finish_some (100000000 - (c.loop.counter + 1)) is.0 c.in-Some.caller first) ∙ ap (λ n. finish n is.0) (sym left) ∙ is.2,
+        ap (λ v. step v c.in-Some.caller) is.3 ∙ sym (finish_next c.loop.counter w c.in-Some.caller (ap first_mover (sym is.3) ∙ first)),
       );
 }
 

@@ -8,5 +8,5 @@ use Rattle.section_core.proofs.kernel.Kernel.finish.Given as goal
 abbrev pub invariant-loop : goal.invariant-loop
 invariant-loop l = record {
   callers : length l.self.locals ≡ length l.fn.self.locals;
-  stands : (c : Setup) (opening : List Call) (calls : List (List Call)) (w : World) → IsStanding c opening calls w l.fn.self → (v : World) × IsStanding c opening calls v l.self × (finish (100000000 - l.counter) v ≡ finish most_events w);
+  stands : (c : Setup) (opening : List Call) (calls : List (List Call)) (w : World) → IsStanding c opening calls w l.fn.self → (v : World) × IsStanding c opening calls v l.self × (finish (100000000 - l.counter) v ≡ finish most_events w) × (v ≡ finish l.counter w);
 }

@@ -52,8 +52,8 @@ returns-in-Stays c = record {
       setup opening calls w (subst (IsStanding setup opening calls w) (sym c.self.view_is) st) c.in_ok-stepped.ensures.ended;
   unchanged = λ n.
       unchanged_after c.self.inside.regions c.self.inside.locals c.self.inside.moved c.reserve.new.self c.args.caller c.in_ok-stepped.stepped
-          c.deref_mut.result.now c.section_of.new.regions c.deref_mut-2.result.now c.section_of.new.locals c.deref_mut.ensures.value c.deref_mut-2.ensures.value c.in_ok-stepped.ensures.ok
-          c.in_ok-stepped.ensures.ended n c.in_ok-reserve.ensures.items
+      c.deref_mut.result.now c.section_of.new.regions c.deref_mut-2.result.now c.section_of.new.locals c.deref_mut.ensures.value c.deref_mut-2.ensures.value c.in_ok-stepped.ensures.ok
+      c.in_ok-stepped.ensures.ended n c.in_ok-reserve.ensures.items
       ∙ c.self.view_is;
   callers =
       as_many c.self.inside.regions c.self.inside.locals c.self.inside.moved c.reserve.new.self c.args.caller c.in_ok-stepped.stepped
