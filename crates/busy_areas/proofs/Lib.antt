@@ -2,3 +2,4 @@ pub mod Apart
 pub mod Named
 pub mod Last
 pub mod Looks
+pub mod Elsewhere

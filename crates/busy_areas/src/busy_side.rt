@@ -4,7 +4,7 @@ ghost use Rattle.std.specs.Ordering.{nat_cmp};
 ghost use Rattle.std.specs.BTreeMap.{insert_entry};
 ghost use Rattle.vm_model.specs.declared.areas.Area.{Area};
 ghost use Rattle.vm_model.specs.Space.{holds, put_by};
-ghost use Rattle.vm_model.specs.Areas.{named_areas, without_area};
+ghost use Rattle.vm_model.specs.Areas.{named_areas, without_area, areas_elsewhere};
 ghost use Rattle.busy_areas.specs.Kept.{IsUnused};
 
 use std::alloc::{AllocError, Global};
@@ -84,6 +84,15 @@ impl BusySide {
         match self.areas.get(&start) {
             Some(area) if area.serial == serial => self.areas.remove(&start),
             _ => None,
+        }
+    }
+
+    /// Takes the areas with these starts away. It takes no memory.
+    pub fn unlink(&mut self, starts: &[u32])
+        ensures { self.new ≡ record self.old { areas = areas_elsewhere starts.now self.old.areas } }
+    {
+        for start in starts {
+            self.areas.remove(start);
         }
     }
 
@@ -238,6 +247,23 @@ mod tests {
             side.areas(rt.alloc())?.as_slice(),
             [area(4, 2, 3)].as_slice()
         );
+        Ok(())
+    }
+
+    #[test]
+    fn unlinks_by_start(rt: HostRuntime) -> Result<(), AllocError> {
+        let mut side = BusySide::new(rt.alloc());
+        for (start, pages, serial) in [(16, 8, 1), (0, 8, 2), (8, 8, 3), (24, 1, 4)] {
+            assert!(rt; is_open(&side, Span { start, pages }));
+            assert_eq!(rt; insert(&mut side, start, pages)?, serial);
+        }
+        side.unlink(&[16, 0, 9]);
+        let rows = [area(8, 8, 3), area(24, 1, 4)];
+        assert_eq!(rt; side.areas(rt.alloc())?.as_slice(), rows.as_slice());
+        side.unlink(&[]);
+        assert_eq!(rt; side.len(), 2);
+        side.unlink(&[24, 8]);
+        assert!(rt; side.is_empty());
         Ok(())
     }
 }
