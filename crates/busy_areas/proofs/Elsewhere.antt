@@ -58,7 +58,7 @@ more_at : (start : ℕ) (a : Area) (some more : List Area) (b : Bool) → behind
 more_at start a some more true h = h
 more_at start a some more false h = ap (λ (areas : List Area). cond (differs start a) (a ∷ areas) areas) h
 
-elsewhere_more : (front all : List ℕ) (start : ℕ) (areas : List Area) → ((n : ℕ) → is_among all n ≡ (is_among front n || (start == n)))
+pub elsewhere_more : (front all : List ℕ) (start : ℕ) (areas : List Area) → ((n : ℕ) → is_among all n ≡ (is_among front n || (start == n)))
     → behind_start start (areas_elsewhere front areas) ≡ areas_elsewhere all areas
 elsewhere_more front all start [] is = refl
 elsewhere_more front all start (a ∷ areas) is =

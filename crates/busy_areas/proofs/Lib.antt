@@ -3,3 +3,4 @@ pub mod Named
 pub mod Last
 pub mod Looks
 pub mod Elsewhere
+pub mod Joined

@@ -149,7 +149,7 @@ named_none low start serial (e ∷ entries) apart found = elim (cases_Bool (star
 
 -- What stays without an area.
 
-apart_without : (low start : ℕ) (entries : List (ℕ × Area)) → AreApartFrom low entries → AreApartFrom low (without start entries)
+pub apart_without : (low start : ℕ) (entries : List (ℕ × Area)) → AreApartFrom low entries → AreApartFrom low (without start entries)
 apart_without low start [] apart = tt
 apart_without low start (e ∷ entries) apart = elim (cases_Bool (starts_at start e.0)) [
   | inl here ↦

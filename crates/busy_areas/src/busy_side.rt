@@ -1,11 +1,12 @@
 //! The live areas, by start: what `vmap_area_root` holds in the kernel.
-ghost use Rattle.std.specs.Prelude.{◌≡◌, ◌+◌, ◌^◌, ◌<◌, ◌↔◌, ℕ, [], ◌∷◌, length, find, slice_get, Some, IfOk, OnOk, OnErr, IfSome, IfNone, OnSome, IsTrue};
+ghost use Rattle.std.specs.Prelude.{All, ◌≤◌, true, false, ◌≡◌, ◌+◌, ◌^◌, ◌<◌, ◌↔◌, ℕ, [], ◌∷◌, length, find, slice_get, Some, IfOk, OnOk, OnErr, IfSome, IfNone, OnSome, IsTrue};
 ghost use Rattle.std.specs.Ordering.{nat_cmp};
-ghost use Rattle.std.specs.BTreeMap.{insert_entry};
+ghost use Rattle.std.specs.BTreeMap.{insert_entry, values};
+ghost use Rattle.vm_model.specs.declared.areas.Span.{Span};
 ghost use Rattle.vm_model.specs.declared.areas.Area.{Area};
-ghost use Rattle.vm_model.specs.Space.{holds, put_by};
-ghost use Rattle.vm_model.specs.Areas.{named_areas, without_area, areas_elsewhere};
-ghost use Rattle.busy_areas.specs.Kept.{IsUnused};
+ghost use Rattle.vm_model.specs.Space.{holds, covers, times, put_by};
+ghost use Rattle.vm_model.specs.Areas.{named_areas, without_area, areas_elsewhere, spans_of, areas_of, with_areas};
+ghost use Rattle.busy_areas.specs.Kept.{AreApartFrom, AreJoined, CanJoin, IsUnused, asked_spans, asked_starts};
 
 use std::alloc::{AllocError, Global};
 use std::collections::BTreeMap;
@@ -42,6 +43,45 @@ fn put_area(areas: &mut BTreeMap<u32, Area>, area: Area) -> Result<(), AllocErro
     }
 }
 
+/// Takes the areas away that start where the spans do.
+fn take_back(areas: &mut BTreeMap<u32, Area>, put: &[(Span, AreaKind)])
+    requires { AreApartFrom 0 areas.old.entries }
+    ensures apart { AreApartFrom 0 areas.new.entries }
+    ensures others { values areas.new ≡ areas_elsewhere (asked_starts put.now) (values areas.old) }
+{
+    for (span, _) in put {
+        areas.remove(&span.start);
+    }
+}
+
+/// Puts areas of a caller, with serials from the first on. An error leaves the areas as they were.
+fn put_all(
+    areas: &mut BTreeMap<u32, Area>,
+    new: &[(Span, AreaKind)],
+    caller: u16,
+    first: u32,
+) -> Result<(), AllocError>
+    requires apart { AreApartFrom 0 areas.old.entries }
+    requires join { CanJoin (values areas.old) new.now }
+    requires serials { first + length new.now < 2 ^ 32 }
+    ensures ok { OnOk result (AreJoined caller first new.now areas.old.entries areas.new.entries) }
+    ensures err { OnErr result (areas.new.entries ≡ areas.old.entries) }
+{
+    for (index, (span, kind)) in new.iter().enumerate() {
+        let area = Area {
+            span: *span,
+            kind: *kind,
+            caller,
+            serial: first + index as u32,
+        };
+        if put_area(areas, area).is_err() {
+            take_back(areas, &new[..index]);
+            return Err(AllocError);
+        }
+    }
+    Ok(())
+}
+
 impl BusySide {
     /// No area; serials begin at 1.
     pub fn new(alloc: Global) -> BusySide
@@ -72,6 +112,24 @@ impl BusySide {
         put_area(&mut self.areas, area)?;
         self.next = next;
         Ok(serial)
+    }
+
+    /// New areas, which get the next serials in their order, and the first of these. An error, which also comes where no
+    /// serial below 4,294,967,295 is left, leaves all as it was.
+    pub fn insert_all(&mut self, areas: &[(Span, AreaKind)], caller: u16) -> Result<u32, AllocError>
+        requires pages { All (λ (s : Span). 0 < s.pages) (asked_spans areas.now) }
+        requires unused { (page : ℕ) → covers (asked_spans areas.now) page ≡ true → covers (spans_of self.old.areas) page ≡ false }
+        requires disjoint { (page : ℕ) → times page (asked_spans areas.now) ≤ 1 }
+        ensures serial { IfOk result (λ serial. serial ≡ self.old.next) }
+        ensures ok { OnOk result (self.new ≡ record { areas = with_areas (areas_of caller self.old.next areas.now) self.old.areas; next = self.old.next + length areas.now }) }
+        ensures err { OnErr result (self.new ≡ self.old) }
+    {
+        let first = self.next;
+        let count = u32::try_from(areas.len()).map_err(|_| AllocError)?;
+        let next = first.checked_add(count).ok_or(AllocError)?;
+        put_all(&mut self.areas, areas, caller, first)?;
+        self.next = next;
+        Ok(first)
     }
 
     /// Takes the area with this start and serial away, if there is one. It takes no memory.
@@ -264,6 +322,23 @@ mod tests {
         assert_eq!(rt; side.len(), 2);
         side.unlink(&[24, 8]);
         assert!(rt; side.is_empty());
+        Ok(())
+    }
+
+    #[test]
+    fn inserts_all_or_none(rt: HostRuntime) -> Result<(), AllocError> {
+        let mut side = BusySide::new(rt.alloc());
+        assert_eq!(rt; side.insert_all(&[], 7)?, 1);
+        let spans = [
+            (Span { start: 8, pages: 4 }, AreaKind::Vmalloc),
+            (Span { start: 0, pages: 2 }, AreaKind::Vmalloc),
+            (Span { start: 2, pages: 1 }, AreaKind::Vmalloc),
+        ];
+        assert_eq!(rt; side.insert_all(&spans, 7)?, 1);
+        let rows = [area(0, 2, 2), area(2, 1, 3), area(8, 4, 1)];
+        assert_eq!(rt; side.areas(rt.alloc())?.as_slice(), rows.as_slice());
+        assert!(rt; is_open(&side, Span { start: 4, pages: 4 }));
+        assert_eq!(rt; insert(&mut side, 4, 4)?, 4);
         Ok(())
     }
 }
