@@ -229,25 +229,25 @@ mod tests {
         }
     }
 
-    /// Makes such an area, and answers its serial.
-    fn insert(side: &mut BusySide, start: u32, pages: u32) -> Result<u32, AllocError>
-        requires page { 0 < pages }
-        requires unused { IsUnused side.old.areas (record { start = start; pages = pages }) }
-    {
-        side.insert(Span { start, pages }, AreaKind::Vmalloc, 7)
+    /// Areas of these spans in turn, as far as they are open.
+    fn filled(alloc: Global, spans: &[(u32, u32)]) -> Result<BusySide, AllocError> {
+        let mut side = BusySide::new(alloc);
+        for (start, pages) in spans {
+            let span = Span {
+                start: *start,
+                pages: *pages,
+            };
+            if is_open(&side, span) {
+                side.insert(span, AreaKind::Vmalloc, 7)?;
+            }
+        }
+        Ok(side)
     }
 
     #[test]
     fn keeps_areas_by_start(rt: HostRuntime) -> Result<(), AllocError> {
-        let mut side = BusySide::new(rt.alloc());
-        assert!(rt; side.is_empty());
-        for (start, pages, serial) in [(8, 4, 1), (0, 2, 2), (40, 1, 3), (4, 4, 4), (3, 1, 5)] {
-            assert!(rt; is_open(&side, Span { start, pages }));
-            assert_eq!(rt; insert(&mut side, start, pages)?, serial);
-        }
-        for (start, pages) in [(7, 1), (2, 7), (12, 29), (0, 1)] {
-            assert!(rt; !is_open(&side, Span { start, pages }), "{start}");
-        }
+        let spans = [(8, 4), (0, 2), (40, 1), (4, 4), (2, 7), (3, 1), (0, 1)];
+        let side = filled(rt.alloc(), &spans)?;
         let rows = [
             area(0, 2, 2),
             area(3, 1, 5),
@@ -260,46 +260,44 @@ mod tests {
         for index in 0..side.len() {
             assert_eq!(rt; side.area_at(index), rows[index as usize]);
         }
-        for (page, start) in [
-            (0, Some(0)),
-            (1, Some(0)),
+        assert!(rt; !side.is_empty() && BusySide::new(rt.alloc()).is_empty());
+        Ok(())
+    }
+
+    #[test]
+    fn finds_areas_by_page(rt: HostRuntime) -> Result<(), AllocError> {
+        let side = filled(rt.alloc(), &[(8, 4), (0, 2), (40, 1), (4, 4)])?;
+        let rows = [
+            (0, Some(area(0, 2, 2))),
+            (1, Some(area(0, 2, 2))),
             (2, None),
-            (3, Some(3)),
-            (7, Some(4)),
-            (8, Some(8)),
-            (11, Some(8)),
+            (7, Some(area(4, 4, 4))),
+            (8, Some(area(8, 4, 1))),
+            (11, Some(area(8, 4, 1))),
             (12, None),
-            (40, Some(40)),
+            (40, Some(area(40, 1, 3))),
             (41, None),
-        ] {
-            assert_eq!(rt;
-                side.find(page).map(|area| area.span.start),
-                start,
-                "{page}"
-            );
+            (u32::MAX, None),
+        ];
+        for (page, found) in rows {
+            assert_eq!(rt; side.find(page), found, "{page}");
         }
         Ok(())
     }
 
     #[test]
     fn removes_by_start_and_serial(rt: HostRuntime) -> Result<(), AllocError> {
-        let mut side = BusySide::new(rt.alloc());
-        let first = Span { start: 4, pages: 2 };
-        assert!(rt; is_open(&side, first));
-        assert_eq!(rt; insert(&mut side, 4, 2)?, 1);
-        assert!(rt; is_open(&side, Span { start: 6, pages: 3 }));
-        assert_eq!(rt; insert(&mut side, 6, 3)?, 2);
-
+        let mut side = filled(rt.alloc(), &[(4, 2), (6, 3)])?;
         assert_eq!(rt; side.remove(4, 2), None);
         assert_eq!(rt; side.remove(5, 1), None);
         assert_eq!(rt; side.len(), 2);
         assert_eq!(rt; side.remove(4, 1), Some(area(4, 2, 1)));
         assert_eq!(rt; side.remove(4, 1), None);
 
-        assert!(rt; is_open(&side, first));
-        assert_eq!(rt; insert(&mut side, 4, 2)?, 3);
+        let again = Span { start: 4, pages: 2 };
+        assert!(rt; is_open(&side, again));
+        assert_eq!(rt; side.insert(again, AreaKind::Vmalloc, 7)?, 3);
         assert_eq!(rt; side.remove(4, 1), None);
-        assert_eq!(rt; side.find(5), Some(area(4, 2, 3)));
         assert_eq!(rt; side.remove(6, 2), Some(area(6, 3, 2)));
         assert_eq!(rt;
             side.areas(rt.alloc())?.as_slice(),
@@ -310,11 +308,7 @@ mod tests {
 
     #[test]
     fn unlinks_by_start(rt: HostRuntime) -> Result<(), AllocError> {
-        let mut side = BusySide::new(rt.alloc());
-        for (start, pages, serial) in [(16, 8, 1), (0, 8, 2), (8, 8, 3), (24, 1, 4)] {
-            assert!(rt; is_open(&side, Span { start, pages }));
-            assert_eq!(rt; insert(&mut side, start, pages)?, serial);
-        }
+        let mut side = filled(rt.alloc(), &[(16, 8), (0, 8), (8, 8), (24, 1)])?;
         side.unlink(&[16, 0, 9]);
         let rows = [area(8, 8, 3), area(24, 1, 4)];
         assert_eq!(rt; side.areas(rt.alloc())?.as_slice(), rows.as_slice());
@@ -337,8 +331,9 @@ mod tests {
         assert_eq!(rt; side.insert_all(&spans, 7)?, 1);
         let rows = [area(0, 2, 2), area(2, 1, 3), area(8, 4, 1)];
         assert_eq!(rt; side.areas(rt.alloc())?.as_slice(), rows.as_slice());
-        assert!(rt; is_open(&side, Span { start: 4, pages: 4 }));
-        assert_eq!(rt; insert(&mut side, 4, 4)?, 4);
+        let next = Span { start: 4, pages: 4 };
+        assert!(rt; is_open(&side, next));
+        assert_eq!(rt; side.insert(next, AreaKind::Vmalloc, 7)?, 4);
         Ok(())
     }
 }
