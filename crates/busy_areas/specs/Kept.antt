@@ -32,12 +32,13 @@ IsUnused areas s = (page : ℕ) → holds s page ≡ true → covers (spans_of a
 abbrev pub asked_spans : List (Span × AreaKind) → List Span
 asked_spans new = map (λ (p : Span × AreaKind). p.0) new
 
--- each has a page, and no area and no other of them has a page of it
+-- each of them has a page, and no page of theirs is in an area or in two of them
 pub record CanJoin (areas : List Area) (new : List (Span × AreaKind)) : Type 0 where
   pub pages : All (λ (s : Span). 0 < s.pages) (asked_spans new)
   pub unused : (page : ℕ) → covers (asked_spans new) page ≡ true → covers (spans_of areas) page ≡ false
   pub apart : (page : ℕ) → times page (asked_spans new) ≤ 1
 
+-- where they start
 abbrev pub asked_starts : List (Span × AreaKind) → List ℕ
 asked_starts new = map (λ (p : Span × AreaKind). p.0.start) new
 

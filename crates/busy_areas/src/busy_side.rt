@@ -1,11 +1,12 @@
 //! The live areas, by start: what `vmap_area_root` holds in the kernel.
-ghost use Rattle.std.specs.Prelude.{All, ◌≤◌, true, false, ◌≡◌, ◌+◌, ◌^◌, ◌<◌, ◌↔◌, ℕ, [], ◌∷◌, length, find, slice_get, Some, IfOk, OnOk, OnErr, IfSome, IfNone, OnSome, IsTrue};
+ghost use Rattle.std.specs.Prelude.{◌≡◌, ◌≤◌, true, false, All, ◌+◌, ◌^◌, ◌<◌, ◌↔◌, ℕ, [], ◌∷◌, length, find, slice_get, Some, IfOk, OnOk, OnErr, IfSome, IfNone, OnSome, IsTrue};
 ghost use Rattle.std.specs.Ordering.{nat_cmp};
 ghost use Rattle.std.specs.BTreeMap.{insert_entry, values};
 ghost use Rattle.vm_model.specs.declared.areas.Span.{Span};
 ghost use Rattle.vm_model.specs.declared.areas.Area.{Area};
-ghost use Rattle.vm_model.specs.Space.{holds, covers, times, put_by};
-ghost use Rattle.vm_model.specs.Areas.{named_areas, without_area, areas_elsewhere, spans_of, areas_of, with_areas};
+ghost use Rattle.vm_model.specs.Space.{holds, covers, times};
+ghost use Rattle.vm_model.specs.Areas.{named_areas, without_area, areas_elsewhere, spans_of};
+ghost use Rattle.busy_areas.specs.LiveRows.{with_new};
 ghost use Rattle.busy_areas.specs.Kept.{AreApartFrom, AreJoined, CanJoin, IsUnused, asked_spans, asked_starts};
 
 use std::alloc::{AllocError, Global};
@@ -98,7 +99,7 @@ impl BusySide {
         requires page { 0 < span.pages }
         requires unused { IsUnused self.old.areas span }
         ensures serial { IfOk result (λ serial. serial ≡ self.old.next) }
-        ensures ok { OnOk result (self.new ≡ record { areas = put_by (λ (a : Area). a.span.start) (record { span = span; kind = kind; caller = caller; serial = self.old.next }) self.old.areas; next = self.old.next + 1 }) }
+        ensures ok { OnOk result (self.new ≡ with_new caller ((span, kind) ∷ []) self.old) }
         ensures err { OnErr result (self.new ≡ self.old) }
     {
         let serial = self.next;
@@ -114,14 +115,14 @@ impl BusySide {
         Ok(serial)
     }
 
-    /// New areas, which get the next serials in their order, and the first of these. An error, which also comes where no
-    /// serial below 4,294,967,295 is left, leaves all as it was.
+    /// New areas, which get the next serials in their order, and the first of these. An error, which also comes where
+    /// they would be more than 4,294,967,294 areas in all, leaves all as it was.
     pub fn insert_all(&mut self, areas: &[(Span, AreaKind)], caller: u16) -> Result<u32, AllocError>
         requires pages { All (λ (s : Span). 0 < s.pages) (asked_spans areas.now) }
         requires unused { (page : ℕ) → covers (asked_spans areas.now) page ≡ true → covers (spans_of self.old.areas) page ≡ false }
         requires disjoint { (page : ℕ) → times page (asked_spans areas.now) ≤ 1 }
         ensures serial { IfOk result (λ serial. serial ≡ self.old.next) }
-        ensures ok { OnOk result (self.new ≡ record { areas = with_areas (areas_of caller self.old.next areas.now) self.old.areas; next = self.old.next + length areas.now }) }
+        ensures ok { OnOk result (self.new ≡ with_new caller areas.now self.old) }
         ensures err { OnErr result (self.new ≡ self.old) }
     {
         let first = self.next;
