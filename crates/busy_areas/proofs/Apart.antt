@@ -23,13 +23,13 @@ neither : (b c : Bool) → (b || c) ≡ false → (b ≡ false) × (c ≡ false)
 neither true c h = cc
 neither false c h = (refl, h)
 
-unused_rest : (a : Area) (areas : List Area) (s : Span) → IsUnused (a ∷ areas) s → IsUnused areas s
+pub unused_rest : (a : Area) (areas : List Area) (s : Span) → IsUnused (a ∷ areas) s → IsUnused areas s
 unused_rest a areas s unused page within = (neither (holds a.span page) (covers (spans_of areas) page) (unused page within)).1
 
-unused_first : (a : Area) (areas : List Area) (s : Span) → IsUnused (a ∷ areas) s → (page : ℕ) → holds s page ≡ true → holds a.span page ≡ false
+pub unused_first : (a : Area) (areas : List Area) (s : Span) → IsUnused (a ∷ areas) s → (page : ℕ) → holds s page ≡ true → holds a.span page ≡ false
 unused_first a areas s unused page within = (neither (holds a.span page) (covers (spans_of areas) page) (unused page within)).0
 
-holds-from : (s : Span) (page : ℕ) → s.start ≤ page → page < end_of s → holds s page ≡ true
+pub holds-from : (s : Span) (page : ℕ) → s.start ≤ page → page < end_of s → holds s page ≡ true
 holds-from s page from below = grind (arith, nat_tests)
 
 -- of two spans that share no page, the one that starts lower ends before the other
@@ -91,7 +91,7 @@ put_apart low a (e ∷ entries) apart some from unused =
     ]
 
 -- serials stay below the next one
-AreBelow-weaken : (next later : ℕ) (entries : List (ℕ × Area)) → next ≤ later → AreBelow next entries → AreBelow later entries
+pub AreBelow-weaken : (next later : ℕ) (entries : List (ℕ × Area)) → next ≤ later → AreBelow next entries → AreBelow later entries
 AreBelow-weaken next later [] h below = tt
 AreBelow-weaken next later (e ∷ entries) h below = ((let first = below.0 in omega arith), AreBelow-weaken next later entries h below.1)
 
@@ -101,7 +101,7 @@ AreBelow-placed next start a e entries more Less own below rest = (own, below)
 AreBelow-placed next start a e entries more Equal own below rest = (own, below.1)
 AreBelow-placed next start a e entries more Greater own below rest = (below.0, rest)
 
-AreBelow-insert : (next start : ℕ) (a : Area) (entries : List (ℕ × Area)) → a.serial < next → AreBelow next entries → AreBelow next (insert_entry nat_cmp entries start a)
+pub AreBelow-insert : (next start : ℕ) (a : Area) (entries : List (ℕ × Area)) → a.serial < next → AreBelow next entries → AreBelow next (insert_entry nat_cmp entries start a)
 AreBelow-insert next start a [] own below = (own, tt)
 AreBelow-insert next start a (e ∷ entries) own below =
     AreBelow-placed next start a e entries (insert_entry nat_cmp entries start a) (nat_cmp start e.0) own below (AreBelow-insert next start a entries own below.1)
@@ -112,7 +112,7 @@ length-placed start a e entries more Less h = omega arith
 length-placed start a e entries more Equal h = omega arith
 length-placed start a e entries more Greater h = omega arith
 
-length-insert_entry : (start : ℕ) (a : Area) (entries : List (ℕ × Area)) → length (insert_entry nat_cmp entries start a) ≤ length entries + 1
+pub length-insert_entry : (start : ℕ) (a : Area) (entries : List (ℕ × Area)) → length (insert_entry nat_cmp entries start a) ≤ length entries + 1
 length-insert_entry start a [] = omega arith
 length-insert_entry start a (e ∷ entries) = length-placed start a e entries (insert_entry nat_cmp entries start a) (nat_cmp start e.0) (length-insert_entry start a entries)
 

@@ -64,16 +64,16 @@ at-here start e entries here = ap (λ (b : Bool). cond b (Some e.1) (at start en
 at-there : (start : ℕ) (e : ℕ × Area) (entries : List (ℕ × Area)) → starts_at start e.0 ≡ false → at start (e ∷ entries) ≡ at start entries
 at-there start e entries there = ap (λ (b : Bool). cond b (Some e.1) (at start entries)) there
 
-without-here : (start : ℕ) (e : ℕ × Area) (entries : List (ℕ × Area)) → starts_at start e.0 ≡ true → without start (e ∷ entries) ≡ entries
+pub without-here : (start : ℕ) (e : ℕ × Area) (entries : List (ℕ × Area)) → starts_at start e.0 ≡ true → without start (e ∷ entries) ≡ entries
 without-here start e entries here = ap (λ (b : Bool). cond b entries (e ∷ without start entries)) here
 
-without-there : (start : ℕ) (e : ℕ × Area) (entries : List (ℕ × Area)) → starts_at start e.0 ≡ false → without start (e ∷ entries) ≡ e ∷ without start entries
+pub without-there : (start : ℕ) (e : ℕ × Area) (entries : List (ℕ × Area)) → starts_at start e.0 ≡ false → without start (e ∷ entries) ≡ e ∷ without start entries
 without-there start e entries there = ap (λ (b : Bool). cond b entries (e ∷ without start entries)) there
 
-own_key : (start key : ℕ) → starts_at start key ≡ true → key ≡ start
+pub own_key : (start key : ℕ) → starts_at start key ≡ true → key ≡ start
 own_key start key h = grind (arith, nat_tests)
 
-other_key : (start key : ℕ) → starts_at start key ≡ false → (key == start) ≡ false
+pub other_key : (start key : ℕ) → starts_at start key ≡ false → (key == start) ≡ false
 other_key start key h = grind (arith, nat_tests)
 
 -- the areas behind one with this start have another one
@@ -149,7 +149,7 @@ named_none low start serial (e ∷ entries) apart found = elim (cases_Bool (star
 
 -- What stays without an area.
 
-apart_without : (low start : ℕ) (entries : List (ℕ × Area)) → AreApartFrom low entries → AreApartFrom low (without start entries)
+pub apart_without : (low start : ℕ) (entries : List (ℕ × Area)) → AreApartFrom low entries → AreApartFrom low (without start entries)
 apart_without low start [] apart = tt
 apart_without low start (e ∷ entries) apart = elim (cases_Bool (starts_at start e.0)) [
   | inl here ↦

@@ -1,11 +1,13 @@
 //! The live areas, by start: what `vmap_area_root` holds in the kernel.
-ghost use Rattle.std.specs.Prelude.{◌≡◌, ◌+◌, ◌^◌, ◌<◌, ◌↔◌, ℕ, [], ◌∷◌, length, find, slice_get, Some, IfOk, OnOk, OnErr, IfSome, IfNone, OnSome, IsTrue};
+ghost use Rattle.std.specs.Prelude.{◌≡◌, ◌≤◌, true, false, All, ◌+◌, ◌^◌, ◌<◌, ◌↔◌, ℕ, [], ◌∷◌, length, find, slice_get, Some, IfOk, OnOk, OnErr, IfSome, IfNone, OnSome, IsTrue};
 ghost use Rattle.std.specs.Ordering.{nat_cmp};
-ghost use Rattle.std.specs.BTreeMap.{insert_entry};
+ghost use Rattle.std.specs.BTreeMap.{insert_entry, values};
+ghost use Rattle.vm_model.specs.declared.areas.Span.{Span};
 ghost use Rattle.vm_model.specs.declared.areas.Area.{Area};
-ghost use Rattle.vm_model.specs.Space.{holds, put_by};
-ghost use Rattle.vm_model.specs.Areas.{named_areas, without_area};
-ghost use Rattle.busy_areas.specs.Kept.{IsUnused};
+ghost use Rattle.vm_model.specs.Space.{holds, covers, times};
+ghost use Rattle.vm_model.specs.Areas.{named_areas, without_area, areas_elsewhere, spans_of};
+ghost use Rattle.busy_areas.specs.LiveRows.{with_new};
+ghost use Rattle.busy_areas.specs.Kept.{AreApartFrom, AreJoined, CanJoin, IsUnused, asked_spans, asked_starts};
 
 use std::alloc::{AllocError, Global};
 use std::collections::BTreeMap;
@@ -42,6 +44,45 @@ fn put_area(areas: &mut BTreeMap<u32, Area>, area: Area) -> Result<(), AllocErro
     }
 }
 
+/// Takes the areas away that start where the spans do.
+fn take_back(areas: &mut BTreeMap<u32, Area>, put: &[(Span, AreaKind)])
+    requires { AreApartFrom 0 areas.old.entries }
+    ensures apart { AreApartFrom 0 areas.new.entries }
+    ensures others { values areas.new ≡ areas_elsewhere (asked_starts put.now) (values areas.old) }
+{
+    for (span, _) in put {
+        areas.remove(&span.start);
+    }
+}
+
+/// Puts areas of a caller, with serials from the first on. An error leaves the areas as they were.
+fn put_all(
+    areas: &mut BTreeMap<u32, Area>,
+    new: &[(Span, AreaKind)],
+    caller: u16,
+    first: u32,
+) -> Result<(), AllocError>
+    requires apart { AreApartFrom 0 areas.old.entries }
+    requires join { CanJoin (values areas.old) new.now }
+    requires serials { first + length new.now < 2 ^ 32 }
+    ensures ok { OnOk result (AreJoined caller first new.now areas.old.entries areas.new.entries) }
+    ensures err { OnErr result (areas.new.entries ≡ areas.old.entries) }
+{
+    for (index, (span, kind)) in new.iter().enumerate() {
+        let area = Area {
+            span: *span,
+            kind: *kind,
+            caller,
+            serial: first + index as u32,
+        };
+        if put_area(areas, area).is_err() {
+            take_back(areas, &new[..index]);
+            return Err(AllocError);
+        }
+    }
+    Ok(())
+}
+
 impl BusySide {
     /// No area; serials begin at 1.
     pub fn new(alloc: Global) -> BusySide
@@ -58,7 +99,7 @@ impl BusySide {
         requires page { 0 < span.pages }
         requires unused { IsUnused self.old.areas span }
         ensures serial { IfOk result (λ serial. serial ≡ self.old.next) }
-        ensures ok { OnOk result (self.new ≡ record { areas = put_by (λ (a : Area). a.span.start) (record { span = span; kind = kind; caller = caller; serial = self.old.next }) self.old.areas; next = self.old.next + 1 }) }
+        ensures ok { OnOk result (self.new ≡ with_new caller ((span, kind) ∷ []) self.old) }
         ensures err { OnErr result (self.new ≡ self.old) }
     {
         let serial = self.next;
@@ -74,6 +115,24 @@ impl BusySide {
         Ok(serial)
     }
 
+    /// New areas, which get the next serials in their order, and the first of these. An error, which also comes where
+    /// they would be more than 4,294,967,294 areas in all, leaves all as it was.
+    pub fn insert_all(&mut self, areas: &[(Span, AreaKind)], caller: u16) -> Result<u32, AllocError>
+        requires pages { All (λ (s : Span). 0 < s.pages) (asked_spans areas.now) }
+        requires unused { (page : ℕ) → covers (asked_spans areas.now) page ≡ true → covers (spans_of self.old.areas) page ≡ false }
+        requires disjoint { (page : ℕ) → times page (asked_spans areas.now) ≤ 1 }
+        ensures serial { IfOk result (λ serial. serial ≡ self.old.next) }
+        ensures ok { OnOk result (self.new ≡ with_new caller areas.now self.old) }
+        ensures err { OnErr result (self.new ≡ self.old) }
+    {
+        let first = self.next;
+        let count = u32::try_from(areas.len()).map_err(|_| AllocError)?;
+        let next = first.checked_add(count).ok_or(AllocError)?;
+        put_all(&mut self.areas, areas, caller, first)?;
+        self.next = next;
+        Ok(first)
+    }
+
     /// Takes the area with this start and serial away, if there is one. It takes no memory.
     pub fn remove(&mut self, start: u32, serial: u32) -> Option<Area>
         ensures found { IfSome result (λ area. named_areas start serial self.old.areas ≡ area ∷ []) }
@@ -84,6 +143,15 @@ impl BusySide {
         match self.areas.get(&start) {
             Some(area) if area.serial == serial => self.areas.remove(&start),
             _ => None,
+        }
+    }
+
+    /// Takes the areas with these starts away. It takes no memory.
+    pub fn unlink(&mut self, starts: &[u32])
+        ensures { self.new ≡ record self.old { areas = areas_elsewhere starts.now self.old.areas } }
+    {
+        for start in starts {
+            self.areas.remove(start);
         }
     }
 
@@ -162,25 +230,25 @@ mod tests {
         }
     }
 
-    /// Makes such an area, and answers its serial.
-    fn insert(side: &mut BusySide, start: u32, pages: u32) -> Result<u32, AllocError>
-        requires page { 0 < pages }
-        requires unused { IsUnused side.old.areas (record { start = start; pages = pages }) }
-    {
-        side.insert(Span { start, pages }, AreaKind::Vmalloc, 7)
+    /// Areas of these spans in turn, as far as they are open.
+    fn filled(alloc: Global, spans: &[(u32, u32)]) -> Result<BusySide, AllocError> {
+        let mut side = BusySide::new(alloc);
+        for (start, pages) in spans {
+            let span = Span {
+                start: *start,
+                pages: *pages,
+            };
+            if is_open(&side, span) {
+                side.insert(span, AreaKind::Vmalloc, 7)?;
+            }
+        }
+        Ok(side)
     }
 
     #[test]
     fn keeps_areas_by_start(rt: HostRuntime) -> Result<(), AllocError> {
-        let mut side = BusySide::new(rt.alloc());
-        assert!(rt; side.is_empty());
-        for (start, pages, serial) in [(8, 4, 1), (0, 2, 2), (40, 1, 3), (4, 4, 4), (3, 1, 5)] {
-            assert!(rt; is_open(&side, Span { start, pages }));
-            assert_eq!(rt; insert(&mut side, start, pages)?, serial);
-        }
-        for (start, pages) in [(7, 1), (2, 7), (12, 29), (0, 1)] {
-            assert!(rt; !is_open(&side, Span { start, pages }), "{start}");
-        }
+        let spans = [(8, 4), (0, 2), (40, 1), (4, 4), (2, 7), (3, 1), (0, 1)];
+        let side = filled(rt.alloc(), &spans)?;
         let rows = [
             area(0, 2, 2),
             area(3, 1, 5),
@@ -193,51 +261,80 @@ mod tests {
         for index in 0..side.len() {
             assert_eq!(rt; side.area_at(index), rows[index as usize]);
         }
-        for (page, start) in [
-            (0, Some(0)),
-            (1, Some(0)),
+        assert!(rt; !side.is_empty() && BusySide::new(rt.alloc()).is_empty());
+        Ok(())
+    }
+
+    #[test]
+    fn finds_areas_by_page(rt: HostRuntime) -> Result<(), AllocError> {
+        let side = filled(rt.alloc(), &[(8, 4), (0, 2), (40, 1), (4, 4)])?;
+        let rows = [
+            (0, Some(area(0, 2, 2))),
+            (1, Some(area(0, 2, 2))),
             (2, None),
-            (3, Some(3)),
-            (7, Some(4)),
-            (8, Some(8)),
-            (11, Some(8)),
+            (7, Some(area(4, 4, 4))),
+            (8, Some(area(8, 4, 1))),
+            (11, Some(area(8, 4, 1))),
             (12, None),
-            (40, Some(40)),
+            (40, Some(area(40, 1, 3))),
             (41, None),
-        ] {
-            assert_eq!(rt;
-                side.find(page).map(|area| area.span.start),
-                start,
-                "{page}"
-            );
+            (u32::MAX, None),
+        ];
+        for (page, found) in rows {
+            assert_eq!(rt; side.find(page), found, "{page}");
         }
         Ok(())
     }
 
     #[test]
     fn removes_by_start_and_serial(rt: HostRuntime) -> Result<(), AllocError> {
-        let mut side = BusySide::new(rt.alloc());
-        let first = Span { start: 4, pages: 2 };
-        assert!(rt; is_open(&side, first));
-        assert_eq!(rt; insert(&mut side, 4, 2)?, 1);
-        assert!(rt; is_open(&side, Span { start: 6, pages: 3 }));
-        assert_eq!(rt; insert(&mut side, 6, 3)?, 2);
-
+        let mut side = filled(rt.alloc(), &[(4, 2), (6, 3)])?;
         assert_eq!(rt; side.remove(4, 2), None);
         assert_eq!(rt; side.remove(5, 1), None);
         assert_eq!(rt; side.len(), 2);
         assert_eq!(rt; side.remove(4, 1), Some(area(4, 2, 1)));
         assert_eq!(rt; side.remove(4, 1), None);
 
-        assert!(rt; is_open(&side, first));
-        assert_eq!(rt; insert(&mut side, 4, 2)?, 3);
+        let again = Span { start: 4, pages: 2 };
+        assert!(rt; is_open(&side, again));
+        assert_eq!(rt; side.insert(again, AreaKind::Vmalloc, 7)?, 3);
         assert_eq!(rt; side.remove(4, 1), None);
-        assert_eq!(rt; side.find(5), Some(area(4, 2, 3)));
         assert_eq!(rt; side.remove(6, 2), Some(area(6, 3, 2)));
         assert_eq!(rt;
             side.areas(rt.alloc())?.as_slice(),
             [area(4, 2, 3)].as_slice()
         );
+        Ok(())
+    }
+
+    #[test]
+    fn unlinks_by_start(rt: HostRuntime) -> Result<(), AllocError> {
+        let mut side = filled(rt.alloc(), &[(16, 8), (0, 8), (8, 8), (24, 1)])?;
+        side.unlink(&[16, 0, 9]);
+        let rows = [area(8, 8, 3), area(24, 1, 4)];
+        assert_eq!(rt; side.areas(rt.alloc())?.as_slice(), rows.as_slice());
+        side.unlink(&[]);
+        assert_eq!(rt; side.len(), 2);
+        side.unlink(&[24, 8]);
+        assert!(rt; side.is_empty());
+        Ok(())
+    }
+
+    #[test]
+    fn inserts_all_or_none(rt: HostRuntime) -> Result<(), AllocError> {
+        let mut side = BusySide::new(rt.alloc());
+        assert_eq!(rt; side.insert_all(&[], 7)?, 1);
+        let spans = [
+            (Span { start: 8, pages: 4 }, AreaKind::Vmalloc),
+            (Span { start: 0, pages: 2 }, AreaKind::Vmalloc),
+            (Span { start: 2, pages: 1 }, AreaKind::Vmalloc),
+        ];
+        assert_eq!(rt; side.insert_all(&spans, 7)?, 1);
+        let rows = [area(0, 2, 2), area(2, 1, 3), area(8, 4, 1)];
+        assert_eq!(rt; side.areas(rt.alloc())?.as_slice(), rows.as_slice());
+        let next = Span { start: 4, pages: 4 };
+        assert!(rt; is_open(&side, next));
+        assert_eq!(rt; side.insert(next, AreaKind::Vmalloc, 7)?, 4);
         Ok(())
     }
 }

@@ -1,7 +1,7 @@
 -- Spans that wait, as a set keeps them.
-use Rattle.std.specs.Prelude.{◌≡◌, ℕ, ◌^◌, ◌<◌, List, All}
+use Rattle.std.specs.Prelude.{◌≡◌, ℕ, ◌^◌, ◌<◌, ◌≤◌, List, All}
 use Rattle.vm_model.specs.declared.areas.Span.{Span}
-use Rattle.vm_model.specs.Space.{end_of, sum_of_pages}
+use Rattle.vm_model.specs.Space.{end_of, times, sum_of_pages}
 
 -- the page after the span has a number of 32 bits
 abbrev pub HasEnd : Span → Type 0
@@ -12,3 +12,7 @@ pub record AreCounted (spans : List Span) (pages : ℕ) : Type 0 where
   pub count : pages ≡ sum_of_pages spans
   pub fits : pages < 2 ^ 32
   pub ends : All HasEnd spans
+
+-- spans of a space that share no page have no more pages than the space
+abbrev pub DisjointSpansFit : Type 0
+DisjointSpansFit = (space : ℕ) (spans : List Span) → All (λ (s : Span). end_of s ≤ space) spans → ((page : ℕ) → times page spans ≤ 1) → sum_of_pages spans ≤ space

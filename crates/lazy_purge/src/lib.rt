@@ -3,6 +3,7 @@
 
 mod batch;
 mod hulls;
+pub mod laws;
 mod lazy_side;
 
 pub use batch::Batch;
