@@ -121,6 +121,14 @@ named_found low start serial a (e ∷ entries) apart found same = elim (cases_Bo
       named-there low start serial a e entries apart there (named_found (end_of e.1.span) start serial a entries apart.3 (sym (at-there start e entries there) ∙ found) same)
 ]
 
+-- an area that a start finds has a page
+pub found_page : (low start : ℕ) (a : Area) (entries : List (ℕ × Area)) → AreApartFrom low entries → at start entries ≡ Some a → 1 ≤ a.span.pages
+found_page low start a [] apart found = absurd cc
+found_page low start a (e ∷ entries) apart found = elim (cases_Bool (starts_at start e.0)) [
+  | inl here ↦ subst (λ (b : Area). 1 ≤ b.span.pages) (same_area start a e entries here found) apart.2
+  | inr there ↦ found_page (end_of e.1.span) start a entries apart.3 (sym (at-there start e entries there) ∙ found)
+]
+
 none-more : (start serial : ℕ) (a : Area) (areas : List Area) → is_area start serial a ≡ false → named_areas start serial areas ≡ [] → named_areas start serial (a ∷ areas) ≡ []
 none-more start serial a areas other none = ap (λ (b : Bool). cond b (a ∷ named_areas start serial areas) (named_areas start serial areas)) other ∙ none
 

@@ -136,6 +136,7 @@ impl BusySide {
     /// Takes the area with this start and serial away, if there is one. It takes no memory.
     pub fn remove(&mut self, start: u32, serial: u32) -> Option<Area>
         ensures found { IfSome result (λ area. named_areas start serial self.old.areas ≡ area ∷ []) }
+        ensures page { IfSome result (λ area. 1 ≤ area.span.pages) }
         ensures none { IfNone result (named_areas start serial self.old.areas ≡ []) }
         ensures gone { OnSome result (self.new ≡ record self.old { areas = without_area start serial self.old.areas }) }
         ensures unchanged { IfNone result (self.new ≡ self.old) }

@@ -1,10 +1,11 @@
 -- The pages of spans, counted page by page.
-use Rattle.std.proofs.Common.{◌≡◌, ℕ, zero, suc, ◌+◌, ◌<◌, ◌≤◌, inl, inr, true, false, List, [], ◌∷◌, All, refl, ap, arith}
+use Rattle.std.proofs.Common.{◌≡◌, ℕ, zero, suc, ◌+◌, ◌<◌, ◌≤◌, inl, inr, true, false, List, [], ◌∷◌, ◌++◌, All, refl, ap, sym, ◌∙◌, subst, arith}
 use Rattle.std.proofs.lemmas.Bool.{cases_lt}
 use Rattle.std.proofs.lemmas.Bool.Decides.{nat_tests}
-use Rattle.std.proofs.lemmas.List.Elements.{All-head, All-tail}
-use Rattle.std.proofs.lemmas.List.Sums.{sum_by-cons}
+use Rattle.std.proofs.lemmas.List.Elements.{All-head, All-tail, All-append}
+use Rattle.std.proofs.lemmas.List.Sums.{sum_by-cons, sum_by-append}
 use Rattle.vm_model.specs.declared.areas.Span.{Span}
+use Rattle.lazy_purge.specs.Waits.{HasPage, HasEnd, AreCounted}
 use Rattle.vm_model.specs.Space.{end_of, holds, one_if, times, sum_of_pages}
 
 -- how many pages below n a span has
@@ -64,3 +65,19 @@ sum-total space (s ∷ spans) ends =
 
 pub disjoint_spans_fit : (space : ℕ) (spans : List Span) → All (λ (s : Span). end_of s ≤ space) spans → ((page : ℕ) → times page spans ≤ 1) → sum_of_pages spans ≤ space
 disjoint_spans_fit space spans ends once = omega (arith, sum-total space spans ends, total-le space spans once)
+
+-- what waits and what is added
+module _ (old spans : List Span) (pages : ℕ) (is : AreCounted old pages) (some : All HasPage spans) (ends : All HasEnd spans) (once : (page : ℕ) → times page (old ++ spans) ≤ 1) where
+  pub joined_fit : pages + sum_of_pages spans ≤ 1048576
+  joined_fit =
+      let fit = disjoint_spans_fit 1048576 (old ++ spans) (All-append HasEnd old spans is.ends ends) once in
+      let count = is.count in
+      omega (arith, sum_by-append (λ (s : Span). s.pages) old spans)
+
+  pub joined : AreCounted (old ++ spans) (pages + sum_of_pages spans)
+  joined = record {
+    count = ap (λ n. n + sum_of_pages spans) is.count ∙ sym (sum_by-append (λ (s : Span). s.pages) old spans);
+    fits = joined_fit;
+    some = All-append HasPage old spans is.some some;
+    ends = All-append HasEnd old spans is.ends ends;
+  }

@@ -3,14 +3,23 @@ use Rattle.std.specs.Prelude.{◌≡◌, ℕ, ◌^◌, ◌<◌, ◌≤◌, List,
 use Rattle.vm_model.specs.declared.areas.Span.{Span}
 use Rattle.vm_model.specs.Space.{end_of, times, sum_of_pages}
 
--- the page after the span has a number of 32 bits
+-- the span lies in the largest space
 abbrev pub HasEnd : Span → Type 0
-HasEnd s = end_of s < 2 ^ 32
+HasEnd s = end_of s ≤ 1048576
 
--- the pages of the spans are counted, and each span has an end
+abbrev pub HasPage : Span → Type 0
+HasPage s = 1 ≤ s.pages
+
+-- each span has a page, and an end
+pub record AreWhole (spans : List Span) : Type 0 where
+  pub some : All HasPage spans
+  pub ends : All HasEnd spans
+
+-- the pages of the spans are counted, and each span has one, and an end
 pub record AreCounted (spans : List Span) (pages : ℕ) : Type 0 where
   pub count : pages ≡ sum_of_pages spans
-  pub fits : pages < 2 ^ 32
+  pub fits : pages ≤ 1048576
+  pub some : All HasPage spans
   pub ends : All HasEnd spans
 
 -- spans of a space that share no page have no more pages than the space

@@ -1,7 +1,7 @@
 //! What a purge takes at once.
 ghost use Rattle.std.specs.Prelude.{◌≡◌, All};
 ghost use Rattle.vm_model.specs.Space.{hull};
-ghost use Rattle.lazy_purge.specs.Waits.{HasEnd};
+ghost use Rattle.lazy_purge.specs.Waits.{HasPage, AreWhole};
 
 use crate::hulls;
 use std::marker::Model;
@@ -14,21 +14,21 @@ pub struct Batch {
 }
 
 impl Model for Batch {
-    ghost use Rattle.std.specs.Prelude.{List, All};
+    ghost use Rattle.std.specs.Prelude.{List};
     ghost use Rattle.vm_model.specs.declared.areas.Span.{Span};
-    ghost use Rattle.lazy_purge.specs.Waits.{HasEnd};
+    ghost use Rattle.lazy_purge.specs.Waits.{AreWhole};
 
     ghost Value = { List Span };
 
     ghost view = { λ b. b.spans.items };
 
-    ghost invariant = { λ b. All HasEnd b.spans.items };
+    ghost invariant = { λ b. AreWhole b.spans.items };
 }
 
 impl Batch {
     /// These spans.
     pub(crate) fn of(spans: Vec<Span>) -> Batch
-        requires { All HasEnd spans.items }
+        requires { AreWhole spans.items }
         ensures { result ≡ spans.items }
     {
         Batch { spans }
@@ -43,7 +43,8 @@ impl Batch {
 
     /// The spans, as they were added.
     pub fn spans(&self) -> &[Span]
-        ensures { result.now ≡ self.now }
+        ensures spans { result.now ≡ self.now }
+        ensures some { All HasPage result.now }
     {
         self.spans.as_slice()
     }

@@ -1,7 +1,7 @@
 //! The spans that wait.
-ghost use Rattle.std.specs.Prelude.{◌≡◌, ◌<◌, ◌^◌, [], ◌++◌, All, IfOk, OnOk, OnErr};
-ghost use Rattle.vm_model.specs.Space.{sum_of_pages};
-ghost use Rattle.lazy_purge.specs.Waits.{HasEnd};
+ghost use Rattle.std.specs.Prelude.{◌≡◌, ◌≤◌, ℕ, [], ◌++◌, All, IfOk, OnOk, OnErr};
+ghost use Rattle.vm_model.specs.Space.{sum_of_pages, times};
+ghost use Rattle.lazy_purge.specs.Waits.{HasPage, HasEnd};
 
 use crate::batch::Batch;
 use std::alloc::{AllocError, Global};
@@ -32,7 +32,7 @@ impl Model for LazySide {
 
 /// How many pages the spans have together.
 fn pages_of(spans: &[Span]) -> u32
-    requires { sum_of_pages spans.now < 2 ^ 32 }
+    requires { sum_of_pages spans.now ≤ 1048576 }
     ensures { result ≡ sum_of_pages spans.now }
 {
     spans.iter().map(|span| span.pages).sum()
@@ -52,8 +52,9 @@ impl LazySide {
 
     /// Puts spans behind those that wait, and tells how many pages wait then. An error leaves all as it was.
     pub fn add(&mut self, spans: &[Span]) -> Result<u32, AllocError>
+        requires some { All HasPage spans.now }
         requires ends { All HasEnd spans.now }
-        requires fits { sum_of_pages (self.old ++ spans.now) < 2 ^ 32 }
+        requires disjoint { (page : ℕ) → times page (self.old ++ spans.now) ≤ 1 }
         ensures pages { IfOk result (λ pages. pages ≡ sum_of_pages (self.old ++ spans.now)) }
         ensures ok { OnOk result (self.new ≡ self.old ++ spans.now) }
         ensures err { OnErr result (self.new ≡ self.old) }
@@ -67,6 +68,7 @@ impl LazySide {
     /// Takes all spans that wait, so that nothing waits. It takes no memory.
     pub fn take(&mut self) -> Batch
         ensures batch { result ≡ self.old }
+        ensures some { All HasPage result }
         ensures empty { self.new ≡ [] }
     {
         let spans = mem::replace(&mut self.spans, Vec::new(self.alloc));
@@ -76,7 +78,8 @@ impl LazySide {
 
     /// The spans that wait, in the order in which they were added.
     pub fn spans(&self) -> &[Span]
-        ensures { result.now ≡ self.now }
+        ensures spans { result.now ≡ self.now }
+        ensures some { All HasPage result.now }
     {
         self.spans.as_slice()
     }

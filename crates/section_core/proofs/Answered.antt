@@ -1,5 +1,5 @@
 -- A caller's answers, as its book and what its calls made tell them.
-use Rattle.std.proofs.Common.{None, Option, take, option_map, map, ◌-◌, Vec, Global, add-one, ◌≡◌, ℕ, zero, suc, ◌+◌, ◌<◌, ◌≤◌, All, List, [], ◌∷◌, ◌++◌, length, slice_get, Some, refl, ap, sym, ◌∙◌, subst, arith, length-append}
+use Rattle.std.proofs.Common.{◌⊎◌, inl, inr, None, Option, take, option_map, map, ◌-◌, Vec, Global, add-one, ◌≡◌, ℕ, zero, suc, ◌+◌, ◌<◌, ◌≤◌, All, List, [], ◌∷◌, ◌++◌, length, slice_get, Some, refl, ap, sym, ◌∙◌, subst, arith, length-append}
 use Rattle.std.proofs.lemmas.List.{map-append}
 use Rattle.std.proofs.lemmas.List.Elements.{All-weaker, All-push}
 use Rattle.std.specs.Vec.{vec_capacity}
@@ -15,16 +15,21 @@ use Rattle.history_book.specs.BookRows.{BookRows}
 use Rattle.history_book.specs.Entries.{note_of}
 use Rattle.vm_model.specs.declared.calls.Call.{Call}
 use Rattle.vm_model.specs.declared.calls.Reply.{Reply}
-use Rattle.vm_model.specs.declared.calls.Call.TheVariants.{Vmalloc}
-use Rattle.vm_model.specs.Rules.{IsVmallocCall}
+use Rattle.vm_model.specs.declared.calls.Call.TheVariants.{Vmalloc, Vfree}
+use Rattle.vm_model.specs.declared.calls.Target.{Target}
+use Rattle.vm_model.specs.declared.areas.Span.{Span}
+use Rattle.section_core.specs.declared.place.Place.TheVariants as place
 use Rattle.vm_model.specs.Places.{Place as Stood}
-use Rattle.vm_model.specs.Calls.{Answered, begin}
+use Rattle.vm_model.specs.Calls.{Answered, begin, made_in}
+use Rattle.vm_model.specs.Places as model
+use Rattle.vm_model.specs.Places.{MadeNothing}
+use Rattle.std.proofs.lemmas.Option.{slice_get-map}
 use Rattle.history_book.specs.declared.noted.Noted.{Noted}
 use Rattle.section_core.specs.declared.answers.Made.{Made}
 use Rattle.section_core.specs.declared.place.Place.{Place}
 use Rattle.section_core.specs.declared.local.Local.TheInside.{Inside}
-use Rattle.section_core.specs.Places.{IsSized, place_of, made_of}
-use Rattle.section_core.specs.Locals.{answer_with, answers_with, local_of, HasCall, IsOrderly}
+use Rattle.section_core.specs.Places.{IsSized, IsWhole, HasNoWaited, place_of, made_of}
+use Rattle.section_core.specs.Locals.{answer_with, answers_with, local_of, HasCall, IsOrderly, MadeBy, IsBuiltCall}
 
 pub length-answers_with : (calls : List Call) (rows : List Noted) (made : List Made) → length made ≡ length rows → length rows ≤ length calls → length (answers_with calls rows made) ≡ length rows
 length-answers_with [] [] made h low = refl
@@ -49,17 +54,32 @@ answers_with-more (own ∷ calls) (r ∷ rows) (x ∷ made) call n m h at = ap (
 pub count_is : (a : Inside) → IsOrderly a → length (local_of a).answers ≡ length a.book.rows
 count_is a is = let room = is.room in length-answers_with a.calls a.book.rows a.made.items is.made (omega arith)
 
--- a call of the built words is one of vmalloc
-pub is_vmalloc : (call : Call) → IsVmallocCall (Some call) → (bytes : ℕ) × (align : ℕ) × (call ≡ Vmalloc bytes align)
-is_vmalloc (Vmalloc bytes align) is = (bytes, align, refl)
-is_vmalloc _ is = absurd is
+-- what was noted tells what the calls made
+pub made_told : (calls : List Call) (rows : List Noted) (made : List Made) → length made ≡ length rows → length rows ≤ length calls → MadeBy made (answers_with calls rows made)
+made_told [] [] [] h low = refl
+made_told [] [] (m ∷ made) h low = absurd (omega arith)
+made_told [] (n ∷ rows) made h low = absurd (omega arith)
+made_told (call ∷ calls) [] [] h low = refl
+made_told (call ∷ calls) [] (m ∷ made) h low = absurd (omega arith)
+made_told (call ∷ calls) (n ∷ rows) [] h low = absurd (omega arith)
+made_told (call ∷ calls) (n ∷ rows) (m ∷ made) h low = ap (λ more. made_of m ∷ more) (made_told calls rows made (omega arith) (omega arith))
+
+-- it is the place before the call with this index, after these answers of the opening and what the caller's own calls made
+abbrev pub IsPlacedFor : Config → List Code → List Made → List Call → ℕ → Place → Type 0
+IsPlacedFor config opening made calls index p = (answers : List Answered) → MadeBy made answers → place_of p [] ≡ begin (setup_of config) (map answer_of opening) answers (slice_get calls index)
+
+-- a call of the built words is a vmalloc or a vfree
+pub is_built : (call : Call) → IsBuiltCall call → ((bytes : ℕ) × (align : ℕ) × (call ≡ Vmalloc bytes align)) ⊎ ((target : Target) × (call ≡ Vfree target))
+is_built (Vmalloc bytes align) is = inl (bytes, align, refl)
+is_built (Vfree target) is = inr (target, refl)
+is_built _ is = absurd is
 
 -- an event later the caller stands elsewhere
 noted_later : (rows : List Noted) (events : ℕ) → All (λ (n : Noted). n.own_event ≤ events) rows → All (λ (n : Noted). n.own_event ≤ events + 1) rows
 noted_later rows events h = All-weaker (λ (n : Noted). n.own_event ≤ events) (λ (n : Noted). n.own_event ≤ events + 1) (λ n low. omega arith) rows h
 
-pub orderly_there : (a : Inside) (p : Place) → IsOrderly a → IsSized p → HasCall p (length a.book.rows) a.calls → IsOrderly (record a { events = a.events + 1; place = p })
-orderly_there a p is sized at_hand = record {
+pub orderly_there : (a : Inside) (p : Place) (waited : List Span) → IsOrderly a → IsSized p → IsWhole (place_of p waited) → HasCall p (length a.book.rows) a.calls → IsOrderly (record a { events = a.events + 1; place = p; waited = waited })
+orderly_there a p waited is sized whole at_hand = record {
   space = is.space;
   built = is.built;
   few = is.few;
@@ -69,8 +89,19 @@ orderly_there a p is sized at_hand = record {
   own = is.own;
   noted = noted_later a.book.rows a.events is.noted;
   sized = sized;
+  whole = whole;
   at_hand = at_hand;
 }
+
+abbrev pub made_or : Option model.Made → model.Made
+made_or None = MadeNothing
+made_or (Some m) = m
+
+-- where nothing is flushed or returned, what waited is not told
+pub empty_handed : (p : Place) (waited : List Span) → HasNoWaited p → place_of p waited ≡ place_of p []
+empty_handed (place.PurgeFlushing hull after) waited is = absurd is
+empty_handed (place.PurgeReturning after) waited is = absurd is
+empty_handed _ waited is = refl
 
 -- one more call is answered, at an event of the caller's
 module _ (a : Inside) (is : IsOrderly a) (more : length a.book.rows < length a.calls) (reply : Reply) (m : Made) (book : BookRows) (made : Vec Made Global) (p : Place)
@@ -85,8 +116,8 @@ module _ (a : Inside) (is : IsOrderly a) (more : length a.book.rows < length a.c
   made_longer : length made.items ≡ length a.book.rows + 1
   made_longer = ap length pushed ∙ length-append a.made.items (m ∷ []) ∙ ap (λ n. n + 1) is.made
 
-  pub answered_orderly : length a.calls ≤ vec_capacity made → IsSized p → HasCall p (length made.items) a.calls → IsOrderly (record a { book = book; made = made; events = a.events + 1; place = p })
-  answered_orderly room sized at_hand = record {
+  pub answered_orderly : length a.calls ≤ vec_capacity made → IsSized p → HasNoWaited p → IsWhole (place_of p []) → HasCall p (length made.items) a.calls → IsOrderly (record a { book = book; made = made; events = a.events + 1; place = p })
+  answered_orderly room sized empty whole at_hand = record {
     space = is.space;
     built = is.built;
     few = is.few;
@@ -97,6 +128,7 @@ module _ (a : Inside) (is : IsOrderly a) (more : length a.book.rows < length a.c
     noted = subst (All (λ (n : Noted). n.own_event ≤ a.events + 1)) (sym new_rows)
         (All-push (λ (n : Noted). n.own_event ≤ a.events + 1) a.book.rows (record { reply = reply; own_event = a.events + 1 }) (noted_later a.book.rows a.events is.noted) (omega arith));
     sized = sized;
+    whole = subst IsWhole (sym (empty_handed p a.waited empty)) whole;
     at_hand = subst (λ n. HasCall p n a.calls) (made_longer ∙ sym rows_longer) at_hand;
   }
 
@@ -114,17 +146,20 @@ module _ (a : Inside) (is : IsOrderly a) (more : length a.book.rows < length a.c
         ∙ answers_with-more a.calls a.book.rows a.made.items call (record { reply = reply; own_event = a.events + 1 }) m is.made at
         ∙ ap (λ n. (local_of a).answers ++ (record { call = call; reply = reply; made = made_of m; own_event = n }) ∷ []) (add-one a.events)
 
-    place_then : ((opening own : List Answered) → place_of p ≡ begin (setup_of a.config) opening own (slice_get a.calls (length made.items)))
-        → place_of p ≡ begin (setup_of a.config) (local_of a).opening ((local_of a).answers ++ answer ∷ []) (slice_get a.calls (suc (length (local_of a).answers)))
-    place_then place = place (local_of a).opening ((local_of a).answers ++ answer ∷ [])
+    made_then : MadeBy made.items ((local_of a).answers ++ answer ∷ [])
+    made_then = let room = is.room in made_told a.calls book.rows made.items (made_longer ∙ sym rows_longer) (omega (arith, rows_longer)) ∙ ap (map (λ (x : Answered). x.made)) answers_then
+
+    place_then : IsPlacedFor a.config (arc_value a.opening) made.items a.calls (length made.items) p
+        → place_of p [] ≡ begin (setup_of a.config) (local_of a).opening ((local_of a).answers ++ answer ∷ []) (slice_get a.calls (suc (length (local_of a).answers)))
+    place_then place = place ((local_of a).answers ++ answer ∷ []) made_then
         ∙ ap (λ n. begin (setup_of a.config) (local_of a).opening ((local_of a).answers ++ answer ∷ []) (slice_get a.calls n)) (made_longer ∙ add-one (length a.book.rows) ∙ ap suc (sym (count_is a is)))
 
-    pub answered_view : ((opening own : List Answered) → place_of p ≡ begin (setup_of a.config) opening own (slice_get a.calls (length made.items)))
+    pub answered_view : HasNoWaited p → IsPlacedFor a.config (arc_value a.opening) made.items a.calls (length made.items) p
         → local_of (record a { book = book; made = made; events = a.events + 1; place = p }) ≡ moved_to (local_of a) (Answer reply (made_of m))
-    answered_view place =
-        ap (λ answers. told_with answers (a.events + 1) (place_of p)) answers_then
-        ∙ ap (λ n. told_with ((local_of a).answers ++ answer ∷ []) n (place_of p)) (add-one a.events)
-        ∙ ap (told_with ((local_of a).answers ++ answer ∷ []) (suc a.events)) (place_then place)
+    answered_view empty place =
+        ap (λ answers. told_with answers (a.events + 1) (place_of p a.waited)) answers_then
+        ∙ ap (λ n. told_with ((local_of a).answers ++ answer ∷ []) n (place_of p a.waited)) (add-one a.events)
+        ∙ ap (told_with ((local_of a).answers ++ answer ∷ []) (suc a.events)) (empty_handed p a.waited empty ∙ place_then place)
         ∙ ap (λ o. answered_of (local_of a) o (λ (x : Call). record { call = x; reply = reply; made = made_of m; own_event = suc a.events })) (sym (ap (slice_get a.calls) (count_is a is) ∙ at))
 
 pub more_to_answer : (a : Inside) (l : Local) → IsOrderly a → local_of a ≡ l → length l.answers < length l.calls → length a.book.rows < length a.calls
@@ -140,13 +175,13 @@ no_answers [] made = refl
 no_answers (call ∷ calls) made = refl
 
 -- a caller before its first call
-pub started_view : (config : Config) (caller : ℕ) (opening : Arc (List Code) Global) (calls : List Call) (book : BookRows) (made : Vec Made Global) (p : Place)
-    → book ≡ record { caller = caller; rows = []; spare = length calls } → ((opening own : List Answered) → place_of p ≡ begin (setup_of config) opening own (slice_get calls 0))
-    → local_of (record { config = config; caller = caller; opening = opening; calls = calls; book = book; made = made; events = 0; place = p }) ≡ started (setup_of config) (map answer_of (arc_value opening)) caller calls
-started_view config caller opening calls book made p new place =
-    ap (λ (b : BookRows). local_of (record { config = config; caller = caller; opening = opening; calls = calls; book = b; made = made; events = 0; place = p })) new
-    ∙ ap (λ answers. record (started (setup_of config) (map answer_of (arc_value opening)) caller calls) { answers = answers; place = place_of p }) (no_answers calls made.items)
-    ∙ ap (λ q. record (started (setup_of config) (map answer_of (arc_value opening)) caller calls) { place = q }) (place (map answer_of (arc_value opening)) [])
+pub started_view : (config : Config) (caller : ℕ) (opening : Arc (List Code) Global) (calls : List Call) (book : BookRows) (made : Vec Made Global) (p : Place) (waited : List Span)
+    → book ≡ record { caller = caller; rows = []; spare = length calls } → HasNoWaited p → IsPlacedFor config (arc_value opening) [] calls 0 p
+    → local_of (record { config = config; caller = caller; opening = opening; calls = calls; book = book; made = made; events = 0; place = p; waited = waited }) ≡ started (setup_of config) (map answer_of (arc_value opening)) caller calls
+started_view config caller opening calls book made p waited new empty place =
+    ap (λ (b : BookRows). local_of (record { config = config; caller = caller; opening = opening; calls = calls; book = b; made = made; events = 0; place = p; waited = waited })) new
+    ∙ ap (λ answers. record (started (setup_of config) (map answer_of (arc_value opening)) caller calls) { answers = answers; place = place_of p waited }) (no_answers calls made.items)
+    ∙ ap (λ q. record (started (setup_of config) (map answer_of (arc_value opening)) caller calls) { place = q }) (empty_handed p waited empty ∙ place [] refl)
 
 -- what was noted of the answers is the book
 pub noted_again : (calls : List Call) (rows : List Noted) (made : List Made) → length made ≡ length rows → length rows ≤ length calls → map note_of (answers_with calls rows made) ≡ rows
@@ -182,3 +217,19 @@ pub told_more : (items : List Code) (x : Code) (items' : List Code) (answers : L
     → map answer_of items' ≡ take (i + 1) answers
 told_more items x items' answers i pushed told at =
     ap (map answer_of) pushed ∙ map-append answer_of items (x ∷ []) ∙ ap (λ xs. xs ++ answer_of x ∷ []) told ∙ sym (take_one answers i (answer_of x) at) ∙ ap (λ n. take n answers) (sym (add-one i))
+
+-- what a call made, of the opening's answers and of the caller's own calls
+pub made_by_opening : (opening : List Code) (i : ℕ) → made_in (slice_get (map answer_of opening) i) ≡ made_or (option_map (λ (a : Code). made_of a.made) (slice_get opening i))
+made_by_opening opening i = ap made_in (slice_get-map answer_of opening i) ∙ by (slice_get opening i)
+  where
+    by : (o : Option Code) → made_in (option_map answer_of o) ≡ made_or (option_map (λ (a : Code). made_of a.made) o)
+    by None = refl
+    by (Some a) = refl
+
+pub made_by_own : (own : List Made) (answers : List Answered) (i : ℕ) → MadeBy own answers → made_in (slice_get answers i) ≡ made_or (option_map made_of (slice_get own i))
+made_by_own own answers i is =
+    by (slice_get answers i) ∙ ap made_or (sym (slice_get-map (λ (a : Answered). a.made) answers i) ∙ ap (λ xs. slice_get xs i) (sym is) ∙ slice_get-map made_of own i)
+  where
+    by : (o : Option Answered) → made_in o ≡ made_or (option_map (λ (a : Answered). a.made) o)
+    by None = refl
+    by (Some a) = refl

@@ -1,10 +1,10 @@
 -- The sections over the free blocks, by the pages that are taken.
 use Rattle.std.proofs.Common.{zero, suc, All, arith, ◌+◌, ◌≤◌, option_map, ◌≡◌, ℕ, Bool, true, false, not, List, [], ◌∷◌, length, Option, Some, None, refl, ap, sym, ◌∙◌}
 use Rattle.vm_model.specs.declared.areas.Span.{Span}
-use Rattle.vm_model.specs.Space.{end_of, span, holds, paint, lowest, runs}
+use Rattle.vm_model.specs.Space.{end_of, span, holds, covers, paint, lowest, runs}
 use Rattle.vm_model.specs.PlainMap.{PlainMap, Mark, Free, Held, is_free, taken}
-use Rattle.vm_model.specs.Events.{ForPages, Carve, NoHole, Drop}
-use Rattle.vm_model.specs.Places.{Place, AskSearch, Dropping, ask}
+use Rattle.vm_model.specs.Events.{ForPages, Carve, NoHole, Drop, Return}
+use Rattle.vm_model.specs.Places.{Place, Then, AskSearch, Dropping, PurgeReturning, ask}
 use Rattle.vm_model.specs.Given.{given, carving}
 use Rattle.vm_model.specs.Next.{Next, next}
 use Rattle.vm_model.specs.History.{Local, moved_to}
@@ -42,6 +42,11 @@ module _ (l : Local) (bits : List Bool) (wide : length bits ≡ l.setup.space) w
       → IsMoved l (FreeRuns (runs bits)) l' (FreeRuns blocks)
   drops s n l' blocks at on local left =
       moved_as l (FreeRuns (runs bits)) (Dropping s) (Drop s) n l' (FreeRuns blocks) at refl on local (ap (λ blocks. FreeRuns blocks) (left ∙ sym (painted (holds s) Free)))
+
+  pub returns_spans : (waited : List Span) (after : Then) (n : Next) (l' : Local) (blocks : List Span) → l.place ≡ PurgeReturning waited after → next l.setup (PurgeReturning waited after) (Return waited) ≡ n → l' ≡ moved_to l n → blocks ≡ runs (paint (covers waited) false bits)
+      → IsMoved l (FreeRuns (runs bits)) l' (FreeRuns blocks)
+  returns_spans waited after n l' blocks at on local left =
+      moved_as l (FreeRuns (runs bits)) (PurgeReturning waited after) (Return waited) n l' (FreeRuns blocks) at refl on local (ap (λ blocks. FreeRuns blocks) (left ∙ sym (painted (covers waited) Free)))
 
 -- what a search that found a span found
 pub chosen : (pages : ℕ) (o : Option ℕ) (found : Option Span) (s : Span) → found ≡ option_map (λ start. span start pages) o → found ≡ Some s → (o ≡ Some s.start) × (s ≡ span s.start pages)

@@ -10,3 +10,4 @@ pub mod Memory
 pub mod PlainWorlds
 pub mod Starts
 pub mod TablesTold
+pub mod Sorted

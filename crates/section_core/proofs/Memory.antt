@@ -1,12 +1,12 @@
--- Memory has as many cells as at first, whatever happens.
+-- Memory has as many cells as at first, and the page map as many pages, whatever happens.
 use Rattle.std.proofs.Common.{◌≡◌, ℕ, ◌+◌, ◌*◌, List, [], ◌∷◌, length, map, slice_index, Option, Some, None, ℤ, pos, refl, ◌∙◌, length-set}
 use Rattle.std.proofs.lemmas.List.{length-replicate}
 use Rattle.vm_model.specs.declared.calls.Call.{Call}
 use Rattle.vm_model.specs.declared.areas.Span.{Span}
-use Rattle.vm_model.specs.Space.{span, holds}
-use Rattle.vm_model.specs.Setup.{Setup}
+use Rattle.vm_model.specs.Space.{span, holds, pages_of}
+use Rattle.vm_model.specs.Setup.{Setup, pages_in_units}
 use Rattle.vm_model.specs.PlainMap.{PlainMap}
-use Rattle.vm_model.specs.Frames.{frame_of, cell_of, write_cell, words_in_page, pages_of_bytes, zero_frame, zero_pages, zero_words}
+use Rattle.vm_model.specs.Frames.{free_frames, frame_of, cell_of, write_cell, words_in_page, pages_of_bytes, zero_frame, zero_pages, zero_words}
 use Rattle.vm_model.specs.Chunks.{copy_at}
 use Rattle.vm_model.specs.Effects.{effect_as}
 use Rattle.vm_model.specs.Events.{Section, Refuse, TakePurge, GivePurge, TakeAlloc, GiveAlloc, Carve, CarveGroups, NoHole, Drop, Return, Settle, Remove, AreaNotLive, Unlink, Wait, TakeWaiting, MapPages, Populate, Fill, NoFrames, Unmap, Depopulate, Flush, Zero, AddWord, SumWords, PlaceObject, NoPlace, AddChunk, PlaceAtomic, NoAtomic, SettleObject, Unplace, FreeObject, ObjectNotLive, Spare, NoSpare, NextPage, Enough, Filled, CutPart, NoPart, AddBlock, SettlePart, BeginUnmap, PartNotLive, Retire, Fragment, Dirty}
@@ -14,6 +14,7 @@ use Rattle.vm_model.specs.History.{World}
 use Rattle.vm_model.specs.LegalHistory.{IsReached}
 use Rattle.vm_model.proofs.PaintRuns.{length-paint}
 use Rattle.map_laws.proofs.Frames.{lasts}
+use Rattle.map_laws.proofs.PlaceMoves.{length-give_frames}
 
 length-write_cell : (cells : List ℤ) (cell : Option ℕ) (value : ℤ) → length (write_cell cells cell value) ≡ length cells
 length-write_cell cells None value = refl
@@ -90,3 +91,17 @@ pub memory_reached : (c : Setup) (opening : List Call) (calls : List (List Call)
 memory_reached c opening calls w reached =
     (lasts c opening calls (λ v. length v.map.cells ≡ 1024 * c.frames) (length-replicate (1024 * c.frames) (pos 0))
     (record { steps = λ v k l s framed h step. effect_cells l.setup v.map l.caller s ∙ h; joins = λ v framed one h over. h }) w reached).1
+
+-- nor the pages of the page map
+effect_frames : (c : Setup) (m : PlainMap) (k : ℕ) (s : Section) → length (effect_as c m k s).frames ≡ length m.frames
+effect_frames c m k (MapPages s) = length-give_frames (pages_of s) (free_frames c m.frames) m.frames
+effect_frames c m k (Populate at missing) = length-give_frames (pages_in_units c at.base missing) (free_frames c m.frames) m.frames
+effect_frames c m k (Fill base page) = length-give_frames (pages_in_units c base (page ∷ [])) (free_frames c m.frames) m.frames
+effect_frames c m k (Unmap s) = length-paint _ None m.frames
+effect_frames c m k (Depopulate base pages) = length-paint _ None m.frames
+effect_frames c m k _ = refl
+
+pub pages_reached : (c : Setup) (opening : List Call) (calls : List (List Call)) (w : World) → IsReached c opening calls w → length w.map.frames ≡ c.space
+pages_reached c opening calls w reached =
+    (lasts c opening calls (λ v. length v.map.frames ≡ c.space) (length-replicate c.space None)
+    (record { steps = λ v k l s framed h step. effect_frames l.setup v.map l.caller s ∙ h; joins = λ v framed one h over. h }) w reached).1

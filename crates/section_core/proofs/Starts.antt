@@ -3,16 +3,15 @@ use Rattle.std.proofs.Common.{slice_index_or, ◌≡◌, ℕ, zero, suc, ◌+◌
 use Rattle.std.proofs.lemmas.Option.{slice_get_read}
 use Rattle.std.proofs.lemmas.List.Sums.{sum_by-cons}
 use Rattle.vm_model.specs.declared.calls.Call.{Call}
-use Rattle.vm_model.specs.declared.calls.Call.TheVariants.{Vmalloc}
+use Rattle.vm_model.specs.declared.calls.Call.TheVariants.{Vmalloc, Vfree}
 use Rattle.vm_model.specs.Space.{runs}
 use Rattle.vm_model.specs.Setup.{Setup}
 use Rattle.vm_model.specs.PlainMap.{Free, is_free, at_first}
 use Rattle.vm_model.specs.Calls.{Answered, can_place}
 use Rattle.vm_model.specs.History.{World, Local, started, placing_calls, opening_world, callers_from, opening_answers, finish, most_events}
 use Rattle.vm_model.specs.Parts.{Region, regions_of}
-use Rattle.vm_model.specs.Rules.{IsVmallocCall}
 use Rattle.map_laws.proofs.ReachedSteps.{steps_reached}
-use Rattle.section_core.specs.Locals.{AreVmalloc}
+use Rattle.section_core.specs.Locals.{AreBuilt, IsBuiltCall}
 use Rattle.section_core.specs.Kernels.{KernelState, IsStanding, CanStart, CanJoin, start_of, opening_of, callers_of}
 
 map-replicate : {X Y : Type 0} (f : X → Y) (n : ℕ) (x : X) → map f (replicate n x) ≡ replicate n (f x)
@@ -24,15 +23,16 @@ pub free_at_first : (n : ℕ) → runs (map (λ mark. not (is_free mark)) (repli
 free_at_first n = ap runs (map-replicate (λ mark. not (is_free mark)) n Free)
 
 -- calls of the built words place no object
-not_placing : (call : Call) → IsVmallocCall (Some call) → can_place call ≡ false
+not_placing : (call : Call) → IsBuiltCall call → can_place call ≡ false
 not_placing (Vmalloc bytes align) is = refl
+not_placing (Vfree target) is = refl
 not_placing _ is = absurd is
 
-none_placing : (calls : List Call) → AreVmalloc calls → count_by can_place calls ≡ 0
+none_placing : (calls : List Call) → AreBuilt calls → count_by can_place calls ≡ 0
 none_placing [] is = refl
 none_placing (call ∷ calls) is = sum_by-cons (λ x. cond (can_place x) 1 0) call calls ∙ ap (λ b. cond b 1 0 + count_by can_place calls) (not_placing call (is 0 call refl)) ∙ (let rest = none_placing calls (λ i x h. is (suc i) x h) in omega arith)
 
-pub no_room : (sections : List (List Call)) → ((k : ℕ) (own : List Call) → slice_get sections k ≡ Some own → AreVmalloc own) → placing_calls sections ≡ 0
+pub no_room : (sections : List (List Call)) → ((k : ℕ) (own : List Call) → slice_get sections k ≡ Some own → AreBuilt own) → placing_calls sections ≡ 0
 no_room [] is = refl
 no_room (own ∷ sections) is =
     sum_by-cons (λ calls. count_by can_place calls) own sections ∙ (let first = none_placing own (is 0 own refl) in let rest = no_room sections (λ k x h. is (suc k) x h) in omega arith)

@@ -34,7 +34,7 @@ use Rattle.vm_model.specs.Space.{sort_by, longest_of, count_from}
 use Rattle.vm_model.specs.Config.{setup_of}
 use Rattle.vm_model.specs.PlainMap.{PlainMap, free_runs}
 use Rattle.vm_model.specs.Frames.{free_frames, is_used}
-use Rattle.vm_model.specs.Parts.{Region, FreeRuns, LiveAreas, Pages, regions_of}
+use Rattle.vm_model.specs.Parts.{Region, FreeRuns, LiveAreas, WaitingSpans, Pages, regions_of}
 use Rattle.vm_model.specs.Tables.{block_row, part_rows, chunk_row, object_rows, hint_rows, tables_of}
 use Rattle.vm_model.specs.Tables.{chunk_audit as chunk_audit_of}
 
@@ -97,12 +97,12 @@ same_tables t u e0 e1 e2 e3 e4 e5 e6 e7 e8 e9 e10 e11 e12 e13 e14 e15 e16 =
 -- the tables of a world of the built words, from what its regions tell
 pub tables_told : (config : Config) (opening : List Call) (calls : List (List Call)) (w : World) (t : Tables) → IsRunning (setup_of config) opening calls w → t.entries ≡ entries_of w.events w.locals → t.events ≡ length w.events
     → t.frames ≡ length (free_frames (setup_of config) w.map.frames) → t.mapped ≡ count_by is_some w.map.frames → t.stale ≡ count_by (λ b. b) w.map.stale → t.free ≡ free_runs w.map → t.areas ≡ w.map.areas
-    → t.waiting ≡ [] → t.blocks ≡ [] → t.parts ≡ [] → t.chunks ≡ [] → t.objects ≡ [] → t.tree_blocks ≡ length (free_runs w.map) → t.tree_largest ≡ (longest_of (free_runs w.map)).pages → t.plain_largest ≡ (longest_of (free_runs w.map)).pages
+    → t.waiting ≡ sort_by (λ (s : Span). s.start) w.map.waiting → t.blocks ≡ [] → t.parts ≡ [] → t.chunks ≡ [] → t.objects ≡ [] → t.tree_blocks ≡ length (free_runs w.map) → t.tree_largest ≡ (longest_of (free_runs w.map)).pages → t.plain_largest ≡ (longest_of (free_runs w.map)).pages
     → t.chunk_audit ≡ [] → t.hints ≡ [] → t ≡ tables_of (setup_of config) w
 tables_told config opening calls w t is entries events frames mapped stale free areas waiting blocks parts chunks objects tree_blocks tree_largest plain_largest chunk_audit hints =
     let empty = (plain_world (setup_of config) opening calls w is).empty in
     same_tables t (tables_of (setup_of config) w) entries events frames mapped stale free areas
-    (waiting ∙ ap (sort_by (λ (s : Span). s.start)) (sym empty.waiting))
+    waiting
     (blocks ∙ ap (λ bs. sort_by (λ (b : BlockRow). b.start) (map (block_row (setup_of config)) bs)) (sym empty.blocks))
     (parts ∙ ap (λ bs. sort_by (λ (p : PartRow). p.span.start) (flat_map part_rows bs)) (sym empty.blocks))
     (chunks ∙ ap (map (chunk_row (setup_of config))) (sym empty.chunks))
@@ -132,6 +132,13 @@ areas_held _ = []
 
 pub areas_are : (c : Setup) (m : PlainMap) (r : Region) (areas : List Area) (next : ℕ) → slice_get (regions_of c m) 4 ≡ Some r → r ≡ LiveAreas areas next → areas ≡ m.areas
 areas_are c m r areas next at is = let same : LiveAreas areas next ≡ LiveAreas m.areas m.next_area = (let both : Some (LiveAreas m.areas m.next_area) ≡ Some (LiveAreas areas next) = at ∙ ap (λ r. Some r) is in cc) in ap areas_held same
+
+abbrev waiting_held : Region → List Span
+waiting_held (WaitingSpans spans) = spans
+waiting_held _ = []
+
+pub waiting_is : (c : Setup) (m : PlainMap) (r : Region) (spans : List Span) → slice_get (regions_of c m) 5 ≡ Some r → r ≡ WaitingSpans spans → spans ≡ m.waiting
+waiting_is c m r spans at is = let same : WaitingSpans spans ≡ WaitingSpans m.waiting = (let both : Some (WaitingSpans m.waiting) ≡ Some (WaitingSpans spans) = at ∙ ap (λ r. Some r) is in cc) in ap waiting_held same
 
 -- the free frames of the page map are those of the world
 pub free_count : (c : Setup) (opening : List Call) (calls : List (List Call)) (w : World) → IsRunning c opening calls w → length (pool.free_of (record { frames = w.map.frames; stale = w.map.stale; cells = w.map.cells })) ≡ length (free_frames c w.map.frames)

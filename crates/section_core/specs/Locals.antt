@@ -13,7 +13,7 @@ use Rattle.section_core.specs.declared.answers.Answered.{Answered}
 use Rattle.section_core.specs.declared.place.Place.{Place}
 use Rattle.section_core.specs.declared.place.Place.TheVariants.{Over}
 use Rattle.section_core.specs.declared.local.Local.TheInside.{Inside}
-use Rattle.section_core.specs.Places.{place_of, made_of, IsSized}
+use Rattle.section_core.specs.Places.{place_of, made_of, IsSized, IsWhole}
 
 -- an answer of the opening, as all callers share it
 abbrev pub answer_of : Answered → model.Answered
@@ -72,4 +72,5 @@ pub record IsOrderly (a : Inside) : Type 0 where
   pub own : a.book.caller ≡ a.caller
   pub noted : All (λ (n : Noted). n.own_event ≤ a.events) a.book.rows
   pub sized : IsSized a.place
+  pub whole : IsWhole (place_of a.place a.waited)
   pub at_hand : HasCall a.place (length a.book.rows) a.calls

@@ -1,9 +1,10 @@
 -- The code's places as those of the definitions.
-use Rattle.std.specs.Prelude.{◌≡◌, ◌≤◌, List, [], ◌∷◌, None}
+use Rattle.std.specs.Prelude.{◌≡◌, ◌≤◌, All, List, [], ◌∷◌, Some, None}
 use Rattle.vm_model.specs.declared.areas.Span.{Span}
 use Rattle.vm_model.specs.declared.areas.AreaKind.TheVariants as kind
 use Rattle.vm_model.specs.declared.calls.Reply.TheVariants as reply
-use Rattle.vm_model.specs.Space.{end_of}
+use Rattle.vm_model.specs.Space.{end_of, hull}
+use Rattle.lazy_purge.specs.Waits.{HasPage}
 use Rattle.vm_model.specs.Events.{ForPages}
 use Rattle.vm_model.specs.Places as model
 use Rattle.vm_model.specs.Places.{ForArea, SearchAgain, ReplyWith}
@@ -45,6 +46,17 @@ waited_at (model.PurgeFlushing hull waited after) = waited
 waited_at (model.PurgeReturning waited after) = waited
 waited_at _ = []
 
+-- what a caller carries there is whole: each span has a page, and it flushes the hull of what waited
+abbrev pub IsWhole : model.Place → Type 0
+IsWhole (model.MappingArea s k) = 1 ≤ s.pages
+IsWhole (model.Dropping s) = 1 ≤ s.pages
+IsWhole (model.SettlingArea s k) = 1 ≤ s.pages
+IsWhole (model.UnmappingArea a) = 1 ≤ a.span.pages
+IsWhole (model.Waiting spans after) = All HasPage spans
+IsWhole (model.PurgeFlushing s waited after) = (hull waited ≡ Some s) × All HasPage waited
+IsWhole (model.PurgeReturning waited after) = All HasPage waited
+IsWhole _ = Unit {0}
+
 -- a place at which no span is flushed or returned
 abbrev pub HasNoWaited : Place → Type 0
 HasNoWaited (PurgeFlushing hull after) = ⊥
@@ -56,10 +68,6 @@ pub record IsSearch (s : Search) : Type 0 where
   pub pages : 1 ≤ s.pages
   pub align : 1 ≤ s.align
 
-pub record IsSpan (s : Span) : Type 0 where
-  pub pages : 1 ≤ s.pages
-  pub ends : end_of s ≤ 1048576
-
 abbrev pub IsSizedAfter : After → Type 0
 IsSizedAfter (then.Search s) = IsSearch s
 IsSizedAfter (then.Reply r) = Unit {0}
@@ -67,11 +75,9 @@ IsSizedAfter (then.Reply r) = Unit {0}
 abbrev pub IsSized : Place → Type 0
 IsSized (Finding s) = IsSearch s
 IsSized (FindingAgain s) = IsSearch s
-IsSized (MappingArea s) = IsSpan s
-IsSized (Dropping s) = IsSpan s
-IsSized (SettlingArea s) = IsSpan s
-IsSized (UnmappingArea area) = (area.kind ≡ kind.Vmalloc) × IsSpan area.span
-IsSized (Waiting s) = IsSpan s
+IsSized (MappingArea s) = (1 ≤ s.pages) × (end_of s ≤ 1048576)
+IsSized (Dropping s) = (1 ≤ s.pages) × (end_of s ≤ 1048576)
+IsSized (SettlingArea s) = (1 ≤ s.pages) × (end_of s ≤ 1048576)
 IsSized (PurgeTaking after) = IsSizedAfter after
 IsSized (PurgeFragmenting after) = IsSizedAfter after
 IsSized (PurgeCollecting after) = IsSizedAfter after

@@ -1,7 +1,7 @@
 -- What a section over one region answers and leaves.
-use Rattle.std.specs.Prelude.{◌+◌, ◌-◌, ◌<◌, ◌≤◌, ◌≡◌, ◌^◌, ◌++◌, ℕ, Bool, true, false, All, List, length}
+use Rattle.std.specs.Prelude.{◌+◌, ◌-◌, ◌≤◌, ◌≡◌, ◌++◌, ℕ, Bool, true, false, All, List, length}
 use Rattle.vm_model.specs.declared.areas.Span.{Span}
-use Rattle.vm_model.specs.Space.{span, end_of, holds, covers, runs, times, sum_of_pages}
+use Rattle.vm_model.specs.Space.{span, end_of, holds, covers, runs, times}
 use Rattle.vm_model.specs.Setup.{Setup}
 use Rattle.vm_model.specs.Places.{Place, MappingArea, SettlingArea, Dropping, UnmappingArea, Waiting, PurgeFlushing, PurgeReturning, Ask, AskSearch, AskDrop, AskReturn, AskSettle, AskWait, AskAddChunk, AskAddBlock, AskFragment}
 use Rattle.vm_model.specs.History.{Local}
@@ -9,8 +9,8 @@ use Rattle.vm_model.specs.Parts.{Region, moves, after}
 use Rattle.vm_model.specs.declared.areas.Area.{Area}
 use Rattle.busy_areas.specs.Kept.{IsUnused}
 use Rattle.page_pool.specs.Pages.{Pages, IsBare, IsMapped}
-use Rattle.vm_model.specs.declared.areas.AreaKind.TheVariants as kind
-use Rattle.section_core.specs.Places.{IsSpan}
+use Rattle.vm_model.specs.Areas.{mapped_part}
+use Rattle.lazy_purge.specs.Waits.{HasEnd}
 use Rattle.section_core.specs.declared.region.Stepped.{Stepped}
 use Rattle.section_core.specs.declared.region.Stepped.TheVariants.{Moved, Stays, Ended}
 
@@ -64,13 +64,13 @@ abbrev pub IsMappedWell : Place → Pages → Type 0
 IsMappedWell (MappingArea s k) p = IsMappable s p
 IsMappedWell _ p = Unit {0}
 
--- the pages of a freed area but for its guard are mapped
+-- what is unmapped of a freed area is mapped
 pub record IsUnmappable (s : Span) (p : Pages) : Type 0 where
-  pub inside : s.start + (s.pages - 1) ≤ length p.frames
-  pub mapped : (page : ℕ) → holds (span s.start (s.pages - 1)) page ≡ true → IsMapped p page
+  pub inside : end_of s ≤ length p.frames
+  pub mapped : (page : ℕ) → holds s page ≡ true → IsMapped p page
 
 abbrev pub IsUnmappedWell : Place → Pages → Type 0
-IsUnmappedWell (UnmappingArea a) p = IsUnmappable a.span p
+IsUnmappedWell (UnmappingArea a) p = IsUnmappable (mapped_part a.kind a.span) p
 IsUnmappedWell _ p = Unit {0}
 
 -- what is flushed lies in the space
@@ -78,13 +78,8 @@ abbrev pub IsFlushedWell : Place → Pages → Type 0
 IsFlushedWell (PurgeFlushing hull waited after) p = end_of hull ≤ length p.frames
 IsFlushedWell _ p = Unit {0}
 
--- each live area is a vmalloc area, with a page at least, in the largest space
-abbrev pub AreSpans : List Area → Type 0
-AreSpans areas = All (λ (a : Area). (a.kind ≡ kind.Vmalloc) × IsSpan a.span) areas
-
 -- no page is twice among what is returned, none of them is free, and all lie in the space
 pub record AreReturnable (c : Setup) (spans : List Span) (blocks : List Span) : Type 0 where
-  pub pages : All (λ (s : Span). 1 ≤ s.pages) spans
   pub within : All (λ (s : Span). end_of s ≤ c.space) spans
   pub disjoint : (page : ℕ) → times page spans ≤ 1
   pub taken : (page : ℕ) → covers spans page ≡ true → covers blocks page ≡ false
@@ -93,12 +88,13 @@ abbrev pub AreReturnedWell : Setup → Place → List Span → Type 0
 AreReturnedWell c (PurgeReturning waited after) blocks = AreReturnable c waited blocks
 AreReturnedWell c _ blocks = Unit {0}
 
--- so many pages may wait
-abbrev pub HaveFewPages : List Span → Type 0
-HaveFewPages spans = sum_of_pages spans < 2 ^ 32
+-- spans of the largest space, which share no page with each other or with those that wait
+pub record CanWait (spans waiting : List Span) : Type 0 where
+  pub ends : All HasEnd spans
+  pub disjoint : (page : ℕ) → times page (waiting ++ spans) ≤ 1
 
 abbrev pub IsWaitingWell : Place → List Span → Type 0
-IsWaitingWell (Waiting spans after) waiting = HaveFewPages (waiting ++ spans)
+IsWaitingWell (Waiting spans after) waiting = CanWait spans waiting
 IsWaitingWell _ waiting = Unit {0}
 
 -- no live area has a page of what is settled

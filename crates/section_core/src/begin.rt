@@ -3,7 +3,7 @@ ghost use Rattle.std.specs.Prelude.{◌≡◌, ◌≤◌, ◌^◌, List, [], len
 ghost use Rattle.vm_model.specs.Config.{setup_of};
 ghost use Rattle.vm_model.specs.Calls as model;
 ghost use Rattle.vm_model.specs.Calls.{align_pages, is_power_to, begin_vmalloc, begin_free_area, begin, target_of};
-ghost use Rattle.section_core.specs.Places.{place_of, made_of, IsSized, HasNoWaited};
+ghost use Rattle.section_core.specs.Places.{place_of, made_of, IsSized, IsWhole, HasNoWaited};
 ghost use Rattle.section_core.specs.Locals.{AreBuilt, HasCall, MadeBy, answer_of};
 
 use crate::answers::{Answered, Made};
@@ -38,6 +38,7 @@ fn vmalloc_place(config: &Config, bytes: u64, align: u64) -> Place
     ensures place { place_of result [] ≡ begin_vmalloc (setup_of config.now) bytes align }
     ensures sized { IsSized result }
     ensures empty_handed { HasNoWaited result }
+    ensures whole { IsWhole (place_of result []) }
 {
     let pages = bytes.div_ceil(PAGE);
     if bytes == 0 || (config.space as u64) < pages {
@@ -57,12 +58,16 @@ fn made_by(opening: &[Answered], own: &[Made], target: Target) -> Made
     ensures { (answers : List model.Answered) → MadeBy own.now answers → made_of result ≡ target_of (map answer_of opening.now) answers target }
 {
     let index = (target.call as usize).saturating_sub(1);
-    let made = if target.opening {
-        opening.get(index).map(|answered| answered.made)
-    } else {
-        own.get(index).copied()
-    };
-    made.unwrap_or(Made::Nothing)
+    if target.opening {
+        return match opening.get(index) {
+            Some(answered) => answered.made,
+            None => Made::Nothing,
+        };
+    }
+    match own.get(index) {
+        Some(made) => *made,
+        None => Made::Nothing,
+    }
 }
 
 /// Where a `vfree` begins: at the area that its target's call made, if that made one.
@@ -70,6 +75,7 @@ fn vfree_place(opening: &[Answered], own: &[Made], target: Target) -> Place
     ensures place { (answers : List model.Answered) → MadeBy own.now answers → place_of result [] ≡ begin_free_area (target_of (map answer_of opening.now) answers target) }
     ensures sized { IsSized result }
     ensures empty_handed { HasNoWaited result }
+    ensures whole { IsWhole (place_of result []) }
 {
     match made_by(opening, own, target) {
         Made::Area { start, serial } => Place::Removing { start, serial },
@@ -90,6 +96,7 @@ pub(crate) fn place_before(
     ensures place { (answers : List model.Answered) → MadeBy own.now answers → place_of result [] ≡ begin (setup_of config.now) (map answer_of opening.now) answers (slice_get calls.now index) }
     ensures sized { IsSized result }
     ensures empty_handed { HasNoWaited result }
+    ensures whole { IsWhole (place_of result []) }
     ensures at_hand { HasCall result index calls.now }
 {
     let Some(call) = calls.get(index) else {

@@ -6,7 +6,7 @@ ghost use Rattle.vm_model.specs.Places as model;
 ghost use Rattle.vm_model.specs.Places.{ask};
 ghost use Rattle.vm_model.specs.Parts.{LiveAreas, wants};
 ghost use Rattle.busy_areas.specs.Kept.{IsUnused};
-ghost use Rattle.section_core.specs.Sections.{IsMoved, TakesMemory, IsSettledWell, AreSpans};
+ghost use Rattle.section_core.specs.Sections.{IsMoved, TakesMemory, IsSettledWell};
 
 use crate::answers::Made;
 use crate::local::Local;
@@ -44,7 +44,6 @@ fn settle(local: &mut Local, busy: &mut BusySide, span: Span) -> Result<(), Allo
 /// Takes out the area that is freed, unless it isn't live any more.
 fn remove(local: &mut Local, busy: &mut BusySide, start: u32, serial: u32)
     requires place { local.old.place ≡ model.Removing start serial }
-    requires sized { AreSpans busy.old.areas }
     requires at_hand { length local.old.answers < length local.old.calls }
     requires events { local.old.events + 1 < 2 ^ 32 }
     ensures { IsMoved local.old (LiveAreas busy.old.areas busy.old.next) local.new (LiveAreas busy.new.areas busy.new.next) }
@@ -59,7 +58,6 @@ fn remove(local: &mut Local, busy: &mut BusySide, start: u32, serial: u32)
 pub(crate) fn at_busy(local: &mut Local, busy: &mut BusySide) -> Result<(), AllocError>
     requires wants { wants local.old ≡ Some 4 }
     requires settled { IsSettledWell local.old.place busy.old.areas }
-    requires sized { AreSpans busy.old.areas }
     requires events { local.old.events + 1 < 2 ^ 32 }
     ensures ok { OnOk result (IsMoved local.old (LiveAreas busy.old.areas busy.old.next) local.new (LiveAreas busy.new.areas busy.new.next)) }
     ensures memory { OnErr result (TakesMemory (ask local.old.setup local.old.place)) }

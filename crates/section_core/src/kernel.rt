@@ -1,5 +1,5 @@
 //! The kernel: all regions and all callers, one step after another.
-ghost use Rattle.std.specs.Prelude.{◌∷◌, ◌≡◌, ◌≢◌, ◌<◌, ◌≤◌, ℕ, List, All, Some, length, take, slice_get, IfOk, IfSome, OnOk, OnErr};
+ghost use Rattle.std.specs.Prelude.{◌∷◌, ◌≡◌, ◌≢◌, ◌<◌, ◌≤◌, ℕ, List, All, Some, length, take, slice_get, reverse, IfOk, IfSome, OnOk, OnErr};
 ghost use Rattle.vm_model.specs.declared.calls.Call.{Call};
 ghost use Rattle.vm_model.specs.Setup.{Setup};
 ghost use Rattle.vm_model.specs.Space.{sort_by};
@@ -242,11 +242,18 @@ fn free_blocks(alloc: Global, free: &FreeSide) -> Result<Vec<Span>, AllocError>
     Ok(spans)
 }
 
+/// The spans that wait, the latest first.
+fn latest_first(alloc: Global, lazy: &LazySide) -> Result<Vec<Span>, AllocError>
+    ensures { IfOk result (λ spans. spans.items ≡ reverse lazy.now) }
+{
+    lazy.spans().iter().rev().copied().collect(alloc)
+}
+
 /// The spans that wait by rising start.
 fn waiting_spans(alloc: Global, lazy: &LazySide) -> Result<Vec<Span>, AllocError>
     ensures { IfOk result (λ spans. spans.items ≡ sort_by (λ (s : Span). s.start) lazy.now) }
 {
-    let mut spans: Vec<Span> = lazy.spans().iter().copied().collect(alloc)?;
+    let mut spans = latest_first(alloc, lazy)?;
     spans.sort_by_key(|span| span.start)?;
     Ok(spans)
 }

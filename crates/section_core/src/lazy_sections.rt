@@ -1,11 +1,10 @@
 //! The sections over the spans that wait.
-ghost use Rattle.std.specs.Prelude.{◌≡◌, ◌<◌, ◌≤◌, ◌+◌, ◌^◌, ℕ, length, Some, OnOk, OnErr};
+ghost use Rattle.std.specs.Prelude.{◌≡◌, [], ◌∷◌, ◌<◌, ◌≤◌, ◌+◌, ◌^◌, ℕ, length, Some, OnOk, OnErr};
 ghost use Rattle.vm_model.specs.declared.calls.Reply.TheVariants as reply;
 ghost use Rattle.vm_model.specs.Places as model;
 ghost use Rattle.vm_model.specs.Places.{ReplyWith, ask};
 ghost use Rattle.vm_model.specs.Parts.{WaitingSpans, wants};
-ghost use Rattle.section_core.specs.Places.{IsSpan};
-ghost use Rattle.section_core.specs.Sections.{IsMoved, TakesMemory, HaveFewPages, IsWaitingWell};
+ghost use Rattle.section_core.specs.Sections.{IsMoved, TakesMemory, CanWait, IsWaitingWell};
 
 use crate::answers::Made;
 use crate::local::Local;
@@ -18,8 +17,8 @@ use vm_model::{Reply, Span};
 /// a purge before it is answered.
 fn wait(local: &mut Local, lazy: &mut LazySide, span: Span) -> Result<(), AllocError>
     requires place { local.old.place ≡ model.Waiting (span ∷ []) (ReplyWith reply.Done) }
-    requires span { IsSpan span }
-    requires few { HaveFewPages (lazy.old ++ span ∷ []) }
+    requires page { 1 ≤ span.pages }
+    requires can_wait { CanWait (span ∷ []) lazy.old }
     requires at_hand { length local.old.answers < length local.old.calls }
     requires events { local.old.events + 1 < 2 ^ 32 }
     ensures ok { OnOk result (IsMoved local.old (WaitingSpans lazy.old) local.new (WaitingSpans lazy.new)) }
@@ -37,7 +36,7 @@ fn wait(local: &mut Local, lazy: &mut LazySide, span: Span) -> Result<(), AllocE
 /// The section of a caller that wants the spans that wait.
 pub(crate) fn at_lazy(local: &mut Local, lazy: &mut LazySide) -> Result<(), AllocError>
     requires wants { wants local.old ≡ Some 5 }
-    requires few { IsWaitingWell local.old.place lazy.old }
+    requires can_wait { IsWaitingWell local.old.place lazy.old }
     requires events { local.old.events + 1 < 2 ^ 32 }
     ensures ok { OnOk result (IsMoved local.old (WaitingSpans lazy.old) local.new (WaitingSpans lazy.new)) }
     ensures memory { OnErr result (TakesMemory (ask local.old.setup local.old.place)) }

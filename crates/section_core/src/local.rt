@@ -9,9 +9,10 @@ ghost use Rattle.vm_model.specs.Parts.{wants};
 ghost use Rattle.history_book.specs.declared.noted.Noted.{Noted};
 ghost use Rattle.history_book.specs.Entries.{note_of};
 ghost use Rattle.vm_model.specs.Space.{hull};
+ghost use Rattle.lazy_purge.specs.Waits.{HasPage};
 ghost use Rattle.vm_model.specs.Places as model;
 ghost use Rattle.vm_model.specs.Places.{Then};
-ghost use Rattle.section_core.specs.Places.{place_of, then_of, made_of, waited_at, IsSized, IsSizedAfter, HasNoWaited};
+ghost use Rattle.section_core.specs.Places.{place_of, then_of, made_of, waited_at, IsSized, IsWhole, IsSizedAfter, HasNoWaited};
 ghost use Rattle.section_core.specs.Locals.{answer_of, answers_with, AreBuilt, HasCall, IsPlain};
 
 use crate::answers::{AnswerList, Answered, Made};
@@ -83,6 +84,7 @@ impl Local {
     pub(crate) fn place(&self) -> Place
         ensures place { self.now.place ≡ place_of result (waited_at self.now.place) }
         ensures sized { IsSized result }
+        ensures whole { IsWhole self.now.place }
         ensures at_hand { HasCall result (length self.now.answers) self.now.calls }
         ensures setup { IsPlain self.now.setup }
     {
@@ -99,7 +101,8 @@ impl Local {
     /// The spans that its purge has flushed and returns.
     pub(crate) fn waited(&self) -> &[Span]
         requires { (after : Then) × (self.now.place ≡ model.PurgeReturning (waited_at self.now.place) after) }
-        ensures { result.now ≡ waited_at self.now.place }
+        ensures spans { result.now ≡ waited_at self.now.place }
+        ensures some { All HasPage result.now }
     {
         self.waited.spans()
     }
@@ -108,6 +111,7 @@ impl Local {
     pub(crate) fn go(&mut self, place: Place)
         requires empty_handed { HasNoWaited place }
         requires sized { IsSized place }
+        requires whole { IsWhole (place_of place []) }
         requires at_hand { HasCall place (length self.old.answers) self.old.calls }
         requires events { self.old.events + 1 < 2 ^ 32 }
         ensures { self.new ≡ moved_to self.old (Go (place_of place [])) }
@@ -131,6 +135,7 @@ impl Local {
 
     /// One event more, which collected these spans to flush. Where there are none, only the turn is left to give back.
     pub(crate) fn collect(&mut self, batch: Batch, after: After)
+        requires some { All HasPage batch }
         requires sized { IsSizedAfter after }
         requires at_hand { length self.old.answers < length self.old.calls }
         requires events { self.old.events + 1 < 2 ^ 32 }

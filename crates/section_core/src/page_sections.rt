@@ -3,7 +3,7 @@ ghost use Rattle.std.specs.Prelude.{◌≡◌, ◌<◌, ◌+◌, ◌*◌, ◌≤
 ghost use Rattle.vm_model.specs.declared.areas.AreaKind.TheVariants as kind;
 ghost use Rattle.vm_model.specs.Space.{end_of};
 ghost use Rattle.vm_model.specs.Areas.{mapped_part};
-ghost use Rattle.section_core.specs.Places.{then_of, waited_at, IsSpan, IsSizedAfter};
+ghost use Rattle.section_core.specs.Places.{then_of, waited_at, IsSizedAfter};
 ghost use Rattle.vm_model.specs.Places as model;
 ghost use Rattle.vm_model.specs.Parts as parts;
 ghost use Rattle.vm_model.specs.Parts.{wants};
@@ -12,16 +12,19 @@ ghost use Rattle.section_core.specs.Sections.{IsMoved, IsMappable, IsUnmappable,
 use crate::local::Local;
 use crate::place::{After, Place};
 use page_pool::PageSide;
-use vm_model::{Area, Span};
+use vm_model::{Area, AreaKind, Span};
 
-/// The pages of an area before its guard.
-fn but_guard(span: Span) -> Span
+/// The pages of an area that get frames: those of a `vmalloc` area but for its guard, and all of another.
+fn mapped_part(kind: AreaKind, span: Span) -> Span
     requires { 1 ≤ span.pages }
-    ensures { result ≡ mapped_part kind.Vmalloc span }
+    ensures { result ≡ mapped_part kind span }
 {
-    Span {
-        start: span.start,
-        pages: span.pages - 1,
+    match kind {
+        AreaKind::Vmalloc => Span {
+            start: span.start,
+            pages: span.pages - 1,
+        },
+        _ => span,
     }
 }
 
@@ -36,7 +39,7 @@ fn map_area(local: &mut Local, pages: &mut PageSide, span: Span)
     requires events { local.old.events + 1 < 2 ^ 32 }
     ensures { IsMoved local.old (parts.Pages pages.old.frames pages.old.stale pages.old.cells) local.new (parts.Pages pages.new.frames pages.new.stale pages.new.cells) }
 {
-    match pages.map(but_guard(span)) {
+    match pages.map(mapped_part(AreaKind::Vmalloc, span)) {
         Ok(()) => local.go(Place::SettlingArea(span)),
         Err(_) => local.go(Place::Dropping(span)),
     }
@@ -45,14 +48,13 @@ fn map_area(local: &mut Local, pages: &mut PageSide, span: Span)
 /// Unmaps the pages of a freed area but for its guard.
 fn unmap_area(local: &mut Local, pages: &mut PageSide, area: Area)
     requires place { local.old.place ≡ model.UnmappingArea area }
-    requires vmalloc { area.kind ≡ kind.Vmalloc }
-    requires span { IsSpan area.span }
-    requires mapped { IsUnmappable area.span pages.old }
+    requires page { 1 ≤ area.span.pages }
+    requires mapped { IsUnmappable (mapped_part area.kind area.span) pages.old }
     requires at_hand { length local.old.answers < length local.old.calls }
     requires events { local.old.events + 1 < 2 ^ 32 }
     ensures { IsMoved local.old (parts.Pages pages.old.frames pages.old.stale pages.old.cells) local.new (parts.Pages pages.new.frames pages.new.stale pages.new.cells) }
 {
-    pages.unmap(but_guard(area.span));
+    pages.unmap(mapped_part(area.kind, area.span));
     local.go(Place::Waiting(area.span));
 }
 

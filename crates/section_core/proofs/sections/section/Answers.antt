@@ -3,7 +3,7 @@ use Rattle.vm_model.specs.Run.{StandTogether}
 use Rattle.vm_model.specs.Parts.{wants}
 use Rattle.section_core.specs.Regions.{region_of}
 use Rattle.section_core.specs.Lawful.{IsLawful}
-use Rattle.section_core.proofs.LawfulRegions.{few_more, runs_there, dropped_there, mapped_there, memory_there, settled_there}
+use Rattle.section_core.proofs.LawfulRegions.{few_more, runs_there, dropped_there, returned_there, mapped_there, unmapped_there, flushed_there, memory_there, settled_there, can_wait_there}
 use Rattle.section_core.proofs.sections.section.Goals as goal
 
 pub at_desk-requires-clause-events : goal.at_desk-requires-clause-events
@@ -32,7 +32,7 @@ at_free-requires-clause-runs c =
 pub at_free-requires-clause-dropped : goal.at_free-requires-clause-dropped
 at_free-requires-clause-dropped c =
     let is : region_of c.region.inside.side ≡ c.args.region.now = c.region.view_is in
-    dropped_there c.args.local.now c.in-Free.free.blocks c.place-place.result (subst (StandTogether wants IsLawful c.args.local.now) (sym is ∙ ap region_of c.in-Free.is) c.requires) c.place-place.ensures.sized c.place-place.ensures.place
+    dropped_there c.args.local.now c.in-Free.free.blocks (subst (StandTogether wants IsLawful c.args.local.now) (sym is ∙ ap region_of c.in-Free.is) c.requires) c.place-place.ensures.whole
 
 pub at_pages-requires-clause-events : goal.at_pages-requires-clause-events
 at_pages-requires-clause-events c = few_more c.args.local.now c.args.region.now c.requires
@@ -40,7 +40,7 @@ at_pages-requires-clause-events c = few_more c.args.local.now c.args.region.now 
 pub at_pages-requires-clause-mappable : goal.at_pages-requires-clause-mappable
 at_pages-requires-clause-mappable c =
     let is : region_of c.region.inside.side ≡ c.args.region.now = c.region.view_is in
-    mapped_there c.args.local.now c.in-Pages.pages c.place-place.result (subst (StandTogether wants IsLawful c.args.local.now) (sym is ∙ ap region_of c.in-Pages.is) c.requires) c.place-place.ensures.sized c.place-place.ensures.place
+    mapped_there c.args.local.now c.in-Pages.pages (subst (StandTogether wants IsLawful c.args.local.now) (sym is ∙ ap region_of c.in-Pages.is) c.requires) c.place-place.ensures.whole
 
 pub at_pages-requires-clause-memory : goal.at_pages-requires-clause-memory
 at_pages-requires-clause-memory c =
@@ -50,4 +50,24 @@ at_pages-requires-clause-memory c =
 pub at_busy-requires-clause-settled : goal.at_busy-requires-clause-settled
 at_busy-requires-clause-settled c =
     let is : region_of c.region.inside.side ≡ c.args.region.now = c.region.view_is in
-    settled_there c.args.local.now c.in-Busy.busy.areas c.in-Busy.busy.next c.place-place.result (subst (StandTogether wants IsLawful c.args.local.now) (sym is ∙ ap region_of c.in-Busy.is) c.requires) c.place-place.ensures.place
+    settled_there c.args.local.now c.in-Busy.busy.areas c.in-Busy.busy.next (subst (StandTogether wants IsLawful c.args.local.now) (sym is ∙ ap region_of c.in-Busy.is) c.requires)
+
+pub at_free-requires-clause-returned : goal.at_free-requires-clause-returned
+at_free-requires-clause-returned c =
+    let is : region_of c.region.inside.side ≡ c.args.region.now = c.region.view_is in
+    returned_there c.args.local.now c.in-Free.free.blocks (subst (StandTogether wants IsLawful c.args.local.now) (sym is ∙ ap region_of c.in-Free.is) c.requires) c.place-place.ensures.whole
+
+pub at_pages-requires-clause-unmapped : goal.at_pages-requires-clause-unmapped
+at_pages-requires-clause-unmapped c =
+    let is : region_of c.region.inside.side ≡ c.args.region.now = c.region.view_is in
+    unmapped_there c.args.local.now c.in-Pages.pages (subst (StandTogether wants IsLawful c.args.local.now) (sym is ∙ ap region_of c.in-Pages.is) c.requires) c.place-place.ensures.whole
+
+pub at_pages-requires-clause-flushed : goal.at_pages-requires-clause-flushed
+at_pages-requires-clause-flushed c =
+    let is : region_of c.region.inside.side ≡ c.args.region.now = c.region.view_is in
+    flushed_there c.args.local.now c.in-Pages.pages (subst (StandTogether wants IsLawful c.args.local.now) (sym is ∙ ap region_of c.in-Pages.is) c.requires) c.place-place.ensures.whole
+
+pub at_lazy-requires-clause-can_wait : goal.at_lazy-requires-clause-can_wait
+at_lazy-requires-clause-can_wait c =
+    let is : region_of c.region.inside.side ≡ c.args.region.now = c.region.view_is in
+    can_wait_there c.args.local.now c.in-Lazy.lazy (subst (StandTogether wants IsLawful c.args.local.now) (sym is ∙ ap region_of c.in-Lazy.is) c.requires) c.place-place.ensures.whole

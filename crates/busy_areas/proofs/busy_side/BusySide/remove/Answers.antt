@@ -2,7 +2,7 @@ use Rattle.std.proofs.Common.{◌≡◌, false, ◌==◌, ap, sym, ◌∙◌, ar
 use Rattle.std.proofs.lemmas.Bool.Decides.{nat_tests}
 use Rattle.std.specs.Map.{values_of}
 use Rattle.busy_areas.proofs.Apart.{rows}
-use Rattle.busy_areas.proofs.Named.{named_found, named_other, named_none, kept_without}
+use Rattle.busy_areas.proofs.Named.{named_found, found_page, named_other, named_none, kept_without}
 use Rattle.busy_areas.proofs.busy_side.BusySide.remove.Goals as goal
 
 pub invariant_of-self : goal.invariant_of-self
@@ -12,6 +12,11 @@ pub returns-in-Some-clause-found : goal.returns-in-Some-clause-found
 returns-in-Some-clause-found c =
     rw (c.remove.ensures.value ∙ sym c.in-Some.ensures.value, ← c.self.view_is)
     (named_found 0 c.args.start c.args.serial c.in-Some.area.now c.self.inside.areas.entries c.self.invariant.apart (sym c.in-Some.ensures.value) c.if-area-serial.true).own
+
+pub returns-in-Some-clause-page : goal.returns-in-Some-clause-page
+returns-in-Some-clause-page c =
+    rw (c.remove.ensures.value ∙ sym c.in-Some.ensures.value)
+    (found_page 0 c.args.start c.in-Some.area.now c.self.inside.areas.entries c.self.invariant.apart (sym c.in-Some.ensures.value))
 
 pub returns-in-Some-clause-gone : goal.returns-in-Some-clause-gone
 returns-in-Some-clause-gone c =

@@ -1,10 +1,11 @@
 use Rattle.std.proofs.Common.{◌∙◌, length, ap, arith, count_by, is_some}
-use Rattle.vm_model.specs.Space.{longest_of}
+use Rattle.vm_model.specs.declared.areas.Span.{Span}
+use Rattle.vm_model.specs.Space.{longest_of, sort_by}
 use Rattle.vm_model.specs.Setup.{Setup}
 use Rattle.vm_model.specs.Config.{setup_of}
 use Rattle.page_pool.specs.Pages as pool
 use Rattle.section_core.specs.Kernels.{KernelState}
-use Rattle.section_core.proofs.TablesTold.{tables_told, region_at, all_regions, free_is, pages_are, areas_are, free_count, length-movers}
+use Rattle.section_core.proofs.TablesTold.{tables_told, region_at, all_regions, free_is, pages_are, areas_are, waiting_is, free_count, length-movers}
 use Rattle.section_core.proofs.kernel.Kernel.tables.Goals as goal
 
 pub returns : goal.returns
@@ -15,9 +16,11 @@ returns c = λ config opening calls w st.
     let third = region_at machine opening calls w c.args.self.now c.self.inside.regions.items 3 c.index.result.now st held c.index.ensures (omega arith) in
     let fourth = region_at machine opening calls w c.args.self.now c.self.inside.regions.items 4 c.index-3.result.now st held c.index-3.ensures (omega arith) in
     let sixth = region_at machine opening calls w c.args.self.now c.self.inside.regions.items 6 c.index-2.result.now st held c.index-2.ensures (omega arith) in
+    let fifth = region_at machine opening calls w c.args.self.now c.self.inside.regions.items 5 c.index-4.result.now st held c.index-4.ensures (omega arith) in
     let free = free_is machine w.map c.index.result.now c.free-free.result.now.blocks third c.free-free.ensures in
     let pages = pages_are machine w.map c.index-2.result.now c.pages-pages.result.now sixth c.pages-pages.ensures in
     let areas = areas_are machine w.map c.index-3.result.now c.busy.result.now.areas c.busy.result.now.next fourth c.busy.ensures in
+    let waiting = waiting_is machine w.map c.index-4.result.now c.lazy.result.now fifth c.lazy.ensures in
     let largest = c.largest-largest.ensures ∙ ap (λ runs. (longest_of runs).pages) free in
     tables_told config opening calls w _ st.running
     (c.of.ensures ∙ c.in_ok-entries.ensures machine opening calls w st)
@@ -27,5 +30,5 @@ returns c = λ config opening calls w st.
     (c.stale.ensures ∙ ap (λ (p : pool.Pages). count_by (λ b. b) p.stale) pages)
     (c.of-2.ensures ∙ c.in_ok-free_blocks.ensures ∙ free)
     (c.in_ok-areas.ensures ∙ areas)
-    (c.of-3.ensures ∙ c.new.ensures.items) (c.of-4.ensures ∙ c.new-2.ensures.items) (c.of-5.ensures ∙ c.new-3.ensures.items) (c.of-6.ensures ∙ c.new-4.ensures.items) (c.of-7.ensures ∙ c.new-5.ensures.items)
-    (c.len-2.ensures.count ∙ ap length free) largest largest (c.of-8.ensures ∙ c.new-6.ensures.items) (c.of-9.ensures ∙ c.new-7.ensures.items)
+    (c.of-3.ensures ∙ c.in_ok-waiting_spans.ensures ∙ ap (sort_by (λ (s : Span). s.start)) waiting) (c.of-4.ensures ∙ c.new.ensures.items) (c.of-5.ensures ∙ c.new-2.ensures.items) (c.of-6.ensures ∙ c.new-3.ensures.items) (c.of-7.ensures ∙ c.new-4.ensures.items)
+    (c.len-2.ensures.count ∙ ap length free) largest largest (c.of-8.ensures ∙ c.new-5.ensures.items) (c.of-9.ensures ∙ c.new-6.ensures.items)
