@@ -2,7 +2,7 @@ use Rattle.std.proofs.Common.{◌+◌, arith, refl, sym, ap, ◌∙◌}
 use Rattle.trace_text.specs.Grammar.{is_vmalloc}
 use Rattle.trace_text.proofs.TargetCalls.{number_within}
 use Rattle.trace_text.proofs.VfreeLine.{vfree_stands}
-use Rattle.trace_text.proofs.progress.read_vfree.Goals as goal
+use Rattle.trace_text.proofs.call_lines.read_vfree.Goals as goal
 
 pub overflow_cast-target : goal.overflow_cast-target
 overflow_cast-target c =

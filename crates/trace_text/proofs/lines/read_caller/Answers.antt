@@ -1,7 +1,7 @@
 use Rattle.std.proofs.Common.{arith, refl, ap, ◌∙◌, replicate, ◌-◌, ◌∷◌, ◌++◌, []}
 use Rattle.trace_text.proofs.CallerLine.{caller_refused, caller_stands}
 use Rattle.trace_text.specs.declared.progress.Progress.{Progress}
-use Rattle.trace_text.proofs.progress.read_caller.Goals as goal
+use Rattle.trace_text.proofs.lines.read_caller.Goals as goal
 
 pub returns-then-caller-progress : goal.returns-then-caller-progress
 returns-then-caller-progress c = λ r held. caller_refused c.args.progress.now c.args.progress.now r c.args.field.now c.in-Some.caller held c.in-Some.ensures.some.0 c.in-Some.ensures.some.1 (λ after before above among. grind arith)

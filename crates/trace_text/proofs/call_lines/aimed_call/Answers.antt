@@ -1,7 +1,7 @@
 use Rattle.std.proofs.Common.{◌≡◌, ◌∙◌, false, true, ap, sym, rules, slice_get}
 use Rattle.trace_text.specs.Held.{call_at, place_of, target_call}
 use Rattle.trace_text.proofs.TargetCalls.{own_target, opening_target}
-use Rattle.trace_text.proofs.progress.aimed_call.Goals as goal
+use Rattle.trace_text.proofs.call_lines.aimed_call.Goals as goal
 
 pub returns-then-not-opening : goal.returns-then-not-opening
 returns-then-not-opening c = λ r held.
