@@ -9,6 +9,7 @@ use Rattle.vm_model.specs.declared.calls.Call.{Call}
 use Rattle.trace_text.specs.declared.progress.Progress.{Progress}
 use Rattle.trace_text.specs.Lines.{TargetName}
 use Rattle.trace_text.specs.Reading.{Reading, Made, Named, AreNamed, aimed_at, calls_of, find_name}
+use Rattle.trace_text.specs.Grammar.{aims, is_call_as}
 use Rattle.trace_text.specs.Held.{IsHeld, call_at, place_of, sections_below, target_call}
 
 -- the name by which a target's call is found
@@ -28,6 +29,14 @@ is_aimed r t number c e = by_parts (not t.opening || nat_lt 0 r.caller) refl (ai
     by_parts true place (Some n) found e =
         let same : ◌≡◌ {A = ℕ × Call} (n.number, n.call) (number, c) = cc in
         record { place = place; named = n; found = found; number = ap (λ (m : ℕ × Call). m.0) same; call = ap (λ (m : ℕ × Call). m.1) same }
+
+-- a target that may be named has a call that may be
+pub call_of_aim : (r : Reading) (t : TargetName) (test : Call → Bool) → aims r test t ≡ true → (number : ℕ) × (c : Call) × (target_call r t ≡ Some (number, c)) × (test c ≡ true)
+call_of_aim r t test h = let parts = and_parts (not t.opening || nat_lt 0 r.caller) (is_call_as test (aimed_at r t)) h in by_named (aimed_at r t) refl parts.0 parts.1
+  where
+    by_named : (o : Option Named) → aimed_at r t ≡ o → (not t.opening || nat_lt 0 r.caller) ≡ true → is_call_as test o ≡ true → (number : ℕ) × (c : Call) × (target_call r t ≡ Some (number, c)) × (test c ≡ true)
+    by_named None found place kind = cc
+    by_named (Some n) found place kind = (n.number, n.call, rw (place, found) refl, kind)
 
 -- the name that a test finds stands for a call of its section
 found_named : (calls : List Made) (names : List Named) (test : Named → Bool) (n : Named) → AreNamed calls names → find test names ≡ Some n → (test n ≡ true) × (slice_get (calls_of n.caller calls) (n.number - 1) ≡ Some n.call)

@@ -1,6 +1,7 @@
 //! The lines of calls, as they are read.
 ghost use Rattle.std.specs.Prelude.{◌≡◌, ◌++◌, IfOk, codes};
 ghost use Rattle.trace_text.specs.Reading.{Reading};
+ghost use Rattle.trace_text.specs.Grammar.{is_vmalloc};
 ghost use Rattle.trace_text.specs.Held.{IsHeld, Steps, target_call};
 
 use crate::fields::{named_pair, target};
@@ -46,6 +47,12 @@ fn aimed_call(progress: &Progress, opening: bool, name: &[u8]) -> Option<(usize,
     named_call(&progress.opening_names, section.as_slice(), name)
 }
 
+fn is_vmalloc(call: Call) -> bool
+    ensures { result ≡ is_vmalloc call }
+{
+    matches!(call, Call::Vmalloc { .. })
+}
+
 /// Reads `vfree TARGET`, after its word.
 pub fn read_vfree(progress: &mut Progress, text: &[u8]) -> Result<bool, AllocError>
     requires held { (r : Reading) × IsHeld progress.old r }
@@ -57,9 +64,12 @@ pub fn read_vfree(progress: &mut Progress, text: &[u8]) -> Result<bool, AllocErr
     if progress.rank < SPACE || CALLS < progress.rank || MOST_LINES <= progress.lines {
         return Ok(false);
     }
-    let Some((number, Call::Vmalloc { .. })) = aimed_call(progress, opening, name) else {
+    let Some((number, call)) = aimed_call(progress, opening, name) else {
         return Ok(false);
     };
+    if !is_vmalloc(call) {
+        return Ok(false);
+    }
     let target = Target {
         opening,
         call: number as u32,
