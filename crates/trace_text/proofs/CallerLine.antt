@@ -1,12 +1,14 @@
 -- Where a caller line stands, and what is held after it.
-use Rattle.std.proofs.Common.{◌≡◌, ◌∙◌, ℕ, suc, ◌-◌, ◌<◌, ◌≤◌, true, false, nat_lt, nat_le, ◌&&◌, List, [], ◌∷◌, ◌++◌, replicate, ap, sym, arith, codes, decimal}
+use Rattle.std.proofs.Common.{◌≡◌, ◌∙◌, ℕ, suc, ◌-◌, ◌<◌, ◌≤◌, true, false, nat_lt, nat_le, ◌&&◌, List, [], ◌∷◌, ◌++◌, replicate, refl, ap, sym, arith, codes, decimal, ◌⊎◌, inl, inr, ◌==◌, if◌then◌else◌}
+use Rattle.std.proofs.lemmas.Bool.{eq-eqb, ne_eqb, cases_eq}
 use Rattle.std.proofs.lemmas.Bool.Decides.{nat_tests}
+use Rattle.std.specs.Option.{option_map}
 use Rattle.trace_text.specs.declared.progress.Progress.{Progress}
 use Rattle.trace_text.specs.Words.{is_number}
 use Rattle.trace_text.specs.Lines.{Caller}
-use Rattle.trace_text.specs.Reading.{Reading, Header}
-use Rattle.trace_text.specs.Held.{IsHeld, Steps, sections_below}
-use Rattle.trace_text.proofs.NamedCalls.{ranks, follows_held}
+use Rattle.trace_text.specs.Reading.{Reading, Header, Named, find_name}
+use Rattle.trace_text.specs.Held.{IsHeld, Steps, place_of, sections_below}
+use Rattle.trace_text.proofs.NamedCalls.{ranks, follows_held, none_is}
 use Rattle.trace_text.proofs.NumberLines.{caller_lines, number_refused, number_stands}
 use Rattle.trace_text.proofs.SectionProofs.{held_sections}
 
@@ -30,18 +32,27 @@ caller_refused p q r text n held wide e none =
 pub record Opens (p q : Progress) (n : ℕ) : Type 0 where
   pub rank : q.rank ≡ 10
   pub space : q.space ≡ p.space
+  pub frames : q.frames ≡ p.frames
+  pub lazy : q.lazy ≡ p.lazy
   pub callers : q.callers ≡ p.callers
   pub caller : q.caller ≡ n
   pub names : q.names.entries ≡ []
+  pub opening_names : q.opening_names ≡ (if p.caller == 0 then p.names else p.opening_names)
   pub calls : q.calls.items ≡ []
   pub closed : q.closed.items ≡ p.closed.items ++ p.calls.items ∷ replicate (n - 1 - p.caller) []
   pub lines : q.lines ≡ p.lines
   pub picks : q.picks.items ≡ p.picks.items
 
+-- the names of the opening are those of the section that ends, or were kept before
+kept_names : (p : Progress) (r : Reading) → IsHeld p r → (name : List ℕ) → (p.caller ≡ 0) ⊎ (p.caller ≡ 0 → ⊥)
+    → option_map (λ place. suc place) (place_of (if p.caller == 0 then p.names else p.opening_names) name) ≡ option_map (λ (n : Named). n.number) (find_name r 0 name)
+kept_names p r held name (inl e) = let here : r.caller ≡ 0 = sym held.caller ∙ e in rw (eq-eqb p.caller 0 e) (held.names name ∙ ap (λ k. option_map (λ (n : Named). n.number) (find_name r k name)) here)
+kept_names p r held name (inr e) = let same = held.caller in rw (ne_eqb p.caller 0 e) (held.opening_names (omega arith) name)
+
 held_after_caller : (p q : Progress) (r : Reading) (n : ℕ) → IsHeld p r → Opens p q n → r.caller < n → n ≤ r.header.callers → IsHeld q (record r { rank = 10; caller = n })
 held_after_caller p q r n held opens above among = record {
   rank = opens.rank;
-  header = let header = held.header in let space = opens.space in let callers = opens.callers in cc;
+  header = let header = held.header in let space = opens.space in let frames = opens.frames in let lazy = opens.lazy in let callers = opens.callers in cc;
   caller = opens.caller;
   among = among;
   opening = λ early. absurd (omega arith);
@@ -53,7 +64,9 @@ held_after_caller p q r n held opens above among = record {
   count = opens.lines ∙ held.count;
   counts = held.counts;
   picks = opens.picks ∙ held.picks;
-  names = λ name. rw opens.names (sym (held.unnamed n name above));
+  names = λ name. rw (opens.names, none_is (find_name r n name) (held.unnamed n name above)) refl;
+  opening_names = λ opened name. ap (λ places. option_map (λ place. suc place) (place_of places name)) opens.opening_names ∙ kept_names p r held name (cases_eq p.caller 0);
+  named = held.named;
   unnamed = λ caller name beyond. held.unnamed caller name (omega arith);
 }
 

@@ -4,7 +4,7 @@ use Rattle.std.proofs.lemmas.Bool.{and_parts, and_from}
 use Rattle.std.proofs.lemmas.Fmt.{decimal_injective}
 use Rattle.trace_text.specs.declared.progress.Progress.{Progress}
 use Rattle.trace_text.specs.Words.{fields, is_number, within}
-use Rattle.trace_text.specs.Lines.{Line, Space, Callers, Caller, spelled}
+use Rattle.trace_text.specs.Lines.{Line, Space, Frames, Lazy, Callers, Caller, spelled}
 use Rattle.trace_text.specs.Reading.{Reading}
 use Rattle.trace_text.specs.Grammar.{may_stand, follows, read}
 use Rattle.trace_text.specs.Held.{IsHeld, Steps}
@@ -22,6 +22,12 @@ pub record AreNumberLines (r : Reading) (word : List ℕ) (make : ℕ → Line) 
 
 pub space_lines : (r : Reading) → AreNumberLines r (codes "space") Space 2 (within 1 1048576)
 space_lines r = record { clean = refl; guessed = λ fs. refl; spells = λ n. refl; stands = λ n. refl }
+
+pub frames_lines : (r : Reading) → AreNumberLines r (codes "frames") Frames 3 (within 0 8192)
+frames_lines r = record { clean = refl; guessed = λ fs. refl; spells = λ n. refl; stands = λ n. refl }
+
+pub lazy_lines : (r : Reading) → AreNumberLines r (codes "lazy") Lazy 4 (within 0 1048576)
+lazy_lines r = record { clean = refl; guessed = λ fs. refl; spells = λ n. refl; stands = λ n. refl }
 
 pub callers_lines : (r : Reading) → AreNumberLines r (codes "callers") Callers 8 (within 1 16)
 callers_lines r = record { clean = refl; guessed = λ fs. refl; spells = λ n. refl; stands = λ n. refl }

@@ -72,6 +72,8 @@ order_stands p q r text held small after before (picks, are, put) =
         counts = held.counts;
         picks = put ∙ ap (λ ps. ps ++ picks) held.picks;
         names = held.names;
+        opening_names = held.opening_names;
+        named = held.named;
         unnamed = held.unnamed;
       },
     )

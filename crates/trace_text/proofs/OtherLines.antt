@@ -1,21 +1,36 @@
 -- A text that begins like no line of a built word is none.
-use Rattle.std.proofs.Common.{◌≡◌, ℕ, true, false, ◌&&◌, List, [], ◌∷◌, take, ap, codes}
+use Rattle.std.proofs.Common.{◌≡◌, ◌≢◌, ℕ, Bool, true, false, ◌&&◌, List, [], ◌∷◌, take, ap, codes}
 use Rattle.std.proofs.lemmas.Bool.{and_parts}
 use Rattle.std.specs.List.{list_all}
 use Rattle.std.specs.Str.{bytes_eq}
+use Rattle.trace_text.specs.declared.progress.Progress.{Progress}
 use Rattle.trace_text.specs.Words.{fields, within, is_number}
-use Rattle.trace_text.specs.Lines.{Line, Version, Space, Callers, Caller, Vmalloc, Order, End, spelled, word_of}
+use Rattle.trace_text.specs.Lines.{Line, Version, Space, Frames, Lazy, Callers, Caller, Vmalloc, Vfree, Order, End, spelled, word_of}
 use Rattle.trace_text.specs.Reading.{Reading}
 use Rattle.trace_text.specs.Grammar.{stands, may_stand, follows}
-use Rattle.trace_text.specs.Built.{built_for_callers}
+use Rattle.trace_text.specs.Built.{built_for_purge, one_of, words_of_header}
+use Rattle.trace_text.specs.Held.{StepsIn}
 
-pub record BeginsOtherwise (text : List ℕ) : Type 0 where
-  pub vmalloc : bytes_eq (take 8 text) (codes "vmalloc ") ≡ false
-  pub order : bytes_eq (take 6 text) (codes "order ") ≡ false
-  pub caller : bytes_eq (take 7 text) (codes "caller ") ≡ false
+pub record BeginsNoHeader (text : List ℕ) : Type 0 where
   pub callers : bytes_eq (take 8 text) (codes "callers ") ≡ false
+  pub frames : bytes_eq (take 7 text) (codes "frames ") ≡ false
+  pub lazy : bytes_eq (take 5 text) (codes "lazy ") ≡ false
   pub space : bytes_eq (take 6 text) (codes "space ") ≡ false
   pub version : bytes_eq text (codes "vmtrace 1") ≡ false
+
+pub no_header_line : (r : Reading) (text : List ℕ) (l : Line) → stands (one_of words_of_header) r l ≡ true → text ≡ fields (spelled l) → BeginsNoHeader text → ⊥
+no_header_line r text Version s e other = let begins = other.version in let own = ap (λ t. bytes_eq t (codes "vmtrace 1")) e in cc
+no_header_line r text (Space pages) s e other = let begins = other.space in let own = ap (λ t. bytes_eq (take 6 t) (codes "space ")) e in cc
+no_header_line r text (Frames frames) s e other = let begins = other.frames in let own = ap (λ t. bytes_eq (take 7 t) (codes "frames ")) e in cc
+no_header_line r text (Lazy pages) s e other = let begins = other.lazy in let own = ap (λ t. bytes_eq (take 5 t) (codes "lazy ")) e in cc
+no_header_line r text (Callers callers) s e other = let begins = other.callers in let own = ap (λ t. bytes_eq (take 8 t) (codes "callers ")) e in cc
+no_header_line r text _ s e other = cc
+
+pub record BeginsNoCall (text : List ℕ) : Type 0 where
+  pub vmalloc : bytes_eq (take 8 text) (codes "vmalloc ") ≡ false
+  pub vfree : bytes_eq (take 6 text) (codes "vfree ") ≡ false
+  pub order : bytes_eq (take 6 text) (codes "order ") ≡ false
+  pub caller : bytes_eq (take 7 text) (codes "caller ") ≡ false
   pub end : bytes_eq text (codes "end") ≡ false
 
 no_order : (r : Reading) → may_stand r (Order []) ≡ true → ⊥
@@ -24,13 +39,30 @@ no_order r s =
     let some = (and_parts (within 1 64 0) (list_all (within 1 r.header.callers) []) rules).0 in
     cc
 
-pub no_line : (r : Reading) (text : List ℕ) (l : Line) → stands built_for_callers r l ≡ true → text ≡ fields (spelled l) → BeginsOtherwise text → ⊥
-no_line r text Version s e other = let begins = other.version in let own = ap (λ t. bytes_eq t (codes "vmtrace 1")) e in cc
-no_line r text (Space pages) s e other = let begins = other.space in let own = ap (λ t. bytes_eq (take 6 t) (codes "space ")) e in cc
-no_line r text (Callers callers) s e other = let begins = other.callers in let own = ap (λ t. bytes_eq (take 8 t) (codes "callers ")) e in cc
-no_line r text (Caller caller) s e other = let begins = other.caller in let own = ap (λ t. bytes_eq (take 7 t) (codes "caller ")) e in cc
-no_line r text (Vmalloc name bytes align) s e other = let begins = other.vmalloc in let own = ap (λ t. bytes_eq (take 8 t) (codes "vmalloc ")) e in cc
-no_line r text (Order []) s e other = no_order r (and_parts (built_for_callers (word_of (Order []))) (may_stand r (Order [])) s).1
-no_line r text (Order (n ∷ picks)) s e other = let begins = other.order in let own = ap (λ t. bytes_eq (take 6 t) (codes "order ")) e in cc
-no_line r text End s e other = let begins = other.end in let own = ap (λ t. bytes_eq t (codes "end")) e in cc
-no_line r text _ s e other = cc
+no_line : (r : Reading) (text : List ℕ) (l : Line) → stands built_for_purge r l ≡ true → text ≡ fields (spelled l) → BeginsNoCall text → ((m : Line) → stands (one_of words_of_header) r m ≡ true → text ≢ fields (spelled m)) → ⊥
+no_line r text Version s e other none = none Version s e
+no_line r text (Space pages) s e other none = none (Space pages) s e
+no_line r text (Frames frames) s e other none = none (Frames frames) s e
+no_line r text (Lazy pages) s e other none = none (Lazy pages) s e
+no_line r text (Callers callers) s e other none = none (Callers callers) s e
+no_line r text (Caller caller) s e other none = let begins = other.caller in let own = ap (λ t. bytes_eq (take 7 t) (codes "caller ")) e in cc
+no_line r text (Vmalloc name bytes align) s e other none = let begins = other.vmalloc in let own = ap (λ t. bytes_eq (take 8 t) (codes "vmalloc ")) e in cc
+no_line r text (Vfree target) s e other none = let begins = other.vfree in let own = ap (λ t. bytes_eq (take 6 t) (codes "vfree ")) e in cc
+no_line r text (Order []) s e other none = no_order r (and_parts (built_for_purge (word_of (Order []))) (may_stand r (Order [])) s).1
+no_line r text (Order (n ∷ picks)) s e other none = let begins = other.order in let own = ap (λ t. bytes_eq (take 6 t) (codes "order ")) e in cc
+no_line r text End s e other none = let begins = other.end in let own = ap (λ t. bytes_eq t (codes "end")) e in cc
+no_line r text _ s e other none = cc
+
+-- the words of the header are built
+header_stands : (r : Reading) (l : Line) → stands (one_of words_of_header) r l ≡ true → stands built_for_purge r l ≡ true
+header_stands r Version s = s
+header_stands r (Space pages) s = s
+header_stands r (Frames frames) s = s
+header_stands r (Lazy pages) s = s
+header_stands r (Callers callers) s = s
+header_stands r _ s = cc
+
+-- where a text begins no later line, a line with this text is one of the header
+pub steps_header : (r : Reading) (text : List ℕ) (b : Bool) (q : Progress) → BeginsNoCall text → StepsIn (one_of words_of_header) r text b q → StepsIn built_for_purge r text b q
+steps_header r text true q other (l, e, s, held) = (l, e, header_stands r l s, held)
+steps_header r text false q other none = λ l s e. no_line r text l s e other none

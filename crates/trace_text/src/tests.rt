@@ -8,8 +8,8 @@ use crate::writer::{write_fault, write_report, write_schedule};
 use std::alloc::{AllocError, Global};
 use std::test::Fail;
 use vm_model::{
-    Area, AreaKind, AreaList, BlockList, Call, ChunkAuditList, ChunkList, CounterList, Entry,
-    EntryList, HintList, ObjectList, PartList, Reply, Span, SpanList, Tables,
+    Area, AreaKind, AreaList, BlockList, Call, CallerCalls, ChunkAuditList, ChunkList, CounterList,
+    Entry, EntryList, HintList, ObjectList, PartList, Reply, Span, SpanList, Tables, Target,
 };
 
 #[test]
@@ -81,11 +81,11 @@ fn first_bad_lines(rt: HostRuntime) {
             4,
             false,
         ),
-        (b"vmtrace 1\nspace 16\nframes 3\nend\n".as_slice(), 3, true),
-        (b"vmtrace 1\nspace 16\nframes".as_slice(), 3, true),
-        (b"vmtrace 1\nspace 16\n frames 3\n".as_slice(), 3, false),
+        (b"vmtrace 1\nspace 16\nblock 8 4\nend\n".as_slice(), 3, true),
+        (b"vmtrace 1\nspace 16\nblock".as_slice(), 3, true),
+        (b"vmtrace 1\nspace 16\n block 8 4\n".as_slice(), 3, false),
         (
-            b"vmtrace 1\nspace 16\nvmalloc a 1 1\nvfree a\nend\n".as_slice(),
+            b"vmtrace 1\nspace 16\nvmalloc a 1 1\nunmap_ram a\nend\n".as_slice(),
             4,
             true,
         ),
@@ -112,7 +112,7 @@ fn first_bad_lines_of_callers(rt: HostRuntime) -> Result<(), Fail> {
         (b"callers 2\ncallers 2\nend\n".as_slice(), 4, false),
         (b"vmalloc a 1 1\ncallers 2\nend\n".as_slice(), 4, false),
         (b"caller 1\ncallers 2\nend\n".as_slice(), 4, false),
-        (b"callers 2\nframes 3\nend\n".as_slice(), 4, true),
+        (b"callers 2\nblock 8 4\nend\n".as_slice(), 4, true),
         (b"caller 0\nend\n".as_slice(), 3, false),
         (b"caller 2\nend\n".as_slice(), 3, false),
         (b"caller 1 \nend\n".as_slice(), 3, false),
@@ -124,7 +124,7 @@ fn first_bad_lines_of_callers(rt: HostRuntime) -> Result<(), Fail> {
             6,
             false,
         ),
-        (b"caller 1\nframes 3\nend\n".as_slice(), 4, true),
+        (b"caller 1\nbalance\nend\n".as_slice(), 4, true),
     ] {
         assert_eq!(rt;
             refused_behind_space(rt.alloc(), rest)?,
@@ -151,11 +151,156 @@ fn first_bad_lines_of_picks(rt: HostRuntime) -> Result<(), Fail> {
         (b"order 1\ncaller 1\nend\n".as_slice(), 4, false),
         (b"order 1\ncallers 1\nend\n".as_slice(), 4, false),
         (b"end\norder 1\n".as_slice(), 4, false),
-        (b"order 1\nvfree a\nend\n".as_slice(), 4, true),
+        (b"order 1\nunmap_ram a\nend\n".as_slice(), 4, true),
     ] {
         assert_eq!(rt;
             refused_behind_space(rt.alloc(), rest)?,
             Some((line, waits))
+        );
+    }
+    Ok(())
+}
+
+#[test]
+fn first_bad_lines_of_frames(rt: HostRuntime) -> Result<(), Fail> {
+    for (rest, line, waits) in [
+        (b"frames 8193\nend\n".as_slice(), 3, false),
+        (b"frames 00\nend\n".as_slice(), 3, false),
+        (b"frames\nend\n".as_slice(), 3, false),
+        (b"frames 3".as_slice(), 3, false),
+        (b"frames 3\nframes 3\nend\n".as_slice(), 4, false),
+        (b"lazy 3\nframes 3\nend\n".as_slice(), 4, false),
+        (b"callers 2\nframes 3\nend\n".as_slice(), 4, false),
+        (b"lazy 1048577\nend\n".as_slice(), 3, false),
+        (b"lazy -1\nend\n".as_slice(), 3, false),
+        (b"lazy 3\nlazy 3\nend\n".as_slice(), 4, false),
+        (b"callers 2\nlazy 3\nend\n".as_slice(), 4, false),
+        (b"vmalloc a 1 1\nlazy 3\nend\n".as_slice(), 4, false),
+        (b"frames 3\nlazy 3\nblock 8 4\nend\n".as_slice(), 5, true),
+    ] {
+        assert_eq!(rt;
+            refused_behind_space(rt.alloc(), rest)?,
+            Some((line, waits))
+        );
+    }
+    Ok(())
+}
+
+#[test]
+fn first_bad_lines_of_targets(rt: HostRuntime) -> Result<(), Fail> {
+    for (rest, line, waits) in [
+        (b"vfree a\nend\n".as_slice(), 3, false),
+        (b"vfree\nend\n".as_slice(), 3, false),
+        (b"vmalloc a 1 1\nvfree b\nend\n".as_slice(), 4, false),
+        (b"vmalloc a 1 1\nvfree 1\nend\n".as_slice(), 4, false),
+        (b"vmalloc a 1 1\nvfree a a\nend\n".as_slice(), 4, false),
+        (b"vmalloc a 1 1\nvfree a".as_slice(), 4, false),
+        (b"vmalloc a 1 1\nvfree 0.a\nend\n".as_slice(), 4, false),
+        (
+            b"vmalloc a 1 1\nvfree a\nvmalloc a 1 1\nend\n".as_slice(),
+            5,
+            false,
+        ),
+        (
+            b"vmalloc a 1 1\ncaller 1\nvfree a\nend\n".as_slice(),
+            5,
+            false,
+        ),
+        (
+            b"vmalloc a 1 1\ncaller 1\nvfree 1.a\nend\n".as_slice(),
+            5,
+            false,
+        ),
+        (
+            b"vmalloc a 1 1\ncaller 1\nvfree 0.b\nend\n".as_slice(),
+            5,
+            false,
+        ),
+        (
+            b"caller 1\nvmalloc a 1 1\nvfree 0.a\nend\n".as_slice(),
+            5,
+            false,
+        ),
+        (
+            b"caller 1\nvfree a\nvmalloc a 1 1\nend\n".as_slice(),
+            4,
+            false,
+        ),
+        (
+            b"callers 2\ncaller 1\nvmalloc a 1 1\ncaller 2\nvfree a\nend\n".as_slice(),
+            7,
+            false,
+        ),
+        (
+            b"callers 2\nvmalloc a 1 1\ncaller 1\nvmalloc b 1 1\ncaller 2\nvfree 0.a\nvfree 0.b\nend\n".as_slice(),
+            9,
+            false,
+        ),
+        (
+            b"vmalloc a 1 1\norder 1\nvfree a\nend\n".as_slice(),
+            5,
+            false,
+        ),
+        (
+            b"vmalloc a 1 1\nvfree a\nmap_ram b 0 1\nend\n".as_slice(),
+            5,
+            true,
+        ),
+    ] {
+        assert_eq!(rt;
+            refused_behind_space(rt.alloc(), rest)?,
+            Some((line, waits))
+        );
+    }
+    Ok(())
+}
+
+#[test]
+fn reads_frames_and_lazy(rt: HostRuntime) -> Result<(), Fail> {
+    for (text, frames, lazy) in [
+        (b"vmtrace 1\nspace 16\nframes 0\nend\n".as_slice(), 0, 8192),
+        (
+            b"vmtrace 1\nspace 16\nlazy 1048576\nend\n".as_slice(),
+            1024,
+            1_048_576,
+        ),
+        (
+            b"vmtrace 1\nspace 16\nframes 8192\nlazy 0\ncallers 2\nend\n".as_slice(),
+            8192,
+            0,
+        ),
+    ] {
+        let trace = read_trace(rt.alloc(), text)?;
+        assert_eq!(rt; trace.config.frames, frames);
+        assert_eq!(rt; trace.config.lazy, lazy);
+        assert_eq!(rt; trace.config.block_pages, 128);
+    }
+    Ok(())
+}
+
+/// The target of the `vfree` call at a place of a section.
+fn freed(sections: &[CallerCalls], section: usize, place: usize) -> Option<Target> {
+    match sections.get(section)?.as_slice().get(place)? {
+        Call::Vfree { target } => Some(*target),
+        _ => None,
+    }
+}
+
+#[test]
+fn reads_targets(rt: HostRuntime) -> Result<(), Fail> {
+    let trace = read_trace(
+        rt.alloc(),
+        b"vmtrace 1\nspace 16\nvmalloc a 1 1\nvmalloc b 1 1\nvfree b\nvfree b\ncaller 1\nvmalloc a 1 1\nvfree a\nvfree 0.b\nend\n",
+    )?;
+    for (section, place, opening, call) in [
+        (0, 2, false, 2),
+        (0, 3, false, 2),
+        (1, 1, false, 1),
+        (1, 2, true, 2),
+    ] {
+        assert_eq!(rt;
+            freed(trace.calls.as_slice(), section, place),
+            Some(Target { opening, call })
         );
     }
     Ok(())

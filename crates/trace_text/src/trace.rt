@@ -28,14 +28,14 @@ pub struct Trace {
     pub batch: u32,
 }
 
-/// The configuration where the header names a space alone.
-fn default_config(space: u32) -> Config
-    ensures { (callers : ℕ) → result ≡ config_of (header_of space callers) }
+/// The configuration where the header says these numbers. The lines of blocks aren't built.
+fn config(space: u32, frames: u32, lazy: u32) -> Config
+    ensures { (callers : ℕ) → result ≡ config_of (header_of space frames lazy callers) }
 {
     Config {
         space,
-        frames: 1024,
-        lazy: 8192,
+        frames,
+        lazy,
         block_pages: 128,
         part_limit: 64,
     }
@@ -47,6 +47,8 @@ pub fn trace_of(alloc: Global, progress: Progress) -> Result<Trace, AllocError>
 {
     let Progress {
         space,
+        frames,
+        lazy,
         callers,
         caller,
         calls,
@@ -57,7 +59,7 @@ pub fn trace_of(alloc: Global, progress: Progress) -> Result<Trace, AllocError>
     let mut sections = closed;
     close_section(alloc, &mut sections, calls, caller, callers)?;
     Ok(Trace {
-        config: default_config(space),
+        config: config(space, frames, lazy),
         calls: CallsList::of(sections),
         counts: CountLineList::of(Vec::new(alloc)),
         picks: PickList::of(picks),

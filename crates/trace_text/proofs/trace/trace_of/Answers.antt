@@ -11,7 +11,7 @@ returns c = λ r held.
     let callers : p.callers ≡ r.header.callers = ap (λ (h : Header). h.callers) (sym held.header) in
     let among : r.caller ≤ p.callers = (let few = held.among in omega arith) in
     record {
-      config = c.default_config.ensures p.callers ∙ ap config_of (sym held.header);
+      config = c.config.ensures p.callers ∙ ap config_of (sym held.header);
       calls = c.of.ensures ∙ c.in_ok-close_section.ensures ∙ held_sections p r p.callers held among ∙ ap (λ n. sections_below (suc n) r.calls) callers;
       counts = c.of-2.ensures ∙ c.new.ensures.items ∙ sym held.counts;
       picks = c.of-3.ensures ∙ held.picks;

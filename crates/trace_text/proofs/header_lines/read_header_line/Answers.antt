@@ -1,0 +1,40 @@
+use Rattle.std.proofs.Common.{◌≡◌, codes, subst, sym, refl, [], ◌∷◌, ap, rules}
+use Rattle.std.proofs.lemmas.Slice.Eq.{bytes_eq-Decides}
+use Rattle.trace_text.specs.Built.{one_of, words_of_header}
+use Rattle.trace_text.specs.Held.{Steps}
+use Rattle.trace_text.proofs.OtherLines.{no_header_line}
+use Rattle.trace_text.proofs.Pairs.{with_front}
+use Rattle.trace_text.proofs.Split.{split_at}
+use Rattle.trace_text.proofs.Turns.{steps_in, steps_behind}
+use Rattle.trace_text.proofs.header_lines.read_header_line.Goals as goal
+
+pub returns-in-Some : goal.returns-in-Some
+returns-in-Some c = λ r held. steps_behind (one_of words_of_header) (codes "callers") c.in-Some.field.now r c.args.line.now c.read_callers.result c.read_callers.new.progress refl refl
+    (with_front 8 c.args.line.now (codes "callers ") c.in-Some.field.now c.in-Some.ensures.cases.0 c.in-Some.ensures.cases.1) (c.read_callers.ensures r held)
+
+pub returns-in-Some-strip_prefix : goal.returns-in-Some-strip_prefix
+returns-in-Some-strip_prefix c = λ r held. steps_behind (one_of words_of_header) (codes "frames") c.in-Some-strip_prefix.field.now r c.args.line.now c.read_frames.result c.read_frames.new.progress refl refl
+    (with_front 7 c.args.line.now (codes "frames ") c.in-Some-strip_prefix.field.now c.in-Some-strip_prefix.ensures.cases.0 c.in-Some-strip_prefix.ensures.cases.1) (c.read_frames.ensures r held)
+
+pub returns-in-Some-strip_prefix-2 : goal.returns-in-Some-strip_prefix-2
+returns-in-Some-strip_prefix-2 c = λ r held. steps_behind (one_of words_of_header) (codes "lazy") c.in-Some-strip_prefix-2.field.now r c.args.line.now c.read_lazy.result c.read_lazy.new.progress refl refl
+    (with_front 5 c.args.line.now (codes "lazy ") c.in-Some-strip_prefix-2.field.now c.in-Some-strip_prefix-2.ensures.cases.0 c.in-Some-strip_prefix-2.ensures.cases.1) (c.read_lazy.ensures r held)
+
+pub returns-in-Some-strip_prefix-3 : goal.returns-in-Some-strip_prefix-3
+returns-in-Some-strip_prefix-3 c = λ r held. steps_behind (one_of words_of_header) (codes "space") c.in-Some-strip_prefix-3.field.now r c.args.line.now c.read_space.result c.read_space.new.progress refl refl
+    (with_front 6 c.args.line.now (codes "space ") c.in-Some-strip_prefix-3.field.now c.in-Some-strip_prefix-3.ensures.cases.0 c.in-Some-strip_prefix-3.ensures.cases.1) (c.read_space.ensures r held)
+
+pub returns-then-eq : goal.returns-then-eq
+returns-then-eq c = λ r held.
+    let same : c.args.line.now ≡ codes "vmtrace 1" = (bytes_eq-Decides c.args.line.now (codes "vmtrace 1")).0 (search rules) in
+    steps_in (one_of words_of_header) (codes "vmtrace") (codes "1" ∷ []) r c.args.line.now c.read_version.result c.read_version.new.progress refl (ap (split_at 32) same) (subst (λ t. Steps r t c.read_version.result c.read_version.new.progress) (sym same) (c.read_version.ensures r held))
+
+pub returns : goal.returns
+returns c = λ r held l s e. no_header_line r c.args.line.now l s e
+    (record {
+      callers = c.in_default.ensures.cases;
+      frames = c.in_default-strip_prefix.ensures.cases;
+      lazy = c.in_default-strip_prefix-2.ensures.cases;
+      space = c.in_default-strip_prefix-3.ensures.cases;
+      version = search rules;
+    })

@@ -1,0 +1,101 @@
+//! The lines of a trace, as they are read.
+ghost use Rattle.std.specs.Prelude.{◌≡◌, ◌++◌, ◌==◌, [], if◌then◌else◌, IfOk, codes};
+ghost use Rattle.trace_text.specs.Reading.{Reading};
+ghost use Rattle.trace_text.specs.Built.{built_for_purge};
+ghost use Rattle.trace_text.specs.Held.{IsHeld, Steps, StepsIn};
+
+use crate::call_lines::{read_vfree, read_vmalloc};
+use crate::fields::number;
+use crate::header_lines::read_header_line;
+use crate::picks::read_picks;
+use crate::progress::{CALLS, END, ORDER, Progress, SPACE};
+use crate::sections::close_section;
+use std::alloc::{AllocError, Global};
+use std::collections::BTreeMap;
+use std::mem;
+
+/// Ends the names of the open section. Those of the opening are kept.
+fn close_names(alloc: Global, progress: &mut Progress)
+    ensures none { progress.new.names.entries ≡ [] }
+    ensures kept { progress.new.opening_names ≡ (if progress.old.caller == 0 then progress.old.names else progress.old.opening_names) }
+    ensures same { progress.new ≡ record progress.old { names = progress.new.names; opening_names = progress.new.opening_names } }
+{
+    let names = mem::replace(&mut progress.names, BTreeMap::new(alloc));
+    if progress.caller == 0 {
+        progress.opening_names = names;
+    }
+}
+
+/// Reads `caller N`, after its word: the open section ends, and that of the caller begins.
+fn read_caller(alloc: Global, progress: &mut Progress, field: &[u8]) -> Result<bool, AllocError>
+    ensures { IfOk result (λ stood. (r : Reading) → IsHeld progress.old r → Steps r (codes "caller " ++ field.now) stood progress.new) }
+{
+    let Some(caller) = number(field) else {
+        return Ok(false);
+    };
+    if progress.rank < SPACE || CALLS < progress.rank {
+        return Ok(false);
+    }
+    if caller <= progress.caller as u64 || (progress.callers as u64) < caller {
+        return Ok(false);
+    }
+    let calls = mem::replace(&mut progress.calls, Vec::new(alloc));
+    let last = caller as u16 - 1;
+    close_section(alloc, &mut progress.closed, calls, progress.caller, last)?;
+    close_names(alloc, progress);
+    progress.caller = caller as u16;
+    progress.rank = CALLS;
+    Ok(true)
+}
+
+/// Reads `order C C C`, after its word.
+fn read_order(progress: &mut Progress, text: &[u8]) -> Result<bool, AllocError>
+    ensures { IfOk result (λ stood. (r : Reading) → IsHeld progress.old r → Steps r (codes "order " ++ text.now) stood progress.new) }
+{
+    if progress.rank < SPACE || ORDER < progress.rank {
+        return Ok(false);
+    }
+    if !read_picks(&mut progress.picks, progress.callers, text)? {
+        return Ok(false);
+    }
+    progress.rank = ORDER;
+    Ok(true)
+}
+
+/// Reads `end`.
+fn read_end(progress: &mut Progress) -> bool
+    ensures { (r : Reading) → IsHeld progress.old r → Steps r (codes "end") result progress.new }
+{
+    if progress.rank < SPACE || END <= progress.rank {
+        return false;
+    }
+    progress.rank = END;
+    true
+}
+
+/// Reads a line, where one with this text stands.
+pub fn read_line<'a>(
+    alloc: Global,
+    progress: &mut Progress<'a>,
+    line: &'a [u8],
+) -> Result<bool, AllocError>
+    requires held { (r : Reading) × IsHeld progress.old r }
+    ensures { IfOk result (λ stood. (r : Reading) → IsHeld progress.old r → StepsIn built_for_purge r line.now stood progress.new) }
+{
+    if let Some(text) = line.strip_prefix(b"vmalloc ") {
+        return read_vmalloc(progress, text);
+    }
+    if let Some(text) = line.strip_prefix(b"vfree ") {
+        return read_vfree(progress, text);
+    }
+    if let Some(text) = line.strip_prefix(b"order ") {
+        return read_order(progress, text);
+    }
+    if let Some(field) = line.strip_prefix(b"caller ") {
+        return read_caller(alloc, progress, field);
+    }
+    if line == b"end".as_slice() {
+        return Ok(read_end(progress));
+    }
+    Ok(read_header_line(progress, line))
+}
