@@ -1,4 +1,4 @@
--- The machine of a header that names only the space and the callers is one whose numbers a trace may have.
+-- The machine of a header of the built words is one whose numbers a trace may have.
 use Rattle.std.proofs.Common.{◌≡◌, ℕ, zero, suc, ◌%◌, ◌≤◌, [], ◌∷◌, slice_get, Some, refl, ap, sym, subst, arith}
 use Rattle.vm_model.specs.declared.areas.Span.{Span}
 use Rattle.vm_model.specs.Space.{span, end_of}
@@ -17,9 +17,9 @@ one_apart : (x : Span) → AreDisjoint (x ∷ [])
 one_apart x i zero s t low first second page in_first in_second = omega arith
 one_apart x i (suc j) s t low first second page in_first in_second = cc
 
-module _ (space callers : ℕ) (low : 1 ≤ space) (high : space ≤ 1048576) where
+module _ (space frames lazy callers : ℕ) (low : 1 ≤ space) (high : space ≤ 1048576) (few : frames ≤ 8192) (limit : lazy ≤ 1048576) where
   abbrev named : Setup
-  named = setup_of (config_of (header_of space callers))
+  named = setup_of (config_of (header_of space frames lazy callers))
 
   one_group : AreGroups named
   one_group = record {
@@ -45,8 +45,8 @@ module _ (space callers : ℕ) (low : 1 ≤ space) (high : space ≤ 1048576) wh
   named_setup = record {
     space_low = low;
     space_high = high;
-    frames = omega arith;
-    lazy = omega arith;
+    frames = few;
+    lazy = limit;
     block_low = omega arith;
     block_high = omega arith;
     block = (7, refl);

@@ -9,3 +9,4 @@ pub mod Reported
 pub mod Told
 pub mod OneWord
 pub mod ReplayTexts
+pub mod RuledTraces

@@ -5,7 +5,7 @@ use Rattle.std.specs.Fmt.{digits}
 use Rattle.vm_model.specs.History.{finish, history_of}
 use Rattle.trace_text.specs.Reading.{Reading, unread}
 use Rattle.trace_text.specs.Grammar.{IsTraceOf}
-use Rattle.trace_text.specs.Built.{built_for_callers}
+use Rattle.trace_text.specs.Built.{built_for_purge}
 use Rattle.trace_text.proofs.Outcomes.{Outcome, Whole, Bad, reads, reads-whole}
 use Rattle.trace_text.proofs.Exclusive.{one_trace, trace_or_bad}
 use Rattle.trace_replay.specs.declared.status.Status.{Status}
@@ -17,13 +17,13 @@ abbrev reading_of : Outcome → Reading
 reading_of (Whole r) = r
 reading_of (Bad number rest) = unread
 
-replayed_as : (bytes text : List ℕ) → reads built_for_callers bytes ≡ Whole (reading_of (reads built_for_callers bytes)) → report_of (reading_of (reads built_for_callers bytes)) ≡ text → IsReplayedAs bytes text
+replayed_as : (bytes text : List ℕ) → reads built_for_purge bytes ≡ Whole (reading_of (reads built_for_purge bytes)) → report_of (reading_of (reads built_for_purge bytes)) ≡ text → IsReplayedAs bytes text
 replayed_as bytes text whole same =
-    let r : Reading = reading_of (reads built_for_callers bytes) in
-    let trace : IsTraceOf built_for_callers bytes r = reads-whole built_for_callers bytes r whole in
+    let r : Reading = reading_of (reads built_for_purge bytes) in
+    let trace : IsTraceOf built_for_purge bytes r = reads-whole built_for_purge bytes r whole in
     record {
       trace = (r, trace);
-      report = λ other is. ap report_of (one_trace built_for_callers bytes other r is trace) ∙ same;
+      report = λ other is. ap report_of (one_trace built_for_purge bytes other r is trace) ∙ same;
     }
 
 pub one_free_space : OneFreeSpace
@@ -45,8 +45,8 @@ a_pick_stays = replayed_as two_purges two_purges_report refl refl
 -- what may be written for a trace is its report
 pub only_report : (bytes text : List ℕ) (room : ℕ) → IsReplayedAs bytes text → length bytes ≤ most_bytes → length text ≤ room → (status : Status) (written : List ℕ) → Writes bytes status written → length written ≤ room
 only_report bytes text room is short low Done written w = let (r, trace, legal, same) = w.1 in omega (arith, ap length (same ∙ is.report r trace))
-only_report bytes text room is short low (BadTrace line) written w = let (rest, stops, other) = w.1 in absurd (trace_or_bad built_for_callers bytes is.trace.0 line is.trace.1 (rest, stops))
-only_report bytes text room is short low (Unbuilt line) written w = let (rest, stops, other) = w.1 in absurd (trace_or_bad built_for_callers bytes is.trace.0 line is.trace.1 (rest, stops))
+only_report bytes text room is short low (BadTrace line) written w = let (rest, stops, other) = w.1 in absurd (trace_or_bad built_for_purge bytes is.trace.0 line is.trace.1 (rest, stops))
+only_report bytes text room is short low (Unbuilt line) written w = let (rest, stops, other) = w.1 in absurd (trace_or_bad built_for_purge bytes is.trace.0 line is.trace.1 (rest, stops))
 only_report bytes text room is short low TooLong written w = absurd (omega arith)
 only_report bytes text room is short low Usage written w = absurd w
 only_report bytes text room is short low OutOfMemory written w = absurd w

@@ -1,7 +1,7 @@
 -- What a report says of counters where the header names none.
 use Rattle.std.proofs.Common.{◌≡◌, ◌≤◌, ℕ, ap, sym, subst, List, [], length}
 use Rattle.trace_text.specs.Grammar.{IsTraceOf}
-use Rattle.trace_text.specs.Built.{built_for_callers}
+use Rattle.trace_text.specs.Built.{built_for_purge}
 use Rattle.trace_replay.specs.declared.answer.Outcome.{Outcome}
 use Rattle.trace_replay.specs.Headline.{Writes, Reports, most_bytes}
 use Rattle.trace_text.specs.Reading.{Reading, Header, cpus_of}
@@ -12,5 +12,5 @@ pub no_counters : (r : Reading) → IsBuilt r → counter_rows r.header.counters
 no_counters r built = ap (λ (h : Header). counter_rows h.counters (cpus_of r.header) r.header.batch r.counts) built.header
 
 -- a report that was made is what is written under its status
-pub done : (bytes : List ℕ) (o : Outcome) (r : Reading) → length bytes ≤ most_bytes → IsTraceOf built_for_callers bytes r → Reports r o.status o.text → Writes bytes o.status o.text
+pub done : (bytes : List ℕ) (o : Outcome) (r : Reading) → length bytes ≤ most_bytes → IsTraceOf built_for_purge bytes r → Reports r o.status o.text → Writes bytes o.status o.text
 done bytes o r short trace is = subst (λ s. Writes bytes s o.text) (sym is.0) (short, (r, trace, is.1, is.2))

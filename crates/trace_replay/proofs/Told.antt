@@ -3,7 +3,7 @@ use Rattle.std.proofs.Common.{◌≡◌, ◌≢◌, ◌≤◌, ◌<◌, ◌⊎�
 use Rattle.trace_text.specs.declared.faults.Fault.TheVariants as fault
 use Rattle.trace_text.specs.Reading.{Reading}
 use Rattle.trace_text.specs.Grammar.{IsTraceOf}
-use Rattle.trace_text.specs.Built.{built_for_callers}
+use Rattle.trace_text.specs.Built.{built_for_purge}
 use Rattle.trace_text.specs.Report.{fault_line}
 use Rattle.trace_text.proofs.Exclusive.{trace_or_bad}
 use Rattle.trace_replay.specs.Streams.{Rose}
@@ -102,12 +102,12 @@ not_silent status text answer first after b n read memory told silent = loud ans
     no_memory status text answer first after b n s (inr failed) = λ e. let no = failed.0 in cc
 
 -- a short trace and no fault leave two statuses
-pub complete : (bytes : List ℕ) (r : Reading) (status : Status) → Answers bytes status → length bytes ≤ most_bytes → IsTraceOf built_for_callers bytes r → status ≢ ReadFault → status ≢ WriteFault
+pub complete : (bytes : List ℕ) (r : Reading) (status : Status) → Answers bytes status → length bytes ≤ most_bytes → IsTraceOf built_for_purge bytes r → status ≢ ReadFault → status ≢ WriteFault
     → (status ≡ Done) ⊎ (status ≡ OutOfMemory)
 complete bytes r Done says short trace read write = inl refl
 complete bytes r OutOfMemory says short trace read write = inr refl
-complete bytes r (BadTrace line) says short trace read write = let (text, writes) = says in let (rest, stops, other) = writes.1 in absurd (trace_or_bad built_for_callers bytes r line trace (rest, stops))
-complete bytes r (Unbuilt line) says short trace read write = let (text, writes) = says in let (rest, stops, other) = writes.1 in absurd (trace_or_bad built_for_callers bytes r line trace (rest, stops))
+complete bytes r (BadTrace line) says short trace read write = let (text, writes) = says in let (rest, stops, other) = writes.1 in absurd (trace_or_bad built_for_purge bytes r line trace (rest, stops))
+complete bytes r (Unbuilt line) says short trace read write = let (text, writes) = says in let (rest, stops, other) = writes.1 in absurd (trace_or_bad built_for_purge bytes r line trace (rest, stops))
 complete bytes r TooLong says short trace read write = let (text, writes) = says in let long = writes.0 in absurd (omega arith)
 complete bytes r Usage says short trace read write = absurd says
 complete bytes r ReadFault says short trace read write = absurd (read refl)

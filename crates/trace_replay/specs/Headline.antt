@@ -12,7 +12,7 @@ use Rattle.trace_text.specs.Reading.{Reading, calls_of, cpus_of}
 use Rattle.trace_text.specs.Told.{config_of}
 use Rattle.trace_text.specs.CounterTotals.{counter_rows}
 use Rattle.trace_text.specs.Grammar.{IsTraceOf}
-use Rattle.trace_text.specs.Built.{built_for_callers, waiting_for_callers, IsBadLine, IsUnbuiltLine}
+use Rattle.trace_text.specs.Built.{built_for_purge, waiting_for_purge, IsBadLine, IsUnbuiltLine}
 use Rattle.trace_text.specs.Report.{report, fault_line}
 use Rattle.trace_replay.specs.Streams.{Rose}
 use Rattle.trace_replay.specs.declared.status.Status.{Status}
@@ -49,9 +49,9 @@ most_bytes = 16777216
 
 -- what a status says of the bytes, and the text that is written with it
 abbrev pub Writes : List ℕ → Status → List ℕ → Type 0
-Writes bytes Done text = (length bytes ≤ most_bytes) × ((r : Reading) × IsTraceOf built_for_callers bytes r × HasLegalHistory r × (text ≡ report_of r))
-Writes bytes (BadTrace line) text = (length bytes ≤ most_bytes) × IsBadLine built_for_callers waiting_for_callers bytes line × (text ≡ fault_line (fault.Line line))
-Writes bytes (Unbuilt line) text = (length bytes ≤ most_bytes) × IsUnbuiltLine built_for_callers waiting_for_callers bytes line × (text ≡ fault_line (fault.Unbuilt line))
+Writes bytes Done text = (length bytes ≤ most_bytes) × ((r : Reading) × IsTraceOf built_for_purge bytes r × HasLegalHistory r × (text ≡ report_of r))
+Writes bytes (BadTrace line) text = (length bytes ≤ most_bytes) × IsBadLine built_for_purge waiting_for_purge bytes line × (text ≡ fault_line (fault.Line line))
+Writes bytes (Unbuilt line) text = (length bytes ≤ most_bytes) × IsUnbuiltLine built_for_purge waiting_for_purge bytes line × (text ≡ fault_line (fault.Unbuilt line))
 Writes bytes TooLong text = (most_bytes < length bytes) × (text ≡ fault_line fault.Length)
 Writes bytes _ text = ⊥
 

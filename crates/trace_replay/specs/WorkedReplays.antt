@@ -2,13 +2,13 @@
 use Rattle.std.specs.Prelude.{◌≡◌, ℕ, List, codes}
 use Rattle.trace_text.specs.Reading.{Reading}
 use Rattle.trace_text.specs.Grammar.{IsTraceOf}
-use Rattle.trace_text.specs.Built.{built_for_callers}
+use Rattle.trace_text.specs.Built.{built_for_purge}
 use Rattle.trace_replay.specs.Headline.{report_of}
 
 -- the bytes are a trace, and this is the report of each trace that they are
 pub record IsReplayedAs (bytes text : List ℕ) : Type 0 where
-  pub trace : (r : Reading) × IsTraceOf built_for_callers bytes r
-  pub report : (r : Reading) → IsTraceOf built_for_callers bytes r → report_of r ≡ text
+  pub trace : (r : Reading) × IsTraceOf built_for_purge bytes r
+  pub report : (r : Reading) → IsTraceOf built_for_purge bytes r → report_of r ≡ text
 
 abbrev pub free_space : List ℕ
 free_space = codes "vmtrace 1\nspace 16\nend\n"

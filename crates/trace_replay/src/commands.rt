@@ -3,7 +3,7 @@ ghost use Rattle.std.specs.Prelude.{◌≡◌, ◌≢◌, ◌≤◌, ◌<◌, �
 ghost use Rattle.std.specs.Option.{ForSome};
 ghost use Rattle.trace_text.specs.Reading.{Reading};
 ghost use Rattle.trace_text.specs.Grammar.{IsTraceOf};
-ghost use Rattle.trace_text.specs.Built.{built_for_callers};
+ghost use Rattle.trace_text.specs.Built.{built_for_purge};
 ghost use Rattle.trace_replay.specs.Streams.{Rose};
 ghost use Rattle.trace_replay.specs.Headline.{Writes, IsWritten, IsRead, Answers, HasRoomFor, IsTold, ReplayWords, IsRefused, IsSilent, HasRoomForUsage, most_bytes};
 
@@ -68,7 +68,7 @@ pub fn replay<S: Source, K: Sink>(alloc: Global, mode: Mode, source: &mut S, sin
     ensures usage { result ≢ Status.Usage }
 
     // A trace of the built words that is short enough, and no fault.
-    ensures complete { (bytes : List ℕ) (reading : Reading) → S.left source.old ≡ Some bytes → length bytes ≤ most_bytes → IsTraceOf built_for_callers bytes reading
+    ensures complete { (bytes : List ℕ) (reading : Reading) → S.left source.old ≡ Some bytes → length bytes ≤ most_bytes → IsTraceOf built_for_purge bytes reading
         → ¬ Rose (S.faults source.old) (S.faults source.new) → ¬ Rose (K.faults sink.old) (K.faults sink.new) → (result ≡ Status.Done) ⊎ (result ≡ Status.OutOfMemory) }
 {
     match mode {
@@ -135,7 +135,7 @@ pub fn run<S: Source, K: Sink>(
 
     ensures usage { result ≡ Status.Usage → ¬ ReplayWords (map string_bytes words.now) }
     ensures silent { IsSilent result → K.taken sink.new ≡ K.taken sink.old }
-    ensures complete { ReplayWords (map string_bytes words.now) → (bytes : List ℕ) (reading : Reading) → S.left source.old ≡ Some bytes → length bytes ≤ most_bytes → IsTraceOf built_for_callers bytes reading
+    ensures complete { ReplayWords (map string_bytes words.now) → (bytes : List ℕ) (reading : Reading) → S.left source.old ≡ Some bytes → length bytes ≤ most_bytes → IsTraceOf built_for_purge bytes reading
         → ¬ Rose (S.faults source.old) (S.faults source.new) → ¬ Rose (K.faults sink.old) (K.faults sink.new) → (result ≡ Status.Done) ⊎ (result ≡ Status.OutOfMemory) }
     ensures read_fault { result ≡ Status.ReadFault → Rose (S.faults source.old) (S.faults source.new) }
     ensures write_fault { result ≡ Status.WriteFault → Rose (K.faults sink.old) (K.faults sink.new) }

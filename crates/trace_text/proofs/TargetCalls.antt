@@ -48,7 +48,7 @@ found_named calls (m ∷ names) test n (here, h) e = by_test (test m) refl e (fo
     by_test true passes e later = let same : m ≡ n = cc in subst (λ (k : Named). (test k ≡ true) × (slice_get (calls_of k.caller calls) (k.number - 1) ≡ Some k.call)) same (passes, here)
     by_test false passes e later = later e
 
-named_call : (r : Reading) (caller : ℕ) (name : List ℕ) (n : Named) → AreNamed r.calls r.names → find_name r caller name ≡ Some n → slice_get (calls_of caller r.calls) (n.number - 1) ≡ Some n.call
+pub named_call : (r : Reading) (caller : ℕ) (name : List ℕ) (n : Named) → AreNamed r.calls r.names → find_name r caller name ≡ Some n → slice_get (calls_of caller r.calls) (n.number - 1) ≡ Some n.call
 named_call r caller name n h e =
     let found = found_named r.calls r.names (λ (n : Named). n.caller == caller && bytes_eq n.name name) n h e in
     let own : n.caller ≡ caller = eqb-true n.caller caller (and_parts (n.caller == caller) (bytes_eq n.name name) found.0).0 in
