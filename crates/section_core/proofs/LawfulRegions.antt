@@ -1,5 +1,5 @@
 -- What a caller and the region that it wants are, in a world of a run.
-use Rattle.std.proofs.Common.{None, Option, Bool, ◌∷◌, ◌||◌, min, max, All, [], ◌*◌, option_map, ◌≡◌, ℕ, zero, suc, ◌+◌, ◌-◌, ◌<◌, ◌≤◌, ◌^◌, true, false, not, List, length, map, slice_get, Some, refl, ap, sym, ◌∙◌, subst, arith}
+use Rattle.std.proofs.Common.{None, Option, Bool, ◌∷◌, ◌||◌, All, [], ◌*◌, option_map, ◌≡◌, ℕ, zero, suc, ◌+◌, ◌-◌, ◌<◌, ◌≤◌, ◌^◌, true, false, not, List, length, map, slice_get, Some, refl, ap, sym, ◌∙◌, subst, arith}
 use Rattle.std.proofs.lemmas.List.{length-map}
 use Rattle.std.proofs.lemmas.Bool.Decides.{nat_tests}
 use Rattle.vm_model.specs.Carried.{held, flushed, fresh, leaving}

@@ -1,5 +1,5 @@
 -- What a stable sort of the reversed list gives is the list in order.
-use Rattle.std.proofs.Common.{◌≡◌, ℕ, zero, suc, ◌+◌, ◌<◌, ◌≤◌, ◌==◌, inl, inr, Bool, true, false, cond, nat_lt, if◌then◌else◌, not, ◌&&◌, filter, get_or, List, [], ◌∷◌, ◌++◌, length, reverse, refl, ap, sym, ◌∙◌, subst, arith, append-nil}
+use Rattle.std.proofs.Common.{◌≡◌, ℕ, suc, ◌<◌, ◌≤◌, ◌==◌, inl, inr, Bool, true, false, cond, nat_lt, if◌then◌else◌, not, ◌&&◌, filter, get_or, List, [], ◌∷◌, ◌++◌, length, reverse, refl, ap, sym, ◌∙◌, subst, arith, append-nil}
 use Rattle.std.proofs.lemmas.List.{reverse-append}
 use Rattle.std.proofs.lemmas.Bool.{cases_lt, cases_Bool}
 use Rattle.std.proofs.lemmas.Bool.Decides.{nat_tests}
@@ -152,4 +152,4 @@ module _ {X : Type 0} (key : X → ℕ) where
       let computes = always_returns_same g (λ a r. r ≡ key a.0.now) f h in
       sorted_is xs ys (IsNonDecreasingBy-from_sort key ys (up key computes))
       (λ x. sym (filter_alike (ties (λ a b. is_lt (nat_cmp (key a) (key b))) x) (same x) (ties_same x) ys) ∙ stable key computes x
-          ∙ filter_alike (ties (λ a b. is_lt (nat_cmp (key a) (key b))) x) (same x) (ties_same x) mid ∙ ap (filter (same x)) back)
+      ∙ filter_alike (ties (λ a b. is_lt (nat_cmp (key a) (key b))) x) (same x) (ties_same x) mid ∙ ap (filter (same x)) back)

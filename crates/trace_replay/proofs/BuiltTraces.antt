@@ -1,15 +1,14 @@
 -- A trace of the built words tells numbers in their ranges, and calls of these words.
-use Rattle.std.proofs.Common.{All, ◌≡◌, ℕ, zero, suc, ◌+◌, ◌-◌, ◌<◌, ◌≤◌, Bool, true, false, ◌&&◌, ◌||◌, ◌==◌, cond, nat_lt, nat_le, min, List, [], ◌∷◌, ◌++◌, length, map, filter, slice_get, Some, refl, sym, ap, subst, arith, length-append}
+use Rattle.std.proofs.Common.{All, ◌≡◌, ℕ, ◌+◌, ◌-◌, ◌<◌, ◌≤◌, Bool, true, ◌&&◌, ◌||◌, ◌==◌, nat_lt, nat_le, min, List, [], ◌∷◌, length, refl, sym, ap, subst, arith, length-append}
 use Rattle.std.proofs.lemmas.Bool.{and_parts}
 use Rattle.std.proofs.lemmas.Bool.Decides.{nat_tests}
 use Rattle.std.proofs.lemmas.List.Elements.{All-append}
 use Rattle.std.proofs.lemmas.List.Sums.{AllPass-from_list_all}
 use Rattle.std.specs.List.{list_all}
-use Rattle.vm_model.specs.declared.calls.Call.{Call}
 use Rattle.vm_model.specs.declared.calls.Call.TheVariants as call
 use Rattle.trace_text.specs.Words.{within}
 use Rattle.trace_text.specs.Lines.{Line, Version, Space, Frames, Lazy, Blocks, Units, GroupOf, Callers, Counters, Caller, Vmalloc, Vfree, MapRam, UnmapRam, UnmapAliases, AllocPercpu, AllocAtomic, FreePercpu, Add, Sum, Balance, Count, Order, End, is_spelt}
-use Rattle.trace_text.specs.Reading.{Reading, Made, Header, unread, target_of}
+use Rattle.trace_text.specs.Reading.{Reading, Header, unread, target_of}
 use Rattle.trace_text.specs.Grammar.{IsTraceOf, stands, all_stand, read, read_all, follows, repeats, is_new, has_room, is_allowed, aims, is_vmalloc}
 use Rattle.trace_text.specs.Built.{built_for_purge}
 use Rattle.trace_text.specs.Held.{header_of}
@@ -63,7 +62,8 @@ line_read r (Space pages) h s =
       header = ap (λ (h : Header). record h { space = pages }) s.header;
       space = λ low. in_range 1 1048576 pages (and_parts (is_spelt (Space pages) && follows r.rank 2) (is_allowed r (Space pages)) h).1;
       callers = s.callers;
-      frames = s.frames; lazy = s.lazy;
+      frames = s.frames;
+      lazy = s.lazy;
       few = s.few;
       unpicked = λ _. s.unpicked (omega arith);
       picks = s.picks;
@@ -102,7 +102,8 @@ line_read r (Callers callers) h s =
       header = ap (λ (h : Header). record h { callers = callers }) s.header;
       space = λ low. s.space (omega arith);
       callers = in_range 1 16 callers (and_parts (is_spelt (Callers callers) && follows r.rank 8) (is_allowed r (Callers callers)) h).1;
-      frames = s.frames; lazy = s.lazy;
+      frames = s.frames;
+      lazy = s.lazy;
       few = s.few;
       unpicked = λ _. none;
       picks = no_picks callers r.picks none;
@@ -146,7 +147,8 @@ line_read r (Order picks) h s =
       header = s.header;
       space = λ low. s.space (omega arith);
       callers = s.callers;
-      frames = s.frames; lazy = s.lazy;
+      frames = s.frames;
+      lazy = s.lazy;
       few = s.few;
       unpicked = λ early. absurd (omega arith);
       picks = All-append (IsPick r.header.callers) r.picks picks s.picks (are_picks r.header.callers picks (and_parts (within 1 64 (length picks)) (list_all (within 1 r.header.callers) picks) allowed).1);

@@ -1,11 +1,9 @@
 -- Each call of a trace of the built words may stand after those before it: a vfree names a vmalloc of its section or of the opening.
-use Rattle.std.proofs.Common.{All, ◌≡◌, ℕ, zero, suc, ◌-◌, ◌<◌, ◌≤◌, inl, inr, Bool, true, false, not, ◌&&◌, ◌||◌, ◌==◌, cond, nat_lt, if◌then◌else◌, find, List, [], ◌∷◌, ◌++◌, length, map, filter, slice_get, Option, Some, None, refl, sym, ap, ◌∙◌, subst, arith, append-nil, append_assoc}
+use Rattle.std.proofs.Common.{◌≡◌, ℕ, zero, suc, ◌-◌, ◌≤◌, inl, inr, Bool, true, false, not, ◌&&◌, ◌||◌, ◌==◌, cond, nat_lt, if◌then◌else◌, find, List, [], ◌∷◌, ◌++◌, map, filter, slice_get, Option, Some, None, refl, sym, ap, ◌∙◌, subst, arith, append-nil, append_assoc}
 use Rattle.std.proofs.lemmas.Bool.{and_parts, cases_Bool}
 use Rattle.std.proofs.lemmas.Bool.Decides.{nat_tests}
-use Rattle.std.proofs.lemmas.Option.{slice_get_within}
 use Rattle.vm_model.specs.declared.calls.Call.{Call}
 use Rattle.vm_model.specs.declared.calls.Call.TheVariants as call
-use Rattle.vm_model.specs.declared.calls.Target.{Target}
 use Rattle.vm_model.specs.Setup.{Setup}
 use Rattle.vm_model.specs.Rules.{IsVmallocCall, IsRuled, AreRuled}
 use Rattle.trace_text.specs.Lines.{Line, TargetName, Version, Space, Frames, Lazy, Blocks, Units, GroupOf, Callers, Counters, Caller, Vmalloc, Vfree, MapRam, UnmapRam, UnmapAliases, AllocPercpu, AllocAtomic, FreePercpu, Add, Sum, Balance, Count, Order, End, is_spelt}

@@ -161,7 +161,7 @@ const BAD: [(&[u8], u32); 70] = [
 ];
 
 /// Each rule of the words `callers`, `caller` and `order` is broken once.
-const BAD_SECTIONS: [(&[u8], u32); 36] = [
+const BAD_SECTIONS: [(&[u8], u32); 43] = [
     (b"callers 2\n", 1),
     (b"vmtrace 1\ncallers 2\nspace 16\nend\n", 2),
     (b"vmtrace 1\norder 1\nspace 16\nend\n", 2),
@@ -210,29 +210,39 @@ const BAD_SECTIONS: [(&[u8], u32); 36] = [
         3,
     ),
     (b"vmtrace 1\nspace 16\nend\norder 1\n", 4),
+    (b"vmtrace 1\nspace 16\nframes 8193\nend\n", 3),
+    (b"vmtrace 1\nspace 16\nlazy 1\nframes 1\nend\n", 4),
+    (b"vmtrace 1\nspace 16\nlazy 1048577\nend\n", 3),
+    (b"vmtrace 1\nspace 16\nvmalloc x 1 1\nlazy 1\nend\n", 4),
+    (b"vmtrace 1\nspace 16\nvfree x\nvmalloc x 1 1\nend\n", 3),
+    (b"vmtrace 1\nspace 16\nvmalloc x 1 1\nvfree 0.x\nend\n", 4),
+    (
+        b"vmtrace 1\nspace 16\nvmalloc x 1 1\ncaller 1\nvfree x\nend\n",
+        5,
+    ),
 ];
 
 /// The first bad line begins with a word that is not built.
 const UNBUILT: [(&[u8], u32); 7] = [
     (
-        b"vmtrace 1\nspace 16\nvmalloc x 1 1\nframes 3\nvmalloc y 1 1\nend\n",
+        b"vmtrace 1\nspace 16\nvmalloc x 1 1\nblock 8 4\nvmalloc y 1 1\nend\n",
         4,
     ),
     (
-        b"vmtrace 1\nspace 16\nvmalloc x 1 1\nlazy 1\nvmalloc y 1 1\nend\n",
+        b"vmtrace 1\nspace 16\nvmalloc x 1 1\nmap_ram z 0 1\nvmalloc y 1 1\nend\n",
         4,
     ),
     (
-        b"vmtrace 1\nspace 16\nvmalloc x 1 1\nvfree x\nvmalloc y 1 1\nend\n",
+        b"vmtrace 1\nspace 16\nvmalloc x 1 1\nunmap_ram x\nvmalloc y 1 1\nend\n",
         4,
     ),
     (b"vmtrace 1\nspace 16\nsum", 3),
     (b"vmtrace 1\nspace 16\ncallers 2\ncounters 1 32\nend\n", 4),
     (
-        b"vmtrace 1\nspace 16\ncaller 1\nvmalloc x 1 1\nvfree x\nend\n",
+        b"vmtrace 1\nspace 16\ncaller 1\nvmalloc x 1 1\nunmap_ram x\nend\n",
         5,
     ),
-    (b"vmtrace 1\nspace 16\norder 1\nlazy 1\nend\n", 4),
+    (b"vmtrace 1\nspace 16\norder 1\nunit 8 1\nend\n", 4),
 ];
 
 /// The status of a replay, and what it writes.

@@ -8,6 +8,8 @@ mod commands;
 #[cfg(test)]
 mod drawn_traces;
 mod failing_calls;
+#[cfg(test)]
+mod freed_areas;
 mod gather;
 mod memory_sink;
 mod memory_source;

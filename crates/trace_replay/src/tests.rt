@@ -199,7 +199,7 @@ fn reports(rt: HostRuntime) {
             REFUSED,
         ),
         (
-            "vmtrace 1\nspace 16\nframes 3\nend\n",
+            "vmtrace 1\nspace 16\nblock 8 4\nend\n",
             Status::Unbuilt { line: 3 },
             "fault unbuilt 3\n",
         ),

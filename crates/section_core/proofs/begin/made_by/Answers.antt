@@ -1,4 +1,4 @@
-use Rattle.std.proofs.Common.{◌≡◌, ◌-◌, Some, None, if◌then◌else◌, option_map, List, length, map, slice_get, sym, ◌∙◌, ap, refl, arith, nat_lt, true, false}
+use Rattle.std.proofs.Common.{◌≡◌, ◌-◌, Some, None, if◌then◌else◌, option_map, length, map, slice_get, sym, ◌∙◌, ap, refl, arith, nat_lt, true, false}
 use Rattle.std.proofs.lemmas.Option.{slice_get_read, slice_get_past}
 use Rattle.std.proofs.lemmas.Bool.Decides.{nat_tests}
 use Rattle.vm_model.specs.Calls.{made_in}

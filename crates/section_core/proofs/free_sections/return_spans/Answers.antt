@@ -1,6 +1,6 @@
-use Rattle.std.proofs.Common.{All, List, ap, subst, sym, ◌∙◌, ◌≡◌, ◌≤◌, false, length, refl, arith}
+use Rattle.std.proofs.Common.{All, subst, sym, ◌≤◌, length, refl}
 use Rattle.vm_model.specs.declared.areas.Span.{Span}
-use Rattle.vm_model.specs.Space.{covers, end_of, runs, paint}
+use Rattle.vm_model.specs.Space.{end_of}
 use Rattle.vm_model.specs.Next.{Go}
 use Rattle.vm_model.specs.Places as model
 use Rattle.vm_model.specs.Parts.{FreeRuns}

@@ -1,7 +1,6 @@
-use Rattle.std.proofs.Common.{◌≡◌, ◌≤◌, ◌+◌, ◌++◌, ℕ, List, sym, ap, subst, arith}
+use Rattle.std.proofs.Common.{◌≤◌, ◌++◌, ℕ, List, sym, subst, arith}
 use Rattle.vm_model.specs.declared.areas.Span.{Span}
-use Rattle.vm_model.specs.Space.{sum_of_pages, times}
-use Rattle.lazy_purge.specs.Waits.{AreCounted}
+use Rattle.vm_model.specs.Space.{times}
 use Rattle.lazy_purge.proofs.Counting.{joined_fit, joined}
 use Rattle.lazy_purge.proofs.lazy_side.LazySide.add.Goals as goal
 

@@ -30,8 +30,8 @@ returns c =
     answered_view c.self.inside c.self.invariant more c.args.reply c.args.made c.note.new.self c.push_reserved.new.self c.place_before-self-inside.result c.note.ensures c.push_reserved.ensures.items at.0 at.1
     c.place_before-self-inside.ensures.empty_handed
     (λ answers made.
-      c.place_before-self-inside.ensures.place answers (subst (λ own. MadeBy own answers) (sym c.deref-2.ensures.value) made)
-      ∙ ap (λ (opening : List Code). begin (setup_of c.self.inside.config) (map answer_of opening) answers (slice_get c.as_slice.result.now c.len.result)) (c.as_slice-2.ensures ∙ c.deref.ensures)
-      ∙ ap (λ n. begin (setup_of c.self.inside.config) (map answer_of (arc_value c.self.inside.opening)) answers (slice_get c.as_slice.result.now n)) (c.len.ensures ∙ c.push_reserved.new.self.ok.0)
-      ∙ ap (λ (calls : List Call). begin (setup_of c.self.inside.config) (map answer_of (arc_value c.self.inside.opening)) answers (slice_get calls (length c.push_reserved.new.self.items))) c.as_slice.ensures)
+    c.place_before-self-inside.ensures.place answers (subst (λ own. MadeBy own answers) (sym c.deref-2.ensures.value) made)
+    ∙ ap (λ (opening : List Code). begin (setup_of c.self.inside.config) (map answer_of opening) answers (slice_get c.as_slice.result.now c.len.result)) (c.as_slice-2.ensures ∙ c.deref.ensures)
+    ∙ ap (λ n. begin (setup_of c.self.inside.config) (map answer_of (arc_value c.self.inside.opening)) answers (slice_get c.as_slice.result.now n)) (c.len.ensures ∙ c.push_reserved.new.self.ok.0)
+    ∙ ap (λ (calls : List Call). begin (setup_of c.self.inside.config) (map answer_of (arc_value c.self.inside.opening)) answers (slice_get calls (length c.push_reserved.new.self.items))) c.as_slice.ensures)
     ∙ ap (λ (l : Local). moved_to l (Answer c.args.reply (made_of c.args.made))) c.self.view_is

@@ -14,6 +14,6 @@ returns c =
     (c.in_ok-with_room.ensures ∙ ap (λ n. record { caller = c.args.caller; rows = []; spare = n }) (ap length c.as_slice-count.ensures))
     c.place_before-place.ensures.empty_handed
     (λ answers made.
-      c.place_before-place.ensures.place answers made
-      ∙ ap (λ (opening : List Code). begin (setup_of c.args.config.now) (map answer_of opening) answers (slice_get c.as_slice.result.now 0)) (c.as_slice-2.ensures ∙ c.deref.ensures)
-      ∙ ap (λ (calls : List Call). begin (setup_of c.args.config.now) (map answer_of (arc_value c.args.opening)) answers (slice_get calls 0)) c.as_slice.ensures)
+    c.place_before-place.ensures.place answers made
+    ∙ ap (λ (opening : List Code). begin (setup_of c.args.config.now) (map answer_of opening) answers (slice_get c.as_slice.result.now 0)) (c.as_slice-2.ensures ∙ c.deref.ensures)
+    ∙ ap (λ (calls : List Call). begin (setup_of c.args.config.now) (map answer_of (arc_value c.args.opening)) answers (slice_get calls 0)) c.as_slice.ensures)
