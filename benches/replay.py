@@ -49,6 +49,14 @@ def callers(count):
     return "\n".join(lines + ["end", ""]).encode()
 
 
+def freed(count, lazy):
+    """Areas that are made and freed again in a large range: a purge at each free without a limit, one with the largest."""
+    lines = ["vmtrace 1", "space 1048576", f"lazy {lazy}"]
+    for number in range(count // 2):
+        lines += [f"vmalloc a{number} {1 + number * 37 % 4999} 4096", f"vfree a{number}"]
+    return "\n".join(lines + ["end", ""]).encode()
+
+
 def late_fault(length):
     """A text of `length` bytes. Its last line is the first that cannot stand, and is as long as it takes."""
     text = full(99_999)[: -len("end\n")]
@@ -88,6 +96,8 @@ def main():
         ("100,000 calls, nearly all without space", full(50_000), full(100_000)),
         ("100,000 calls past 1,024 gaps", gaps(50_000), gaps(100_000)),
         ("100,000 calls of 16 callers, 400,000 picks", callers(50_000), callers(100_000)),
+        ("100,000 calls of vmalloc and vfree, `lazy 0`", freed(50_000, 0), freed(100_000, 0)),
+        ("100,000 calls of vmalloc and vfree, `lazy 1048576`", freed(50_000, 1048576), freed(100_000, 1048576)),
         ("16 MiB, the fault in the last line", late_fault(8 << 20), late_fault(16 << 20)),
     ]
     print("| Text | seconds | to its half | to `wc -l` | to `sort` |")
