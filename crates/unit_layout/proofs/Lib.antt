@@ -1,0 +1,3 @@
+pub mod Ceilings
+pub mod Search
+pub mod Places

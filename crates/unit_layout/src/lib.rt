@@ -1,0 +1,12 @@
+//! The layout of per-CPU units over groups of processors.
+#![tactic(auto)]
+
+mod division;
+pub mod errors;
+pub mod layout;
+mod refusals;
+pub mod request;
+
+pub use errors::{BuildError, LayoutError};
+pub use layout::{Group, Layout};
+pub use request::{GroupList, GroupSpec, LayoutSpec};
