@@ -1,3 +1,4 @@
 pub mod Rule
 pub mod Ranges
 pub mod Refusals
+pub mod Rows

@@ -11,6 +11,10 @@ pub record IsGroupInRange (g : GroupSpec) : Type 0 where
   pub cpus : g.cpus ≤ 64
   pub offset : g.offset < 10 ^ 10
 
+-- the group's offset is a multiple of the atom
+abbrev pub IsAligned : (atom : ℕ) → GroupSpec → Type 0
+IsAligned atom g = g.offset % atom ≡ 0
+
 pub record IsInRange (s : LayoutSpec) : Type 0 where
   pub unit_low : 8 ≤ s.unit
   pub unit_high : s.unit ≤ 64
@@ -18,7 +22,7 @@ pub record IsInRange (s : LayoutSpec) : Type 0 where
   pub atom_high : s.atom ≤ 64
   pub some : 1 ≤ length s.groups
   pub groups : All IsGroupInRange s.groups
-  pub aligned : All (λ (g : GroupSpec). g.offset % s.atom ≡ 0) s.groups
+  pub aligned : All (IsAligned s.atom) s.groups
   pub first : (g : GroupSpec) → slice_get s.groups 0 ≡ Some g → g.offset ≡ 0
   pub processors : processors s.groups ≤ 64
 

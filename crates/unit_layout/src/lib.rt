@@ -6,6 +6,9 @@ pub mod errors;
 pub mod layout;
 mod refusals;
 pub mod request;
+#[cfg(test)]
+mod tests;
+pub mod worked;
 
 pub use errors::{BuildError, LayoutError};
 pub use layout::{Group, Layout};
