@@ -1,3 +1,4 @@
 pub mod Ceilings
 pub mod Search
 pub mod Places
+pub mod Apart

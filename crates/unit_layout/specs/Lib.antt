@@ -2,3 +2,4 @@ pub mod Rule
 pub mod Ranges
 pub mod Refusals
 pub mod Rows
+pub mod Laws

@@ -3,6 +3,7 @@
 
 mod division;
 pub mod errors;
+pub mod laws;
 pub mod layout;
 mod refusals;
 pub mod request;
