@@ -2,3 +2,4 @@ pub mod Ceilings
 pub mod Search
 pub mod Places
 pub mod Apart
+pub mod Lying
