@@ -9,20 +9,19 @@ use Rattle.vm_model.specs.Rules.{AreApart, AreDisjoint}
 use Rattle.unit_layout.specs.declared.request.GroupSpec.{GroupSpec}
 use Rattle.unit_layout.specs.declared.division.Division.{Division}
 use Rattle.unit_layout.specs.declared.layout.Group.{Group}
-use Rattle.unit_layout.specs.declared.errors.LayoutError.TheVariants.{NoCpu, Overlap}
-use Rattle.unit_layout.specs.Rule.{span_of, group_of, division_of}
-use Rattle.unit_layout.specs.Refusals.{first_place, has_no_processor, or_else, share_a_page, too_many, overlap, too_wide}
-use Rattle.unit_layout.specs.Laws.{GroupsAreApart}
+use Rattle.unit_layout.specs.declared.errors.LayoutError.TheVariants.{Overlap}
+use Rattle.unit_layout.specs.Rule.{span_of, group_of}
+use Rattle.unit_layout.specs.Refusals.{first_place, or_else, share_a_page, overlap}
 
-or_else-none : {X : Type 0} (a b : Option X) → or_else a b ≡ None → (a ≡ None) × (b ≡ None)
+pub or_else-none : {X : Type 0} (a b : Option X) → or_else a b ≡ None → (a ≡ None) × (b ≡ None)
 or_else-none None b h = (refl, h)
 or_else-none (Some x) b h = cc
 
-option_map-none : {X Y : Type 0} (f : X → Y) (o : Option X) → option_map f o ≡ None → o ≡ None
+pub option_map-none : {X Y : Type 0} (f : X → Y) (o : Option X) → option_map f o ≡ None → o ≡ None
 option_map-none f None h = refl
 option_map-none f (Some x) h = cc
 
-if-none : {X : Type 0} (b : Bool) (x : X) (more : Option X) → (if b then Some x else more) ≡ None → (b ≡ false) × (more ≡ None)
+pub if-none : {X : Type 0} (b : Bool) (x : X) (more : Option X) → (if b then Some x else more) ≡ None → (b ≡ false) × (more ≡ None)
 if-none true x more h = cc
 if-none false x more h = (refl, h)
 
@@ -55,11 +54,3 @@ groups_apart d p (g ∷ groups) h (suc i) zero s t less a b = absurd (omega arit
 groups_apart d p (g ∷ groups) h (suc i) (suc j) s t less a b =
     let parts = or_else-none (option_map (Overlap p) (first_place (λ other. share_a_page (span_of d g) (span_of d other)) (suc p) groups)) (overlap d (suc p) groups) h in
     groups_apart d (suc p) groups parts.1 i j s t (omega arith) a b
-
-pub groups_are_apart : GroupsAreApart
-groups_are_apart s c h =
-    let d = division_of s in
-    let first = or_else-none (option_map NoCpu (first_place has_no_processor 0 s.groups)) (or_else (too_many s.groups) (or_else (overlap d 0 s.groups) (too_wide d s.groups))) h in
-    let second = or_else-none (too_many s.groups) (or_else (overlap d 0 s.groups) (too_wide d s.groups)) first.1 in
-    let third = or_else-none (overlap d 0 s.groups) (too_wide d s.groups) second.1 in
-    groups_apart d 0 s.groups third.0

@@ -3,3 +3,4 @@ pub mod Search
 pub mod Places
 pub mod Apart
 pub mod Lying
+pub mod Standing

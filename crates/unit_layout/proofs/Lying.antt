@@ -11,7 +11,6 @@ use Rattle.unit_layout.specs.declared.request.LayoutSpec.{LayoutSpec}
 use Rattle.unit_layout.specs.declared.division.Division.{Division}
 use Rattle.unit_layout.specs.Ranges.{IsInRange}
 use Rattle.unit_layout.specs.Rule.{processors, wasted, allocations, allocation, candidates, kept, taken_after, down_to_one, units_in, division_of, span_of, units_of}
-use Rattle.unit_layout.specs.Laws.{UnitsLieInGroups}
 use Rattle.unit_layout.proofs.Ceilings.{power_pos}
 use Rattle.unit_layout.proofs.Search.{search_begins}
 use Rattle.unit_layout.proofs.Apart.{laid_spans}
@@ -97,8 +96,3 @@ lies_in d (g ∷ groups) cpu unit pos h =
           let q = lies_in d groups p.0 unit pos p.1 in
           record { group = suc q.group; at = q.at; found = q.found; low = q.low; high = q.high }
     ]
-
-pub units_lie_in_groups : UnitsLieInGroups
-units_lie_in_groups s c range cpu unit h =
-    let q = lies_in (division_of s) s.groups cpu unit (division_room s range).low h in
-    (q.group, q.at, q.found, q.low, q.high)

@@ -19,7 +19,7 @@ end_in_width d [] i x h = absurd (omega arith)
 end_in_width d (g ∷ groups) zero x h = omega arith
 end_in_width d (g ∷ groups) (suc i) x h = let more = end_in_width d groups i x (omega arith) in omega arith
 
-has_one : (n p : ℕ) (more : Option ℕ) → (if n == 0 then Some p else more) ≡ None → (1 ≤ n) × (more ≡ None)
+pub has_one : (n p : ℕ) (more : Option ℕ) → (if n == 0 then Some p else more) ≡ None → (1 ≤ n) × (more ≡ None)
 has_one zero p more h = cc
 has_one (suc n) p more h = let other : (suc n == 0) ≡ false = grind (arith, nat_tests) in (omega arith, rw other at h)
 
@@ -42,7 +42,7 @@ length-count_from : (n first : ℕ) → length (count_from n first) ≡ n
 length-count_from zero first = refl
 length-count_from (suc n) first = ap suc (length-count_from n (suc first))
 
-length-mapped : {A B : Type 0} (f : A → B) (xs : List A) → length (map f xs) ≡ length xs
+pub length-mapped : {A B : Type 0} (f : A → B) (xs : List A) → length (map f xs) ≡ length xs
 length-mapped f [] = refl
 length-mapped f (x ∷ xs) = ap suc (length-mapped f xs)
 

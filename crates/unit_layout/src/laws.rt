@@ -1,8 +1,8 @@
 //! What holds of each layout that isn't refused.
-ghost use Rattle.unit_layout.specs.Laws.{GroupsAreApart, UnitsLieInGroups};
+ghost use Rattle.unit_layout.specs.Laws.{LayoutsStand};
 
-/// No two groups share a page, and each unit lies in a group.
+/// A layout that isn't refused is one that a machine may have: no two groups share a page, and each processor has a unit
+/// of its own in one of them.
 pub fn layouts()
-    ensures groups_are_apart { GroupsAreApart }
-    ensures units_lie_in_groups { UnitsLieInGroups }
+    ensures { LayoutsStand }
 {}
