@@ -39,7 +39,7 @@ none_shares d s p (g ∷ groups) h (suc j) t e =
     let first = if-none (share_a_page s (span_of d g)) p (first_place (λ other. share_a_page s (span_of d other)) (suc p) groups) h in
     none_shares d s (suc p) groups first.1 j t e
 
-apart_from : (s t : Span) → share_a_page s t ≡ false → AreApart s t
+pub apart_from : (s t : Span) → share_a_page s t ≡ false → AreApart s t
 apart_from s t h page in_s in_t = grind (arith, nat_tests)
 
 pub groups_apart : (d : Division) (p : ℕ) (groups : List GroupSpec) → overlap d p groups ≡ None → AreDisjoint (laid_spans d groups)

@@ -4,3 +4,4 @@ pub mod Places
 pub mod Apart
 pub mod Lying
 pub mod Standing
+pub mod Overlaps

@@ -54,7 +54,7 @@ laid_place d [] i t h = cc
 laid_place d (g ∷ groups) zero t h = (g, refl, cc)
 laid_place d (g ∷ groups) (suc i) t h = laid_place d groups i t h
 
-cpus_at : (groups : List GroupSpec) (p i : ℕ) (g : GroupSpec) → first_place has_no_processor p groups ≡ None → slice_get groups i ≡ Some g → 1 ≤ g.cpus
+pub cpus_at : (groups : List GroupSpec) (p i : ℕ) (g : GroupSpec) → first_place has_no_processor p groups ≡ None → slice_get groups i ≡ Some g → 1 ≤ g.cpus
 cpus_at [] p i g h e = cc
 cpus_at (x ∷ groups) p zero g h e = let same : x ≡ g = cc in subst (λ (y : GroupSpec). 1 ≤ y.cpus) same (has_one x.cpus p (first_place has_no_processor (suc p) groups) h).0
 cpus_at (x ∷ groups) p (suc i) g h e = cpus_at groups (suc p) i g (has_one x.cpus p (first_place has_no_processor (suc p) groups) h).1 e
@@ -62,7 +62,7 @@ cpus_at (x ∷ groups) p (suc i) g h e = cpus_at groups (suc p) i g (has_one x.c
 end_at : (d : Division) (groups : List GroupSpec) (i : ℕ) (g : GroupSpec) → slice_get groups i ≡ Some g → end_of (span_of d g) ≤ width d groups
 end_at d groups i g e = subst (λ (y : GroupSpec). end_of (span_of d y) ≤ width d groups) (get_or_from_slice_get groups i g g e) (end_in_width d groups i g (slice_get_within groups i g e))
 
-pages_at : (d : Division) (g : GroupSpec) → 1 ≤ d.units → 1 ≤ d.unit_pages → 1 ≤ g.cpus → 1 ≤ pages_of_group d g
+pub pages_at : (d : Division) (g : GroupSpec) → 1 ≤ d.units → 1 ≤ d.unit_pages → 1 ≤ g.cpus → 1 ≤ pages_of_group d g
 pages_at d g u p h =
     let room = (div_ceil_times g.cpus d.units u).0 in
     let n : 1 ≤ d.units * div_ceil g.cpus d.units = omega arith in
@@ -175,10 +175,19 @@ units_stand s c range a =
       apart = units_apart d s.groups pos (groups_apart d 0 s.groups a.apart);
     }
 
+unit_pages_eight : (s : LayoutSpec) → IsInRange s → 8 ≤ (division_of s).unit_pages
+unit_pages_eight s range =
+    let room = division_room s range in
+    let low = range.unit_low in
+    let more = le-div s.unit (allocation s.unit s.atom) (division_of s).units room.low (let fits = room.fits in omega arith) in
+    omega arith
+
+pub unit_pages_low : (s : LayoutSpec) → IsInRange s → 1 ≤ (division_of s).unit_pages
+unit_pages_low s range = let eight = unit_pages_eight s range in omega arith
+
 pub layouts_stand : LayoutsStand
 layouts_stand s c range h =
-    let room = division_room s range in
-    let pages : 8 ≤ (division_of s).unit_pages = let low = range.unit_low in let more = le-div s.unit (allocation s.unit s.atom) (division_of s).units room.low (let fits = room.fits in omega arith) in omega arith in
+    let pages = unit_pages_eight s range in
     let a = accepted s h in
     record {
       unit_low = pages;
