@@ -1,0 +1,7 @@
+pub mod Ceilings
+pub mod Search
+pub mod Places
+pub mod Apart
+pub mod Lying
+pub mod Standing
+pub mod Overlaps

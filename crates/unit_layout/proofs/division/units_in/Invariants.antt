@@ -1,0 +1,14 @@
+use Rattle.std.proofs.Common.{◌≡◌, ◌≤◌}
+use Rattle.unit_layout.specs.Rule as rule
+use Rattle.unit_layout.specs.Ranges.{IsCount}
+use Rattle.unit_layout.proofs.Search.{kept_below}
+use Rattle.unit_layout.proofs.division.units_in.Given as goal
+
+-- what is left decides
+abbrev pub invariant-loop-fewer : goal.invariant-loop-fewer
+invariant-loop-fewer l = record {
+  units : rule.taken_after l.groups l.taken (kept_below l.groups l.pages l.fewer) ≡ rule.units_in l.groups l.pages l.unit;
+  most : l.most ≡ rule.allocations l.groups l.taken;
+  taken : IsCount l.taken;
+  fewer : l.fewer ≤ 8;
+}

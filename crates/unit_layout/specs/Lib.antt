@@ -1,0 +1,5 @@
+pub mod Rule
+pub mod Ranges
+pub mod Refusals
+pub mod Rows
+pub mod Laws

@@ -1,0 +1,9 @@
+//! What holds of each layout, and of each refusal.
+ghost use Rattle.unit_layout.specs.Laws.{LayoutsStand, OverlapsAreTheLeast};
+
+/// A layout that isn't refused is one that a machine may have: no two groups share a page, and each processor has a unit
+/// of its own in one of them. Where it is refused for an overlap, that is the least pair of groups that share a page.
+pub fn layouts()
+    ensures layouts_stand { LayoutsStand }
+    ensures overlaps_are_the_least { OverlapsAreTheLeast }
+{}

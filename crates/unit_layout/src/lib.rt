@@ -1,0 +1,16 @@
+//! The layout of per-CPU units over groups of processors.
+#![tactic(auto)]
+
+mod division;
+pub mod errors;
+pub mod laws;
+pub mod layout;
+mod refusals;
+pub mod request;
+#[cfg(test)]
+mod tests;
+pub mod worked;
+
+pub use errors::{BuildError, LayoutError};
+pub use layout::{Group, Layout};
+pub use request::{GroupList, GroupSpec, LayoutSpec};

@@ -1,0 +1,15 @@
+//! Worked layouts, by computation.
+ghost use Rattle.unit_layout.specs.Rows.{OneProcessor, SixShareTwoAllocations, FiveShareThreeAllocations, TwoGroups, NoProcessor, NineGroups, SharedPages, TheFirstPair, AboveTheSpace};
+
+/// The numbers of worked layouts, and why others are refused.
+pub fn layout_rows()
+    ensures one_processor { OneProcessor }
+    ensures six_share_two_allocations { SixShareTwoAllocations }
+    ensures five_share_three_allocations { FiveShareThreeAllocations }
+    ensures two_groups { TwoGroups }
+    ensures no_processor { NoProcessor }
+    ensures nine_groups { NineGroups }
+    ensures shared_pages { SharedPages }
+    ensures the_first_pair { TheFirstPair }
+    ensures above_the_space { AboveTheSpace }
+{}
