@@ -57,6 +57,20 @@ def freed(count, lazy):
     return "\n".join(lines + ["end", ""]).encode()
 
 
+def far_apart(count):
+    """Frees of two callers at both ends of half a large range, picked so that one purge takes both: its hull is that half."""
+    lines = ["vmtrace 1", "space 1048576", "lazy 0", "callers 2", "caller 1"]
+    for number in range(count // 4):
+        lines += [f"vmalloc a{number} 1 1", f"vfree a{number}"]
+    lines.append("caller 2")
+    for number in range(count // 4):
+        lines += [f"vmalloc b{number} 1 2147483648", f"vfree b{number}"]
+    picks = "1 1 1 2 2 2 1 1 1 2 2 2 1 1 1 1 1 1 2 2 2 2".split() * (count // 4)
+    for place in range(0, len(picks), 64):
+        lines.append("order " + " ".join(picks[place : place + 64]))
+    return "\n".join(lines + ["end", ""]).encode()
+
+
 def late_fault(length):
     """A text of `length` bytes. Its last line is the first that cannot stand, and is as long as it takes."""
     text = full(99_999)[: -len("end\n")]
@@ -98,6 +112,7 @@ def main():
         ("100,000 calls of 16 callers, 400,000 picks", callers(50_000), callers(100_000)),
         ("100,000 calls of vmalloc and vfree, `lazy 0`", freed(50_000, 0), freed(100_000, 0)),
         ("100,000 calls of vmalloc and vfree, `lazy 1048576`", freed(50_000, 1048576), freed(100_000, 1048576)),
+        ("100,000 calls of vmalloc and vfree, `lazy 0`, hulls of half the space", far_apart(50_000), far_apart(100_000)),
         ("16 MiB, the fault in the last line", late_fault(8 << 20), late_fault(16 << 20)),
     ]
     print("| Text | seconds | to its half | to `wc -l` | to `sort` |")
