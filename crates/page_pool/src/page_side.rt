@@ -128,8 +128,9 @@ impl PageSide {
         self.stale.mark(span);
     }
 
-    /// No page of a span is stale any more, as after `flush_tlb_kernel_range`. It takes time for each 64 pages of the
-    /// span, and for each page of those in which one was stale. It takes no memory.
+    /// No page of a span is stale any more, as after `flush_tlb_kernel_range`. It takes time for each 4,096 pages of the
+    /// span, for each 64 of those in which one was stale, and for each page of these 64 if one of them was. It takes no
+    /// memory.
     pub fn flush(&mut self, span: Span)
         requires { end_of span ≤ length self.old.frames }
         ensures { self.new ≡ with_flushed span self.old }

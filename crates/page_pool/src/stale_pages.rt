@@ -1,5 +1,5 @@
 //! Which pages are stale.
-ghost use Rattle.std.specs.Prelude.{◌≡◌, ◌/◌, ◌<◌, ◌≤◌, ◌^◌, ℕ, true, false, IfOk, length, replicate, slice_get, slice_set};
+ghost use Rattle.std.specs.Prelude.{◌≡◌, ◌/◌, ◌<◌, ◌≤◌, ◌^◌, ℕ, true, false, IfOk, IsTrue, length, replicate, slice_get, slice_set};
 ghost use Rattle.vm_model.specs.Space.{holds, end_of, paint};
 ghost use Rattle.page_pool.specs.StaleList.{is_set, set_count};
 
@@ -7,26 +7,30 @@ use std::alloc::{AllocError, Global};
 use std::marker::Model;
 use vm_model::Span;
 
-/// How many pages a flush looks at together.
+/// How many pages a group has, which a flush passes over where none of them is stale.
 const GROUP: u32 = 64;
 
-/// For each page whether it is stale, and for each group of pages whether one of them may be.
+/// How many pages a cluster of 64 groups has, which a flush passes over too where none of them is stale.
+const CLUSTER: u32 = 64 * GROUP;
+
+/// For each page whether it is stale, and how many pages of each group and of each cluster are.
 #[derive(Drop)]
 pub(crate) struct StalePages {
     flags: Vec<bool>,
-    touched: Vec<bool>,
+    groups: Vec<u16>,
+    clusters: Vec<u16>,
     count: u32,
 }
 
 impl Model for StalePages {
     ghost use Rattle.std.specs.Prelude.{Bool, List};
-    ghost use Rattle.page_pool.specs.StaleList.{AreTouched};
+    ghost use Rattle.page_pool.specs.StaleList.{AreCounted};
 
     ghost Value = { List Bool };
 
     ghost view = { λ s. s.flags.items };
 
-    ghost invariant = { λ s. AreTouched s.flags.items s.touched.items s.count };
+    ghost invariant = { λ s. AreCounted s.flags.items s.groups.items s.clusters.items s.count };
 }
 
 impl StalePages {
@@ -35,10 +39,12 @@ impl StalePages {
         ensures { IfOk result (λ pages. pages ≡ replicate space false) }
     {
         let flags = vec![in alloc; false; space as usize]?;
-        let touched = vec![in alloc; false; space.div_ceil(GROUP) as usize]?;
+        let groups = vec![in alloc; 0; space.div_ceil(GROUP) as usize]?;
+        let clusters = vec![in alloc; 0; space.div_ceil(CLUSTER) as usize]?;
         Ok(StalePages {
             flags,
-            touched,
+            groups,
+            clusters,
             count: 0,
         })
     }
@@ -63,7 +69,8 @@ impl StalePages {
             return;
         }
         self.flags[page as usize] = true;
-        self.touched[(page / GROUP) as usize] = true;
+        self.groups[(page / GROUP) as usize] += 1;
+        self.clusters[(page / CLUSTER) as usize] += 1;
         self.count += 1;
     }
 
@@ -87,6 +94,8 @@ impl StalePages {
             return;
         }
         self.flags[page as usize] = false;
+        self.groups[(page / GROUP) as usize] -= 1;
+        self.clusters[(page / CLUSTER) as usize] -= 1;
         self.count -= 1;
     }
 
@@ -103,25 +112,20 @@ impl StalePages {
 
     /// No page of a span is stale any more, which lies in one group.
     fn flush_group(&mut self, span: Span)
-        requires pages { 1 ≤ span.pages }
         requires inside { end_of span ≤ length self.old }
         requires space { length self.old < 2 ^ 32 }
+        requires pages { 0 < span.pages }
         requires group { (page : ℕ) → holds span page ≡ true → page / 64 ≡ span.start / 64 }
         ensures { self.new ≡ paint (holds span) false self.old }
     {
-        let group = (span.start / GROUP) as usize;
-        if !self.touched[group] {
-            return;
-        }
-        self.clear(span);
-        if span.pages == GROUP {
-            self.touched[group] = false;
+        if self.groups[(span.start / GROUP) as usize] > 0 {
+            self.clear(span);
         }
     }
 
-    /// No page of a span is stale any more. It takes time for each group of pages, and for each page of those groups in
-    /// which one was stale.
-    pub(crate) fn flush(&mut self, span: Span)
+    /// No page of a span is stale any more. It takes time for each group, and for each page of the groups that have a
+    /// stale one.
+    fn flush_groups(&mut self, span: Span)
         requires inside { end_of span ≤ length self.old }
         requires space { length self.old < 2 ^ 32 }
         ensures { self.new ≡ paint (holds span) false self.old }
@@ -135,10 +139,122 @@ impl StalePages {
         }
     }
 
+    /// No page of a span is stale any more, which lies in one cluster.
+    fn flush_cluster(&mut self, span: Span)
+        requires inside { end_of span ≤ length self.old }
+        requires space { length self.old < 2 ^ 32 }
+        requires pages { 0 < span.pages }
+        requires cluster { (page : ℕ) → holds span page ≡ true → page / 4096 ≡ span.start / 4096 }
+        ensures { self.new ≡ paint (holds span) false self.old }
+    {
+        if self.clusters[(span.start / CLUSTER) as usize] > 0 {
+            self.flush_groups(span);
+        }
+    }
+
+    /// No page of a span is stale any more. It takes time for each cluster, for each group of the clusters that have a
+    /// stale page, and for each page of the groups that have one.
+    pub(crate) fn flush(&mut self, span: Span)
+        requires inside { end_of span ≤ length self.old }
+        requires space { length self.old < 2 ^ 32 }
+        ensures { self.new ≡ paint (holds span) false self.old }
+    {
+        let end = span.start + span.pages;
+        let mut page = span.start;
+        while page < end {
+            let pages = (CLUSTER - page % CLUSTER).min(end - page);
+            self.flush_cluster(Span { start: page, pages });
+            page += pages;
+        }
+    }
+
     /// How many pages are stale.
     pub(crate) fn len(&self) -> u32
         ensures { result ≡ set_count self.now }
     {
         self.count
+    }
+}
+
+#[cfg(test)]
+mod tests {
+    use super::*;
+
+    const SPACE: u32 = 12_345;
+
+    /// Whether a span lies among the pages.
+    fn is_inside(pages: &StalePages, span: Span) -> bool
+        ensures inside { IsTrue result → end_of span ≤ length pages.now }
+        ensures space { IsTrue result → length pages.now < 2 ^ 32 }
+    {
+        let end = u64::from(span.start) + u64::from(span.pages);
+        end <= pages.flags.len() as u64 && pages.flags.len() <= u32::MAX as usize
+    }
+
+    /// Pages of which the first and the last of each cluster are stale and some between, and the same as a plain list.
+    fn some_stale(alloc: Global) -> Result<(StalePages, Vec<bool>), AllocError> {
+        let mut pages = StalePages::none(alloc, SPACE)?;
+        let mut plain = vec![in alloc; false; SPACE as usize]?;
+        for page in [0, 63, 64, 4095, 4096, 5000, 8191, 8192, 12_287, 12_288] {
+            let span = Span {
+                start: page,
+                pages: 1,
+            };
+            if is_inside(&pages, span) && (page as usize) < plain.len() {
+                pages.mark(span);
+                plain[page as usize] = true;
+            }
+        }
+        Ok((pages, plain))
+    }
+
+    /// Flushes a hull, here and in the plain list.
+    fn flush_both(pages: &mut StalePages, plain: &mut [bool], hull: Span) -> bool {
+        let end = u64::from(hull.start) + u64::from(hull.pages);
+        if !is_inside(pages, hull) || end > plain.len() as u64 {
+            return false;
+        }
+        pages.flush(hull);
+        plain[hull.start as usize..end as usize].fill(false);
+        true
+    }
+
+    /// Whether the same pages are stale as in the plain list.
+    fn are_alike(pages: &StalePages, plain: &[bool]) -> bool {
+        for page in 0..SPACE {
+            if Some(&pages.contains(page)) != plain.get(page as usize) {
+                return false;
+            }
+        }
+        true
+    }
+
+    #[test]
+    fn flushes_hulls(rt: HostRuntime) -> Result<(), AllocError> {
+        let rows = [
+            (0, SPACE, 0),
+            (0, 4095, 7),
+            (4095, 1, 9),
+            (4095, 2, 8),
+            (4096, 1, 9),
+            (4096, 4096, 7),
+            (4097, 4094, 9),
+            (1, 12_287, 2),
+            (64, 8128, 5),
+            (5000, 7287, 7),
+            (8192, 0, 10),
+        ];
+        for (start, count, left) in rows {
+            let (mut pages, mut plain) = some_stale(rt.alloc())?;
+            let hull = Span {
+                start,
+                pages: count,
+            };
+            assert_eq!(rt; pages.len(), 10);
+            assert!(rt; flush_both(&mut pages, &mut plain, hull), "{start}");
+            assert_eq!(rt; pages.len(), left, "{start} {count}");
+            assert!(rt; are_alike(&pages, &plain), "{start} {count}");
+        }
+        Ok(())
     }
 }

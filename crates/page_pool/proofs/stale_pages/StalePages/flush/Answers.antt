@@ -1,7 +1,6 @@
-use Rattle.std.proofs.Common.{◌≡◌, ℕ, ◌+◌, ◌-◌, ◌/◌, ◌%◌, ◌<◌, ◌≤◌, false, true, length, ap, ◌∙◌, arith}
-use Rattle.std.proofs.lemmas.Bool.Decides.{nat_tests}
-use Rattle.vm_model.specs.Space.{span, holds}
+use Rattle.std.proofs.Common.{false, length, ap, ◌∙◌, arith}
 use Rattle.vm_model.proofs.Paint.{length-paint_from}
+use Rattle.page_pool.proofs.Flags.{rest_in_group}
 use Rattle.page_pool.proofs.Painting.{paint-first, paint-on, paint-last}
 use Rattle.page_pool.proofs.stale_pages.StalePages.flush.Goals as goal
 
@@ -12,27 +11,21 @@ loop-page-init c = record {
   pages = paint-first c.args.span.start false c.args.self.now;
 }
 
-in_group : (start pages page : ℕ) → pages ≤ 64 - start % 64 → holds (span start pages) page ≡ true → page / 64 ≡ start / 64
-in_group start pages page few h =
-    let low : start ≤ page = grind (arith, nat_tests) in
-    let high : page < start + pages = grind (arith, nat_tests) in
-    omega arith
-
-pub flush_group-requires : goal.flush_group-requires
-flush_group-requires c =
+pub flush_cluster-requires : goal.flush_cluster-requires
+flush_cluster-requires c =
     let long = ap length c.loop-page.invariant.pages ∙ length-paint_from _ false c.args.self.now 0 in
     record {
       pages = omega arith;
       inside = omega arith;
       space = omega arith;
-      group = λ page inside. in_group c.loop-page.page c.min-pages.result page (omega arith) inside;
+      cluster = λ page inside. rest_in_group 4096 c.loop-page.page c.min-pages.result page (omega arith) (omega arith) inside;
     }
 
 pub loop-page-preserved : goal.loop-page-preserved
 loop-page-preserved c = record {
   from = omega arith;
   to = omega arith;
-  pages = paint-on c.args.span.start c.loop-page.page c.min-pages.result false c.args.self.now c.loop-page.self c.flush_group.new.self c.loop-page.invariant.from c.loop-page.invariant.pages c.flush_group.ensures;
+  pages = paint-on c.args.span.start c.loop-page.page c.min-pages.result false c.args.self.now c.loop-page.self c.flush_cluster.new.self c.loop-page.invariant.from c.loop-page.invariant.pages c.flush_cluster.ensures;
 }
 
 pub returns : goal.returns

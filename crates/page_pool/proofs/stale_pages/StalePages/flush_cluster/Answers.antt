@@ -1,0 +1,14 @@
+use Rattle.std.proofs.Common.{◌≡◌, ◌/◌, false, length, ap, sym, ◌∙◌, arith}
+use Rattle.vm_model.specs.Space.{holds, paint}
+use Rattle.page_pool.specs.StaleList.{set_in}
+use Rattle.page_pool.proofs.Flags.{cluster_read, nothing_stale}
+use Rattle.page_pool.proofs.stale_pages.StalePages.flush_cluster.Goals as goal
+
+pub returns-else-index-gt0 : goal.returns-else-index-gt0
+returns-else-index-gt0 c =
+    let flags = c.self.inside.flags.items in
+    let cluster = c.args.span.start / 4096 in
+    let same = ap (λ fs. length fs) c.self.view_is in
+    let read = cluster_read flags c.self.inside.groups.items c.self.inside.clusters.items c.self.inside.count c.args.span.start c.index.result.now c.self.invariant (omega arith) c.index.ensures in
+    let none : set_in 4096 cluster flags ≡ 0 = omega arith in
+    sym c.self.view_is ∙ nothing_stale 4096 cluster flags c.args.span (omega arith) none c.requires.cluster ∙ ap (paint (holds c.args.span) false) c.self.view_is
