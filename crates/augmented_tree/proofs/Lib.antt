@@ -1,7 +1,8 @@
-mod SeparateBlocks
+pub mod SeparateBlocks
 mod Cuts
 mod Splices
-mod FirstStart
+pub mod FirstStart
 mod FreeRuns
 mod Joins
 mod GivenBack
+pub mod Finds

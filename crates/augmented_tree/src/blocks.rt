@@ -1,13 +1,13 @@
 //! Separate blocks of free pages in a list, by rising start. Functions of mm/vmalloc.c of Linux 6.1 that these follow
 //! are named with them.
-ghost use Rattle.std.specs.Prelude.{◌≡◌, ◌+◌, ◌≤◌, ◌<◌, ◌++◌, ◌∷◌, [], ℕ, true, false, Some, None, All, length, take, drop, slice_get, vec_len, vec_capacity, option_map, if◌then◌else◌, IfSome, IsSomeAnd, OnOk, OnErr};
+ghost use Rattle.std.specs.Prelude.{◌≡◌, ◌+◌, ◌≤◌, ◌<◌, ◌++◌, ◌∷◌, [], ℕ, true, false, Some, None, All, length, take, drop, slice_get, vec_len, vec_capacity, option_map, if◌then◌else◌, find, filter, nat_le, IfSome, IsSomeAnd};
 ghost use Rattle.std.specs.Int.{next_multiple_of};
 ghost use Rattle.vm_model.specs.declared.areas.Span.{Span};
 ghost use Rattle.vm_model.specs.Space.{span, end_of, holds, covers, times, AreSeparateFrom};
+ghost use Rattle.vm_model.specs.Setup.{last_of};
 ghost use Rattle.augmented_tree.specs.Blocks.{AreBlocks, has_room, first_start, IsInside, unless_empty, spliced, LeavesOut, TakesIn, JoinsBefore, JoinsAfter};
 ghost use Rattle.augmented_tree.specs.declared.blocks.Fit.{Fit};
 
-use std::alloc::AllocError;
 use vm_model::Span;
 
 /// A place for some pages: the index of a block, and the first page in it.
@@ -19,6 +19,13 @@ pub struct Fit {
     pub start: u32,
 }
 
+/// The page behind the last one.
+fn end(block: Span) -> u64
+    ensures { result ≡ end_of block }
+{
+    u64::from(block.start) + u64::from(block.pages)
+}
+
 /// The least multiple of the alignment in the block, if the pages fit in it from there: `is_within_this_va`.
 fn fit_in(block: Span, pages: u32, align: u32) -> Option<u32>
     requires align { 1 ≤ align }
@@ -26,8 +33,7 @@ fn fit_in(block: Span, pages: u32, align: u32) -> Option<u32>
     ensures { result ≡ (if has_room pages align block then Some (next_multiple_of block.start align) else None) }
 {
     let start = u64::from(block.start).next_multiple_of(u64::from(align));
-    let end = u64::from(block.start) + u64::from(block.pages);
-    if start + u64::from(pages) <= end {
+    if start + u64::from(pages) <= end(block) {
         Some(start as u32)
     } else {
         None
@@ -49,16 +55,14 @@ pub fn first_fit(blocks: &[Span], pages: u32, align: u32) -> Option<Fit>
     None
 }
 
-/// Puts what is left of a block in its place: nothing, one block or two, as `adjust_va_to_fit_type` does.
-fn replace_block(
-    blocks: &mut Vec<Span>,
-    index: usize,
-    before: Span,
-    after: Span,
-) -> Result<(), AllocError>
-    requires { index < length blocks.old.items }
-    ensures ok { OnOk result (blocks.new.items ≡ spliced blocks.old.items index (index + 1) (unless_empty before ++ unless_empty after)) }
-    ensures err { OnErr result (blocks.new.items ≡ blocks.old.items) }
+/// Puts what is left of a block in its place, where there is room for one more: nothing, one block or two, as
+/// `adjust_va_to_fit_type` does. It takes no memory.
+fn replace_block(blocks: &mut Vec<Span>, index: usize, before: Span, after: Span)
+    requires index { index < length blocks.old.items }
+    requires room { vec_len blocks.old < vec_capacity blocks.old }
+    ensures items { blocks.new.items ≡ spliced blocks.old.items index (index + 1) (unless_empty before ++ unless_empty after) }
+    ensures len { vec_len blocks.new ≤ vec_len blocks.old + 1 }
+    ensures capacity { vec_capacity blocks.old ≤ vec_capacity blocks.new }
 {
     if before.pages == 0 && after.pages == 0 {
         blocks.remove(index);
@@ -67,19 +71,22 @@ fn replace_block(
     } else if after.pages == 0 {
         blocks[index] = before;
     } else {
-        blocks.insert(index + 1, after)?;
+        if blocks.insert(index + 1, after).is_err() {
+            unreachable!();
+        }
         blocks[index] = before;
     }
-    Ok(())
 }
 
-/// Takes a place in a block out of the blocks. It takes memory only where pages are left on both sides.
-pub fn cut_out(blocks: &mut Vec<Span>, index: usize, place: Span) -> Result<(), AllocError>
+/// Takes a place in a block out of the blocks, where there is room for one more. It takes no memory.
+pub fn cut_out(blocks: &mut Vec<Span>, index: usize, place: Span)
     requires pages { 1 ≤ place.pages }
     requires inside { IsSomeAnd (slice_get blocks.old.items index) (IsInside place) }
     requires separate { AreBlocks blocks.old.items }
-    ensures ok { OnOk result (LeavesOut blocks.old.items blocks.new.items place) }
-    ensures err { OnErr result (blocks.new.items ≡ blocks.old.items) }
+    requires room { vec_len blocks.old < vec_capacity blocks.old }
+    ensures cut { LeavesOut blocks.old.items blocks.new.items place }
+    ensures len { vec_len blocks.new ≤ vec_len blocks.old + 1 }
+    ensures capacity { vec_capacity blocks.old ≤ vec_capacity blocks.new }
 {
     let block = blocks[index];
     let place_end = place.start + place.pages;
@@ -91,21 +98,47 @@ pub fn cut_out(blocks: &mut Vec<Span>, index: usize, place: Span) -> Result<(), 
         start: place_end,
         pages: block.start + block.pages - place_end,
     };
-    replace_block(blocks, index, before, after)
+    replace_block(blocks, index, before, after);
 }
 
 /// How many blocks begin at a page or before it: the place of a span that begins there, as `find_va_links` finds it.
-fn blocks_up_to(blocks: &[Span], page: u32) -> usize
+pub fn blocks_up_to(blocks: &[Span], page: u32) -> usize
+    requires { AreBlocks blocks.now }
     ensures bound { result ≤ length blocks.now }
     ensures before { All (λ (b : Span). b.start ≤ page) (take result blocks.now) }
     ensures after { IfSome (slice_get blocks.now result) (λ b. page < b.start) }
 {
-    for (index, block) in blocks.iter().enumerate() {
-        if page < block.start {
-            return index;
-        }
+    blocks.partition_point(|block| block.start <= page)
+}
+
+/// The block that holds a page: `find_vmap_area`, over the free blocks.
+pub fn block_with(blocks: &[Span], page: u32) -> Option<Span>
+    requires { AreBlocks blocks.now }
+    ensures { result ≡ find (λ (b : Span). holds b page) blocks.now }
+{
+    let index = blocks_up_to(blocks, page);
+    if index == 0 {
+        return None;
     }
-    blocks.len()
+    let block = blocks[index - 1];
+    if page - block.start < block.pages {
+        Some(block)
+    } else {
+        None
+    }
+}
+
+/// The last of the blocks that end at a page or before it.
+pub fn block_before(blocks: &[Span], page: u32) -> Option<Span>
+    requires { AreBlocks blocks.now }
+    ensures { result ≡ last_of (filter (λ (b : Span). nat_le (end_of b) page) blocks.now) }
+{
+    let index = blocks.partition_point(|block| end(*block) <= u64::from(page));
+    if index == 0 {
+        None
+    } else {
+        Some(blocks[index - 1])
+    }
 }
 
 /// The lower or the upper end of a span together with the blocks that it touches.
@@ -209,7 +242,9 @@ pub fn put_back_all(blocks: &mut Vec<Span>, spans: &[Span])
     requires separate { AreBlocks blocks.old.items }
     requires taken { (page : ℕ) → covers spans.now page ≡ true → covers blocks.old.items page ≡ false }
     requires room { vec_len blocks.old + length spans.now ≤ vec_capacity blocks.old }
-    ensures { TakesIn blocks.old.items blocks.new.items spans.now }
+    ensures blocks { TakesIn blocks.old.items blocks.new.items spans.now }
+    ensures len { vec_len blocks.new ≤ vec_len blocks.old + length spans.now }
+    ensures capacity { vec_capacity blocks.old ≤ vec_capacity blocks.new }
 {
     for span in spans {
         put_back(blocks, *span);

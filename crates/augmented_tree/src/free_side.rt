@@ -1,31 +1,36 @@
 //! The free blocks of a space: what `free_vmap_area_root` holds in the kernel. Functions of mm/vmalloc.c of Linux 6.1
 //! that these follow are named with them.
-ghost use Rattle.std.specs.Prelude.{◌≡◌, ◌≤◌, ◌<◌, ℕ, List, Bool, true, false, Some, None, All, length, slice_get, replicate, option_map, IfOk, IfSome, IfNone, OnOk, OnErr, ◌∷◌, []};
+ghost use Rattle.std.specs.Prelude.{◌≡◌, ◌≤◌, ◌<◌, ◌+◌, ◌&&◌, not, nat_le, max, find, filter, ℕ, List, Bool, true, false, Some, None, All, length, slice_get, replicate, option_map, IfOk, IfSome, IfNone, OnOk, OnErr, ◌∷◌, []};
 ghost use Rattle.vm_model.specs.Space.{span, holds, covers, times, end_of, lowest, longest_of, paint, AreSeparateFrom};
 ghost use Rattle.vm_model.specs.declared.areas.Span.{Span};
+ghost use Rattle.vm_model.specs.Setup.{last_of};
+ghost use Rattle.augmented_tree.specs.Blocks.{AreBlocks};
 ghost use Rattle.augmented_tree.specs.FreeBlocks.{FreeBlocks, AreFreeRuns};
 
-use crate::blocks::{cut_out, first_fit, put_back_all};
+use crate::blocks::{block_before, block_with, blocks_up_to, cut_out, first_fit, put_back_all};
 use std::alloc::{AllocError, Global};
 use std::marker::Model;
 use vm_model::Span;
 
-/// The free blocks of a space of at most 1,048,576 pages, by rising start. No two blocks touch.
+/// The free blocks of a space of at most 1,048,576 pages, by rising start. No two blocks touch. Beside them it has room
+/// for the spare nodes: for so many blocks that `carve_at` may make.
 #[derive(Drop)]
 pub struct FreeSide {
     blocks: Vec<Span>,
+    spare: u32,
 }
 
 impl Model for FreeSide {
+    ghost use Rattle.std.specs.Prelude.{◌+◌, ◌≤◌, vec_len, vec_capacity};
     ghost use Rattle.augmented_tree.specs.FreeBlocks.{FreeBlocks};
     ghost use Rattle.augmented_tree.specs.Blocks.{AreBlocks};
 
     ghost Value = { FreeBlocks };
 
-    ghost view = { λ s. record { blocks = s.blocks.items; spare = 0 } };
+    ghost view = { λ s. record { blocks = s.blocks.items; spare = s.spare } };
 
-    // the blocks are separate, and each ends at 1,048,576 at most
-    ghost invariant = { λ s. AreBlocks s.blocks.items };
+    // the blocks are separate, each ends at 1,048,576 at most, and there is room for the spare nodes
+    ghost invariant = { λ s. AreBlocks s.blocks.items × (vec_len s.blocks + s.spare ≤ vec_capacity s.blocks) };
 }
 
 impl FreeSide {
@@ -37,7 +42,7 @@ impl FreeSide {
         ensures free { IfOk result (λ side. AreFreeRuns side (replicate pages false)) }
     {
         let blocks = vec![in alloc; Span { start: 0, pages }]?;
-        Ok(FreeSide { blocks })
+        Ok(FreeSide { blocks, spare: 0 })
     }
 
     /// The least start at which so many pages are free at a multiple of the alignment, which is in pages too:
@@ -53,8 +58,9 @@ impl FreeSide {
         }
     }
 
-    /// Takes the least such pages out, as `__alloc_vmap_area` does, or none where so many fit nowhere. It takes memory
-    /// only where a block is cut in two, and an error leaves the blocks as they were.
+    /// Takes the least such pages out, as `__alloc_vmap_area` does, or none where so many fit nowhere. As with the kernel's
+    /// `ne_fit_preload` there is room for one more block before anything is changed, and no spare node is used up. An error
+    /// leaves the blocks as they were.
     pub fn carve(&mut self, pages: u32, align: u32) -> Result<Option<Span>, AllocError>
         requires pages { 1 ≤ pages }
         requires align { 1 ≤ align }
@@ -71,8 +77,43 @@ impl FreeSide {
             start: fit.start,
             pages,
         };
-        cut_out(&mut self.blocks, fit.index, place)?;
+        self.blocks.reserve(self.spare as usize + 1)?;
+        cut_out(&mut self.blocks, fit.index, place);
         Ok(Some(place))
+    }
+
+    /// Takes spare nodes in stock, until there are so many. An error leaves all as it was.
+    pub fn reserve(&mut self, nodes: u32) -> Result<(), AllocError>
+        ensures ok { OnOk result (self.new ≡ record self.old { spare = max self.old.spare nodes }) }
+        ensures err { OnErr result (self.new ≡ self.old) }
+    {
+        self.blocks.reserve(nodes as usize)?;
+        self.spare = self.spare.max(nodes);
+        Ok(())
+    }
+
+    /// How many spare nodes there are: `carve_at` can be called so many times. It takes no memory.
+    pub fn spare(&self) -> u32
+        ensures { result ≡ self.now.spare }
+    {
+        self.spare
+    }
+
+    /// Takes pages out that are free, as `adjust_va_to_fit_type` does. Their block may be cut in two, for which a spare
+    /// node is used up. It takes no memory.
+    pub fn carve_at(&mut self, span: Span)
+        requires free { (page : ℕ) → holds span page ≡ true → covers self.old.blocks page ≡ true }
+        requires spare { 1 ≤ self.old.spare }
+        ensures carved { (taken : List Bool) → AreFreeRuns self.old taken → AreFreeRuns self.new (paint (holds span) true taken) }
+        ensures cover { (page : ℕ) → covers self.new.blocks page ≡ (covers self.old.blocks page && not (holds span page)) }
+        ensures spare { self.new.spare + 1 ≡ self.old.spare }
+    {
+        self.spare -= 1;
+        if span.pages == 0 {
+            return;
+        }
+        let index = blocks_up_to(&self.blocks, span.start) - 1;
+        cut_out(&mut self.blocks, index, span);
     }
 
     /// Gives pages back, as `merge_or_add_vmap_area_augment` does for each span: blocks that touch become one. An error
@@ -86,9 +127,32 @@ impl FreeSide {
         ensures spare { self.new.spare ≡ self.old.spare }
         ensures err { OnErr result (self.new ≡ self.old) }
     {
-        self.blocks.reserve(spans.len())?;
+        self.blocks.reserve(spans.len() + self.spare as usize)?;
         put_back_all(&mut self.blocks, spans);
         Ok(())
+    }
+
+    /// The block that holds a page, or none where the page isn't free: `find_vmap_area`, over the free blocks. It takes no
+    /// memory.
+    pub fn enclosing(&self, page: u32) -> Option<Span>
+        ensures block { result ≡ find (λ (b : Span). holds b page) self.now.blocks }
+        ensures blocks { AreBlocks self.now.blocks }
+    {
+        block_with(&self.blocks, page)
+    }
+
+    /// The highest of the blocks that end at a page or before it, or none where no block does. The end is the page behind
+    /// a block's last one. It takes no memory.
+    pub fn last_ending_by(&self, page: u32) -> Option<Span>
+        ensures block { result ≡ last_of (filter (λ (b : Span). nat_le (end_of b) page) self.now.blocks) }
+        ensures blocks { AreBlocks self.now.blocks }
+    {
+        block_before(&self.blocks, page)
+    }
+
+    /// What its memory comes from. It takes no memory.
+    pub fn allocator(&self) -> &Global {
+        self.blocks.allocator()
     }
 
     /// The pages of the largest block, or 0 where nothing is free. It takes no memory.
@@ -140,6 +204,7 @@ mod tests {
     {
         FreeSide {
             blocks: Vec::new(alloc),
+            spare: 0,
         }
     }
 
@@ -186,6 +251,50 @@ mod tests {
         side.release_all(&spans)?;
         assert!(rt; has_blocks(&side, &[(0, 1), (6, 10)]));
         assert_eq!(rt; side.largest(), 4);
+        Ok(())
+    }
+
+    #[test]
+    fn carves_where_it_is_told(rt: HostRuntime) -> Result<(), AllocError> {
+        let mut side = FreeSide::whole(rt.alloc(), 16)?;
+        side.reserve(1)?;
+        side.carve_at(Span { start: 4, pages: 2 });
+        assert!(rt; has_blocks(&side, &[(0, 4), (6, 16)]));
+        assert_eq!(rt; side.spare(), 0);
+        side.reserve(2)?;
+        assert_eq!(rt; side.carve(1, 1)?, Some(Span { start: 0, pages: 1 }));
+        assert!(rt; has_blocks(&side, &[(1, 4), (6, 16)]));
+        assert_eq!(rt; side.spare(), 2);
+
+        let mut side = nothing_free(rt.alloc());
+        side.reserve(2)?;
+        side.release_all(&[Span { start: 5, pages: 1 }])?;
+        side.reserve(1)?;
+        assert_eq!(rt; side.spare(), 2);
+        Ok(())
+    }
+
+    #[test]
+    fn finds_blocks_by_page(rt: HostRuntime) -> Result<(), AllocError> {
+        let mut side = nothing_free(rt.alloc());
+        assert_eq!(rt; side.last_ending_by(16), None);
+        let (low, high) = (Span { start: 2, pages: 3 }, Span { start: 7, pages: 1 });
+        side.release_all(&[high, low])?;
+        let rows = [
+            (0, None, None),
+            (1, None, None),
+            (2, Some(low), None),
+            (4, Some(low), None),
+            (5, None, Some(low)),
+            (6, None, Some(low)),
+            (7, Some(high), Some(low)),
+            (8, None, Some(high)),
+            (u32::MAX, None, Some(high)),
+        ];
+        for (page, holding, below) in rows {
+            assert_eq!(rt; side.enclosing(page), holding);
+            assert_eq!(rt; side.last_ending_by(page), below);
+        }
         Ok(())
     }
 }

@@ -16,5 +16,7 @@ loop-span-preserved c = record {
   ends = ends_taken_in c.loop-span.blocks.items _ (get_or c.args.spans.now c.loop-span.span-index (span 0 0) ∷ []) c.loop-span.invariant.ends c.put_back.ensures.blocks
       (All-cons (λ (s : Span). end_of s ≤ 1048576) _ [] (All-get_or (λ (s : Span). end_of s ≤ 1048576) c.args.spans.now c.loop-span.span-index (span 0 0) c.loop-span-test.true c.requires.ends)
       (All-nil (λ (s : Span). end_of s ≤ 1048576)));
+  len = omega arith;
+  capacity = omega arith;
   room = omega arith;
 }

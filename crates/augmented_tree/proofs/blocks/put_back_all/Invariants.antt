@@ -8,5 +8,7 @@ abbrev pub invariant-loop-span : goal.invariant-loop-span
 invariant-loop-span l = record {
   taken_in : TakesIn l.initial.blocks.items l.blocks.items (take l.span-index l.spans);
   ends : All (λ (b : Span). end_of b ≤ 1048576) l.blocks.items;
+  len : vec_len l.blocks ≤ vec_len l.initial.blocks + l.span-index;
+  capacity : vec_capacity l.initial.blocks ≤ vec_capacity l.blocks;
   room : vec_len l.blocks + (length l.spans - l.span-index) ≤ vec_capacity l.blocks;
 }

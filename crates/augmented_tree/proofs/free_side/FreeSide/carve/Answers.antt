@@ -1,4 +1,4 @@
-use Rattle.std.proofs.Common.{ℕ, option_map, ap, ◌∙◌}
+use Rattle.std.proofs.Common.{ℕ, option_map, ap, ◌∙◌, arith}
 use Rattle.vm_model.specs.Space.{span}
 use Rattle.augmented_tree.specs.FreeBlocks.{FreeBlocks}
 use Rattle.augmented_tree.proofs.Cuts.{AreBlocks-left}
@@ -12,7 +12,7 @@ returns-in_default-clause-place c taken is =
     (c.deref.ensures.value ∙ ap (λ (s : FreeBlocks). s.blocks) c.self.view_is) is c.requires.pages c.requires.align)
 
 pub invariant_of-self-2 : goal.invariant_of-self-2
-invariant_of-self-2 c = AreBlocks-left _ _ _ c.self.invariant c.in_ok-cut_out.ensures.ok
+invariant_of-self-2 c = (AreBlocks-left c.self.inside.blocks.items _ _ c.self.invariant.0 (rw c.in_ok-reserve.ensures.items at c.cut_out.ensures.cut), omega (arith, c.in_ok-reserve.ensures.ok))
 
 pub returns-clause-place : goal.returns-clause-place
 returns-clause-place c taken is =
@@ -20,4 +20,4 @@ returns-clause-place c taken is =
     (c.deref.ensures.value ∙ ap (λ (s : FreeBlocks). s.blocks) c.self.view_is) is c.requires.pages c.requires.align)
 
 pub returns-clause-carved : goal.returns-clause-carved
-returns-clause-carved c taken is = runs-left _ _ _ taken c.in_ok-cut_out.ensures.ok (ap (λ (s : FreeBlocks). s.blocks) c.self.view_is ∙ is)
+returns-clause-carved c taken is = runs-left c.self.inside.blocks.items _ _ taken (rw c.in_ok-reserve.ensures.items at c.cut_out.ensures.cut) (ap (λ (s : FreeBlocks). s.blocks) c.self.view_is ∙ is)
