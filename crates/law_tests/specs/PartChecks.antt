@@ -28,7 +28,7 @@ same_region (LiveAreas a n) (LiveAreas b p) = same_list same_area a b && (n == p
 same_region (WaitingSpans s) (WaitingSpans t) = same_list same_span s t
 same_region (Pages f s x) (Pages g t y) = same_list (same_option same_number) f g && same_list same_bool s t && same_list same_integer x y
 same_region (Percpu h o n r) (Percpu i p q s) = same_list same_chunk h i && (o == p) && (n == q) && (r == s)
-same_region (CpuBlocks k b n) (CpuBlocks l d p) = (k == l) && same_list same_block b d && (n == p)
+same_region (CpuBlocks k a b n) (CpuBlocks l c d p) = (k == l) && (a == c) && same_list same_block b d && (n == p)
 same_region _ _ = false
 
 abbrev pub same_answer : Answered → Answered → Bool

@@ -1,11 +1,7 @@
 -- Spans that wait, as a set keeps them.
 use Rattle.std.specs.Prelude.{◌≡◌, ℕ, ◌≤◌, List, All}
 use Rattle.vm_model.specs.declared.areas.Span.{Span}
-use Rattle.vm_model.specs.Space.{end_of, times, sum_of_pages}
-
--- the span lies in the largest space
-abbrev pub HasEnd : Span → Type 0
-HasEnd s = end_of s ≤ 1048576
+use Rattle.vm_model.specs.Space.{HasEnd, end_of, times, sum_of_pages}
 
 abbrev pub HasPage : Span → Type 0
 HasPage s = 1 ≤ s.pages

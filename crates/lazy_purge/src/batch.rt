@@ -3,9 +3,8 @@ ghost use Rattle.std.specs.Prelude.{◌≡◌, All};
 ghost use Rattle.vm_model.specs.Space.{hull};
 ghost use Rattle.lazy_purge.specs.Waits.{HasPage, AreWhole};
 
-use crate::hulls;
 use std::marker::Model;
-use vm_model::Span;
+use vm_model::{Span, hull};
 
 /// Spans that waited, in the order of the waits: the list that the kernel's `__purge_vmap_area_lazy` moves to its own.
 #[derive(Drop)]
@@ -38,7 +37,7 @@ impl Batch {
     pub fn hull(&self) -> Option<Span>
         ensures { result ≡ hull self.now }
     {
-        hulls::hull(&self.spans)
+        hull(&self.spans)
     }
 
     /// The spans, as they were added.

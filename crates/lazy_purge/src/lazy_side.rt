@@ -1,7 +1,8 @@
 //! The spans that wait.
 ghost use Rattle.std.specs.Prelude.{◌≡◌, ◌≤◌, ℕ, [], ◌++◌, All, IfOk, OnOk, OnErr};
 ghost use Rattle.vm_model.specs.Space.{sum_of_pages, times};
-ghost use Rattle.lazy_purge.specs.Waits.{HasPage, HasEnd};
+ghost use Rattle.vm_model.specs.Space.{HasEnd};
+ghost use Rattle.lazy_purge.specs.Waits.{HasPage};
 
 use crate::batch::Batch;
 use std::alloc::{AllocError, Global};
@@ -69,6 +70,7 @@ impl LazySide {
     pub fn take(&mut self) -> Batch
         ensures batch { result ≡ self.old }
         ensures some { All HasPage result }
+        ensures ends { All HasEnd result }
         ensures empty { self.new ≡ [] }
     {
         let spans = mem::replace(&mut self.spans, Vec::new(self.alloc));

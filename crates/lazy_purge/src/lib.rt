@@ -2,7 +2,6 @@
 #![tactic(auto)]
 
 mod batch;
-mod hulls;
 pub mod laws;
 mod lazy_side;
 

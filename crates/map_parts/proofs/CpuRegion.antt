@@ -53,18 +53,18 @@ from_eight : (k : ℕ) → 8 + k ≡ suc (suc (suc (suc (suc (suc (suc (suc k)))
 from_eight k = omega arith
 
 module _ (c : Setup) (m : PlainMap) (k : ℕ) where
-  slice_get-cpu : (cpu : ℕ) → cpu < cpus c → slice_get (regions_of c m) (8 + cpu) ≡ Some (cpu_blocks m cpu)
-  slice_get-cpu cpu l = ap (slice_get (regions_of c m)) (from_eight cpu) ∙ slice_get-map_count (cpu_blocks m) (cpus c) 0 cpu l ∙ ap (λ i. Some (cpu_blocks m i)) (let e : 0 + cpu ≡ cpu = omega arith in e)
+  slice_get-cpu : (cpu : ℕ) → cpu < cpus c → slice_get (regions_of c m) (8 + cpu) ≡ Some (cpu_blocks m c.block_pages cpu)
+  slice_get-cpu cpu l = ap (slice_get (regions_of c m)) (from_eight cpu) ∙ slice_get-map_count (cpu_blocks m c.block_pages) (cpus c) 0 cpu l ∙ ap (λ i. Some (cpu_blocks m c.block_pages i)) (let e : 0 + cpu ≡ cpu = omega arith in e)
 
   -- a change of the blocks and next serials of one processor
-  set-cpu : (cpu : ℕ) (blocks : List Block) (nexts : List ℕ) (r : Region) → cpu_blocks (record m { blocks = blocks; next_part = nexts }) cpu ≡ r
-      → ((other : ℕ) → other ≢ cpu → cpu_blocks (record m { blocks = blocks; next_part = nexts }) other ≡ cpu_blocks m other)
+  set-cpu : (cpu : ℕ) (blocks : List Block) (nexts : List ℕ) (r : Region) → cpu_blocks (record m { blocks = blocks; next_part = nexts }) c.block_pages cpu ≡ r
+      → ((other : ℕ) → other ≢ cpu → cpu_blocks (record m { blocks = blocks; next_part = nexts }) c.block_pages other ≡ cpu_blocks m c.block_pages other)
       → regions_of c (record m { blocks = blocks; next_part = nexts }) ≡ slice_set (regions_of c m) (8 + cpu) r
   set-cpu cpu blocks nexts r own others =
       let start : 0 + cpu ≡ cpu = omega arith in
       ap (λ rest. Desk ∷ PurgeTurn m.purge_turn ∷ AllocTurn m.alloc_turn ∷ FreeRuns (free_runs m) ∷ LiveAreas m.areas m.next_area ∷ WaitingSpans m.waiting
       ∷ Pages m.frames m.stale m.cells ∷ Percpu m.chunks m.next_object m.next_chunk m.room ∷ rest)
-      (map-count_set (cpu_blocks m) (cpu_blocks (record m { blocks = blocks; next_part = nexts })) (cpus c) 0 cpu r (ap (cpu_blocks (record m { blocks = blocks; next_part = nexts })) start ∙ own)
+      (map-count_set (cpu_blocks m c.block_pages) (cpu_blocks (record m { blocks = blocks; next_part = nexts }) c.block_pages) (cpus c) 0 cpu r (ap (cpu_blocks (record m { blocks = blocks; next_part = nexts }) c.block_pages) start ∙ own)
       (λ i n. others i (λ e. n (e ∙ sym start))))
       ∙ ap (λ n. slice_set (regions_of c m) n r) (sym (from_eight cpu))
 
@@ -73,23 +73,23 @@ module _ (c : Setup) (m : PlainMap) (k : ℕ) where
     next_alone cpu next l = get_or-set_same (replicate (cpus c) 1) cpu next 0 (omega (arith, length-replicate {A = ℕ} (cpus c) 1))
 
     -- the region alone has itself
-    again : (cpu : ℕ) → cpu < cpus c → cpu_blocks m cpu ≡ cpu_blocks (map_with c (cpu_blocks m cpu)) cpu
+    again : (cpu : ℕ) → cpu < cpus c → cpu_blocks m c.block_pages cpu ≡ cpu_blocks (map_with c (cpu_blocks m c.block_pages cpu)) c.block_pages cpu
     again cpu l =
-        ap (λ blocks. CpuBlocks cpu blocks (slice_index m.next_part cpu)) (sym (filter_twice (λ (b : Block). b.cpu == cpu) m.blocks))
-        ∙ ap (CpuBlocks cpu (blocks_of cpu (blocks_of cpu m.blocks))) (sym (next_alone cpu (slice_index m.next_part cpu) l))
+        ap (λ blocks. CpuBlocks cpu c.block_pages blocks (slice_index m.next_part cpu)) (sym (filter_twice (λ (b : Block). b.cpu == cpu) m.blocks))
+        ∙ ap (CpuBlocks cpu c.block_pages (blocks_of cpu (blocks_of cpu m.blocks))) (sym (next_alone cpu (slice_index m.next_part cpu) l))
 
-    left_by_none : (cpu : ℕ) → cpu < cpus c → regions_of c m ≡ slice_set (regions_of c m) (8 + cpu) (cpu_blocks (map_with c (cpu_blocks m cpu)) cpu)
+    left_by_none : (cpu : ℕ) → cpu < cpus c → regions_of c m ≡ slice_set (regions_of c m) (8 + cpu) (cpu_blocks (map_with c (cpu_blocks m c.block_pages cpu)) c.block_pages cpu)
     left_by_none cpu l = set-cpu cpu m.blocks m.next_part _ (again cpu l) (λ other n. refl)
 
     -- one block of the processor changed
     left_by_change : (cpu start : ℕ) (change : Block → Block) → cpu < cpus c → ((b : Block) → (change b).cpu ≡ b.cpu) → IsOfCpu start cpu m.blocks
         → regions_of c (record m { blocks = change_block start change m.blocks })
-        ≡ slice_set (regions_of c m) (8 + cpu) (cpu_blocks (record (map_with c (cpu_blocks m cpu)) { blocks = change_block start change (blocks_of cpu m.blocks) }) cpu)
+        ≡ slice_set (regions_of c m) (8 + cpu) (cpu_blocks (record (map_with c (cpu_blocks m c.block_pages cpu)) { blocks = change_block start change (blocks_of cpu m.blocks) }) c.block_pages cpu)
     left_by_change cpu start change l keeps own =
         set-cpu cpu (change_block start change m.blocks) m.next_part _
-        (ap (λ blocks. CpuBlocks cpu blocks (slice_index m.next_part cpu)) (sym (own_changed cpu start change m.blocks keeps))
-        ∙ ap (CpuBlocks cpu (blocks_of cpu (change_block start change (blocks_of cpu m.blocks)))) (sym (next_alone cpu (slice_index m.next_part cpu) l)))
-        (λ other n. ap (λ blocks. CpuBlocks other blocks (slice_index m.next_part other)) (others_changed cpu other start change m.blocks keeps own n))
+        (ap (λ blocks. CpuBlocks cpu c.block_pages blocks (slice_index m.next_part cpu)) (sym (own_changed cpu start change m.blocks keeps))
+        ∙ ap (CpuBlocks cpu c.block_pages (blocks_of cpu (change_block start change (blocks_of cpu m.blocks)))) (sym (next_alone cpu (slice_index m.next_part cpu) l)))
+        (λ other n. ap (λ blocks. CpuBlocks other c.block_pages blocks (slice_index m.next_part other)) (others_changed cpu other start change m.blocks keeps own n))
 
     -- the part that is cut is in a block of the processor
     cut_of_cpu : (cpu pages : ℕ) (at : PartAt) → part_to_cut c cpu pages m.blocks ≡ Some at → IsOfCpu at.block cpu m.blocks
@@ -102,13 +102,13 @@ module _ (c : Setup) (m : PlainMap) (k : ℕ) where
         λ i b at' e. whole.own_starts there.0 w.0 there.1 i b at' (e ∙ ap (λ (a : PartAt). a.block) (sym w.2)) ∙ is
 
     after_cut : (cpu pages : ℕ) → cpu < cpus c → (o : Option PartAt) → part_to_cut c cpu pages m.blocks ≡ o
-        → regions_of c (effect_as c m k (cutting cpu pages o)) ≡ slice_set (regions_of c m) (8 + cpu) (region_in (effect_as c (map_with c (cpu_blocks m cpu)) k (cutting cpu pages o)) (cpu_blocks m cpu))
+        → regions_of c (effect_as c m k (cutting cpu pages o)) ≡ slice_set (regions_of c m) (8 + cpu) (region_in (effect_as c (map_with c (cpu_blocks m c.block_pages cpu)) k (cutting cpu pages o)) (cpu_blocks m c.block_pages cpu))
     after_cut cpu pages l None e = left_by_none cpu l
     after_cut cpu pages l (Some at) e = left_by_change cpu at.block (with_part k at) l (λ b. refl) (cut_of_cpu cpu pages at e)
 
     pub cut : (cpu pages : ℕ) → cpu < cpus c → IsOverOneRegion c m k (AskPart cpu pages) (8 + cpu)
     cut cpu pages l = record {
-      region = cpu_blocks m cpu;
+      region = cpu_blocks m c.block_pages cpu;
       here = slice_get-cpu cpu l;
       moves_alike = refl;
       gives_alike = ap (λ blocks. Some (cutting cpu pages (option_map (cut_from c pages) (find (λ (b : Block). nat_le (rounded pages) (free_of c b)) (filter (λ (b : Block). nat_lt 0 (free_of c b)) blocks)))))
@@ -128,13 +128,13 @@ module _ (c : Setup) (m : PlainMap) (k : ℕ) where
         0 at (ap (λ parts. slice_get parts 0) h)
 
     after_begin : (cpu page serial : ℕ) → cpu < cpus c → (parts : List PartAt) → named_parts cpu page serial m.blocks ≡ parts
-        → regions_of c (effect_as c m k (beginning cpu page serial parts)) ≡ slice_set (regions_of c m) (8 + cpu) (region_in (effect_as c (map_with c (cpu_blocks m cpu)) k (beginning cpu page serial parts)) (cpu_blocks m cpu))
+        → regions_of c (effect_as c m k (beginning cpu page serial parts)) ≡ slice_set (regions_of c m) (8 + cpu) (region_in (effect_as c (map_with c (cpu_blocks m c.block_pages cpu)) k (beginning cpu page serial parts)) (cpu_blocks m c.block_pages cpu))
     after_begin cpu page serial l [] e = left_by_none cpu l
     after_begin cpu page serial l (at ∷ parts) e = left_by_change cpu at.block (with_life at (InHand k)) l (λ b. refl) (named_of_cpu cpu page serial at parts e)
 
     pub begin_unmap : (cpu page serial : ℕ) → cpu < cpus c → IsOverOneRegion c m k (AskBegin cpu page serial) (8 + cpu)
     begin_unmap cpu page serial l = record {
-      region = cpu_blocks m cpu;
+      region = cpu_blocks m c.block_pages cpu;
       here = slice_get-cpu cpu l;
       moves_alike = refl;
       gives_alike = ap (λ blocks. Some (beginning cpu page serial (flat_map (named_in page serial) blocks))) (filter_twice (λ (b : Block). b.cpu == cpu) m.blocks);
@@ -143,7 +143,7 @@ module _ (c : Setup) (m : PlainMap) (k : ℕ) where
 
     pub dirty : (cpu : ℕ) → cpu < cpus c → IsOverOneRegion c m k (AskDirty cpu) (8 + cpu)
     dirty cpu l = record {
-      region = cpu_blocks m cpu;
+      region = cpu_blocks m c.block_pages cpu;
       here = slice_get-cpu cpu l;
       moves_alike = refl;
       gives_alike = ap (λ blocks. Some (Dirty cpu (hull (filter_map dirty_range blocks)))) (filter_twice (λ (b : Block). b.cpu == cpu) m.blocks);
@@ -168,14 +168,14 @@ module _ (c : Setup) (m : PlainMap) (k : ℕ) where
     pub add_block : (at : PartAt) → at.cpu < cpus c → IsOverOneRegion c m k (AskAddBlock at) (8 + at.cpu)
     unfolding new_block
     add_block at l = record {
-      region = cpu_blocks m at.cpu;
+      region = cpu_blocks m c.block_pages at.cpu;
       here = slice_get-cpu at.cpu l;
       moves_alike = refl;
       gives_alike = refl;
       leaves_alike = set-cpu at.cpu (m.blocks ++ new_block at ∷ []) m.next_part _
-          (ap (λ blocks. CpuBlocks at.cpu blocks (slice_index m.next_part at.cpu)) (added_here at.cpu (new_block at))
-          ∙ ap (CpuBlocks at.cpu (blocks_of at.cpu (blocks_of at.cpu m.blocks ++ new_block at ∷ []))) (sym (next_alone at.cpu (slice_index m.next_part at.cpu) l)))
-          (λ other n. ap (λ blocks. CpuBlocks other blocks (slice_index m.next_part other)) (added_elsewhere at.cpu other (new_block at) refl n));
+          (ap (λ blocks. CpuBlocks at.cpu c.block_pages blocks (slice_index m.next_part at.cpu)) (added_here at.cpu (new_block at))
+          ∙ ap (CpuBlocks at.cpu c.block_pages (blocks_of at.cpu (blocks_of at.cpu m.blocks ++ new_block at ∷ []))) (sym (next_alone at.cpu (slice_index m.next_part at.cpu) l)))
+          (λ other n. ap (λ blocks. CpuBlocks other c.block_pages blocks (slice_index m.next_part other)) (added_elsewhere at.cpu other (new_block at) refl n));
     }
 
     -- a part that is settled takes the next serial
@@ -190,15 +190,15 @@ module _ (c : Setup) (m : PlainMap) (k : ℕ) where
     settle_part at l own =
         let serial : ℕ = slice_index m.next_part at.cpu in
         record {
-          region = cpu_blocks m at.cpu;
+          region = cpu_blocks m c.block_pages at.cpu;
           here = slice_get-cpu at.cpu l;
           moves_alike = refl;
           gives_alike = ap (λ n. Some (SettlePart at n)) (next_alone at.cpu (slice_index m.next_part at.cpu) l);
           leaves_alike = set-cpu at.cpu (set_life at (Lives serial) m.blocks) (slice_set m.next_part at.cpu (suc serial)) _
-              (ap (λ blocks. CpuBlocks at.cpu blocks (slice_index (slice_set m.next_part at.cpu (suc serial)) at.cpu)) (sym (own_changed at.cpu at.block (with_life at (Lives serial)) m.blocks (λ b. refl)))
-              ∙ ap (CpuBlocks at.cpu (blocks_of at.cpu (set_life at (Lives serial) (blocks_of at.cpu m.blocks)))) (next_set at.cpu (suc serial) l ∙ sym (next_set_alone at.cpu serial (suc serial) l)))
-              (λ other n. ap (λ blocks. CpuBlocks other blocks (slice_index (slice_set m.next_part at.cpu (suc serial)) other)) (others_changed at.cpu other at.block (with_life at (Lives serial)) m.blocks (λ b. refl) own n)
-              ∙ ap (CpuBlocks other (blocks_of other m.blocks)) (get_or-set_other m.next_part at.cpu other (suc serial) 0 n));
+              (ap (λ blocks. CpuBlocks at.cpu c.block_pages blocks (slice_index (slice_set m.next_part at.cpu (suc serial)) at.cpu)) (sym (own_changed at.cpu at.block (with_life at (Lives serial)) m.blocks (λ b. refl)))
+              ∙ ap (CpuBlocks at.cpu c.block_pages (blocks_of at.cpu (set_life at (Lives serial) (blocks_of at.cpu m.blocks)))) (next_set at.cpu (suc serial) l ∙ sym (next_set_alone at.cpu serial (suc serial) l)))
+              (λ other n. ap (λ blocks. CpuBlocks other c.block_pages blocks (slice_index (slice_set m.next_part at.cpu (suc serial)) other)) (others_changed at.cpu other at.block (with_life at (Lives serial)) m.blocks (λ b. refl) own n)
+              ∙ ap (CpuBlocks other c.block_pages (blocks_of other m.blocks)) (get_or-set_other m.next_part at.cpu other (suc serial) 0 n));
         }
 
     -- a part that ends may spend its block
@@ -224,17 +224,17 @@ module _ (c : Setup) (m : PlainMap) (k : ℕ) where
 
     pub retire : (at : PartAt) → at.cpu < cpus c → IsOfCpu at.block at.cpu m.blocks → IsOverOneRegion c m k (AskRetire at) (8 + at.cpu)
     retire at l own = record {
-      region = cpu_blocks m at.cpu;
+      region = cpu_blocks m c.block_pages at.cpu;
       here = slice_get-cpu at.cpu l;
       moves_alike = refl;
       gives_alike = ap (λ b. Some (Retire at b)) (spends_alike at own);
       leaves_alike = set-cpu at.cpu (without_spent c (set_life at Ended m.blocks)) m.next_part _
-          (ap (λ blocks. CpuBlocks at.cpu blocks (slice_index m.next_part at.cpu))
+          (ap (λ blocks. CpuBlocks at.cpu c.block_pages blocks (slice_index m.next_part at.cpu))
           (filter_comm (λ (b : Block). b.cpu == at.cpu) (λ (b : Block). not (is_spent c b)) (set_life at Ended m.blocks)
           ∙ ap (without_spent c) (sym (own_changed at.cpu at.block (with_life at Ended) m.blocks (λ b. refl)))
           ∙ filter_comm (λ (b : Block). not (is_spent c b)) (λ (b : Block). b.cpu == at.cpu) (set_life at Ended (blocks_of at.cpu m.blocks)))
-          ∙ ap (CpuBlocks at.cpu (blocks_of at.cpu (without_spent c (set_life at Ended (blocks_of at.cpu m.blocks))))) (sym (next_alone at.cpu (slice_index m.next_part at.cpu) l)))
-          (λ other n. ap (λ blocks. CpuBlocks other blocks (slice_index m.next_part other))
+          ∙ ap (CpuBlocks at.cpu c.block_pages (blocks_of at.cpu (without_spent c (set_life at Ended (blocks_of at.cpu m.blocks))))) (sym (next_alone at.cpu (slice_index m.next_part at.cpu) l)))
+          (λ other n. ap (λ blocks. CpuBlocks other c.block_pages blocks (slice_index m.next_part other))
           (filter_comm (λ (b : Block). b.cpu == other) (λ (b : Block). not (is_spent c b)) (set_life at Ended m.blocks)
           ∙ ap (without_spent c) (others_changed at.cpu other at.block (with_life at Ended) m.blocks (λ b. refl) own n) ∙ unspent_elsewhere other));
     }
@@ -251,14 +251,14 @@ module _ (c : Setup) (m : PlainMap) (k : ℕ) where
         let gone : List ℕ = fragmented c cpu m.blocks in
         let stays : Block → Bool = λ b. not ((b.cpu == cpu) && is_among gone b.start) in
         record {
-          region = cpu_blocks m cpu;
+          region = cpu_blocks m c.block_pages cpu;
           here = slice_get-cpu cpu l;
           moves_alike = refl;
           gives_alike = ap (λ blocks. Some (Fragment cpu (map (λ (b : Block). b.start) (filter (is_fragmented c) (filter (λ (b : Block). nat_lt 0 (free_of c b)) blocks))))) (filter_twice (λ (b : Block). b.cpu == cpu) m.blocks);
           leaves_alike = set-cpu cpu (filter stays m.blocks) m.next_part _
-              (ap (λ blocks. CpuBlocks cpu blocks (slice_index m.next_part cpu))
+              (ap (λ blocks. CpuBlocks cpu c.block_pages blocks (slice_index m.next_part cpu))
               (filter_comm (λ (b : Block). b.cpu == cpu) stays m.blocks ∙ ap (filter stays) (sym (filter_twice (λ (b : Block). b.cpu == cpu) m.blocks))
               ∙ filter_comm stays (λ (b : Block). b.cpu == cpu) (blocks_of cpu m.blocks))
-              ∙ ap (CpuBlocks cpu (blocks_of cpu (filter stays (blocks_of cpu m.blocks)))) (sym (next_alone cpu (slice_index m.next_part cpu) l)))
-              (λ other n. ap (λ blocks. CpuBlocks other blocks (slice_index m.next_part other)) (filter_comm (λ (b : Block). b.cpu == other) stays m.blocks ∙ kept_elsewhere cpu other gone n));
+              ∙ ap (CpuBlocks cpu c.block_pages (blocks_of cpu (filter stays (blocks_of cpu m.blocks)))) (sym (next_alone cpu (slice_index m.next_part cpu) l)))
+              (λ other n. ap (λ blocks. CpuBlocks other c.block_pages blocks (slice_index m.next_part other)) (filter_comm (λ (b : Block). b.cpu == other) stays m.blocks ∙ kept_elsewhere cpu other gone n));
         }

@@ -96,7 +96,7 @@ module _ (c : Setup) (m : PlainMap) (k : ℕ) where
   regions_with : PlainMap → List Bool → List Region
   regions_with after bits =
       Desk ∷ PurgeTurn after.purge_turn ∷ AllocTurn after.alloc_turn ∷ FreeRuns (runs bits) ∷ LiveAreas after.areas after.next_area ∷ WaitingSpans after.waiting
-      ∷ Pages after.frames after.stale after.cells ∷ Percpu after.chunks after.next_object after.next_chunk after.room ∷ map (cpu_blocks after) (count_from (cpus c) 0)
+      ∷ Pages after.frames after.stale after.cells ∷ Percpu after.chunks after.next_object after.next_chunk after.room ∷ map (cpu_blocks after c.block_pages) (count_from (cpus c) 0)
 
   pub settle : (areas : List (Span × AreaKind)) → AreTaken m (map (λ a. a.0) areas) → IsOverOneRegion c m k (AskSettle areas) 4
   unfolding regions_with

@@ -3,19 +3,20 @@ use Rattle.std.proofs.Common.{◌⊎◌, inl, inr, None, Option, take, option_ma
 use Rattle.std.proofs.lemmas.List.{map-append}
 use Rattle.std.proofs.lemmas.List.Elements.{All-weaker, All-push}
 use Rattle.std.specs.Vec.{vec_capacity}
-use Rattle.vm_model.specs.Config.{setup_of}
+use Rattle.unit_layout.specs.Config.{setup_of}
+use Rattle.vm_model.specs.Setup.{Setup, cpus}
 use Rattle.vm_model.specs.Next.{Answer}
 use Rattle.std.specs.declared.sync.Arc.{Arc}
 use Rattle.std.specs.Arc.{arc_value}
 use Rattle.section_core.specs.declared.answers.Answered.{Answered as Code}
 use Rattle.section_core.specs.Locals.{answer_of}
-use Rattle.vm_model.specs.declared.config.Config.{Config}
+use Rattle.unit_layout.specs.declared.config.Config.{Config}
 use Rattle.vm_model.specs.History.{started, Local, answered_of, moved_to}
 use Rattle.history_book.specs.BookRows.{BookRows}
 use Rattle.history_book.specs.Entries.{note_of}
 use Rattle.vm_model.specs.declared.calls.Call.{Call}
 use Rattle.vm_model.specs.declared.calls.Reply.{Reply}
-use Rattle.vm_model.specs.declared.calls.Call.TheVariants.{Vmalloc, Vfree}
+use Rattle.vm_model.specs.declared.calls.Call.TheVariants.{Vmalloc, Vfree, MapRam, UnmapRam, UnmapAliases}
 use Rattle.vm_model.specs.declared.calls.Target.{Target}
 use Rattle.vm_model.specs.declared.areas.Span.{Span}
 use Rattle.section_core.specs.declared.place.Place.TheVariants as place
@@ -28,8 +29,8 @@ use Rattle.history_book.specs.declared.noted.Noted.{Noted}
 use Rattle.section_core.specs.declared.answers.Made.{Made}
 use Rattle.section_core.specs.declared.place.Place.{Place}
 use Rattle.section_core.specs.declared.local.Local.TheInside.{Inside}
-use Rattle.section_core.specs.Places.{IsSized, IsWhole, HasNoWaited, place_of, made_of}
-use Rattle.section_core.specs.Locals.{answer_with, answers_with, local_of, HasCall, IsOrderly, MadeBy, IsBuiltCall}
+use Rattle.section_core.specs.Places.{Carried, IsSized, IsWhole, IsEmptyHanded, CarriesNoSpans, place_of, nothing, made_of}
+use Rattle.section_core.specs.Locals.{answer_with, answers_with, carried_of, local_of, HasCall, IsOrderly, MadeBy, IsBuiltCall}
 
 pub length-answers_with : (calls : List Call) (rows : List Noted) (made : List Made) → length made ≡ length rows → length rows ≤ length calls → length (answers_with calls rows made) ≡ length rows
 length-answers_with [] [] made h low = refl
@@ -66,21 +67,30 @@ made_told (call ∷ calls) (n ∷ rows) (m ∷ made) h low = ap (λ more. made_o
 
 -- it is the place before the call with this index, after these answers of the opening and what the caller's own calls made
 abbrev pub IsPlacedFor : Config → List Code → List Made → List Call → ℕ → Place → Type 0
-IsPlacedFor config opening made calls index p = (answers : List Answered) → MadeBy made answers → place_of p [] ≡ begin (setup_of config) (map answer_of opening) answers (slice_get calls index)
+IsPlacedFor config opening made calls index p = (answers : List Answered) → MadeBy made answers → place_of p nothing ≡ begin (setup_of config) (map answer_of opening) answers (slice_get calls index)
 
--- a call of the built words is a vmalloc or a vfree
-pub is_built : (call : Call) → IsBuiltCall call → ((bytes : ℕ) × (align : ℕ) × (call ≡ Vmalloc bytes align)) ⊎ ((target : Target) × (call ≡ Vfree target))
-is_built (Vmalloc bytes align) is = inl (bytes, align, refl)
-is_built (Vfree target) is = inr (target, refl)
-is_built _ is = absurd is
+-- a call of the built words is one of these
+pub is_built : (call : Call) → IsBuiltCall call → ((bytes align : ℕ) → call ≡ Vmalloc bytes align → ⊥) → ((target : Target) → call ≡ Vfree target → ⊥) → ((cpu pages : ℕ) → call ≡ MapRam cpu pages → ⊥)
+    → ((target : Target) → call ≡ UnmapRam target → ⊥) → (call ≡ UnmapAliases → ⊥) → ⊥
+is_built (Vmalloc bytes align) is vmalloc vfree map unmap aliases = vmalloc bytes align refl
+is_built (Vfree target) is vmalloc vfree map unmap aliases = vfree target refl
+is_built (MapRam cpu pages) is vmalloc vfree map unmap aliases = map cpu pages refl
+is_built (UnmapRam target) is vmalloc vfree map unmap aliases = unmap target refl
+is_built UnmapAliases is vmalloc vfree map unmap aliases = aliases refl
+is_built _ is vmalloc vfree map unmap aliases = absurd is
 
 -- an event later the caller stands elsewhere
 noted_later : (rows : List Noted) (events : ℕ) → All (λ (n : Noted). n.own_event ≤ events) rows → All (λ (n : Noted). n.own_event ≤ events + 1) rows
 noted_later rows events h = All-weaker (λ (n : Noted). n.own_event ≤ events) (λ (n : Noted). n.own_event ≤ events + 1) (λ n low. omega arith) rows h
 
-pub orderly_there : (a : Inside) (p : Place) (waited : List Span) → IsOrderly a → IsSized p → IsWhole (place_of p waited) → HasCall p (length a.book.rows) a.calls → IsOrderly (record a { events = a.events + 1; place = p; waited = waited })
-orderly_there a p waited is sized whole at_hand = record {
-  space = is.space;
+-- the lists that are carried in place of others
+abbrev pub carrying : Vec ℕ Global → List Span → Vec Span Global → Carried
+carrying gone waited ranges = record { gone = gone.items; waited = waited; ranges = ranges.items }
+
+pub orderly_there : (a : Inside) (p : Place) (gone : Vec ℕ Global) (waited : List Span) (ranges : Vec Span Global) → IsOrderly a → IsSized p → IsWhole (setup_of (arc_value a.config)) (place_of p (carrying gone waited ranges))
+    → HasCall p (length a.book.rows) a.calls → cpus (setup_of (arc_value a.config)) ≤ vec_capacity ranges → IsOrderly (record a { events = a.events + 1; place = p; gone = gone; waited = waited; ranges = ranges })
+orderly_there a p gone waited ranges is sized whole at_hand range_room = record {
+  setup = is.setup;
   built = is.built;
   few = is.few;
   made = is.made;
@@ -90,6 +100,7 @@ orderly_there a p waited is sized whole at_hand = record {
   noted = noted_later a.book.rows a.events is.noted;
   sized = sized;
   whole = whole;
+  range_room = range_room;
   at_hand = at_hand;
 }
 
@@ -97,16 +108,32 @@ abbrev pub made_or : Option model.Made → model.Made
 made_or None = MadeNothing
 made_or (Some m) = m
 
--- where nothing is flushed or returned, what waited is not told
-pub empty_handed : (p : Place) (waited : List Span) → HasNoWaited p → place_of p waited ≡ place_of p []
-empty_handed (place.PurgeFlushing hull after) waited is = absurd is
-empty_handed (place.PurgeReturning after) waited is = absurd is
-empty_handed _ waited is = refl
+-- where no list is carried, none is told
+pub begins_anew : (p : Place) (carried : Carried) → CarriesNoSpans p → carried.ranges ≡ [] → place_of p carried ≡ place_of p nothing
+begins_anew (place.PurgeFragmenting cpu extra after) carried is none = absurd is
+begins_anew (place.PurgeUnlinking extra after) carried is none = absurd is
+begins_anew (place.PurgeWaiting extra after) carried is none = absurd is
+begins_anew (place.PurgeFlushing hull after) carried is none = absurd is
+begins_anew (place.PurgeReturning after) carried is none = absurd is
+begins_anew (place.LookingAtDirty cpu) carried is none = ap (model.LookingAtDirty cpu) none
+begins_anew _ carried is none = refl
+
+pub empty_handed : (p : Place) (carried : Carried) → IsEmptyHanded p → place_of p carried ≡ place_of p nothing
+empty_handed (place.PurgeFragmenting cpu extra after) carried is = absurd is
+empty_handed (place.PurgeUnlinking extra after) carried is = absurd is
+empty_handed (place.PurgeWaiting extra after) carried is = absurd is
+empty_handed (place.PurgeFlushing hull after) carried is = absurd is
+empty_handed (place.PurgeReturning after) carried is = absurd is
+empty_handed (place.LookingAtDirty cpu) carried is = absurd is
+empty_handed _ carried is = refl
 
 -- one more call is answered, at an event of the caller's
-module _ (a : Inside) (is : IsOrderly a) (more : length a.book.rows < length a.calls) (reply : Reply) (m : Made) (book : BookRows) (made : Vec Made Global) (p : Place)
+module _ (a : Inside) (is : IsOrderly a) (more : length a.book.rows < length a.calls) (reply : Reply) (m : Made) (book : BookRows) (made : Vec Made Global) (p : Place) (ranges : Vec Span Global)
     (noted : book ≡ record (a.book) { rows = a.book.rows ++ (record { reply = reply; own_event = a.events + 1 }) ∷ []; spare = a.book.spare - 1 })
-    (pushed : made.items ≡ a.made.items ++ m ∷ []) where
+    (pushed : made.items ≡ a.made.items ++ m ∷ []) (cleared : ranges.items ≡ []) (kept_room : vec_capacity ranges ≡ vec_capacity a.ranges) where
+  abbrev carried : Carried
+  carried = carrying a.gone a.waited ranges
+
   new_rows : book.rows ≡ a.book.rows ++ (record { reply = reply; own_event = a.events + 1 }) ∷ []
   new_rows = ap (λ (b : BookRows). b.rows) noted
 
@@ -116,9 +143,9 @@ module _ (a : Inside) (is : IsOrderly a) (more : length a.book.rows < length a.c
   made_longer : length made.items ≡ length a.book.rows + 1
   made_longer = ap length pushed ∙ length-append a.made.items (m ∷ []) ∙ ap (λ n. n + 1) is.made
 
-  pub answered_orderly : length a.calls ≤ vec_capacity made → IsSized p → HasNoWaited p → IsWhole (place_of p []) → HasCall p (length made.items) a.calls → IsOrderly (record a { book = book; made = made; events = a.events + 1; place = p })
+  pub answered_orderly : length a.calls ≤ vec_capacity made → IsSized p → CarriesNoSpans p → IsWhole (setup_of (arc_value a.config)) (place_of p nothing) → HasCall p (length made.items) a.calls → IsOrderly (record a { book = book; made = made; events = a.events + 1; place = p; ranges = ranges })
   answered_orderly room sized empty whole at_hand = record {
-    space = is.space;
+    setup = is.setup;
     built = is.built;
     few = is.few;
     made = made_longer ∙ sym rows_longer;
@@ -128,7 +155,8 @@ module _ (a : Inside) (is : IsOrderly a) (more : length a.book.rows < length a.c
     noted = subst (All (λ (n : Noted). n.own_event ≤ a.events + 1)) (sym new_rows)
         (All-push (λ (n : Noted). n.own_event ≤ a.events + 1) a.book.rows (record { reply = reply; own_event = a.events + 1 }) (noted_later a.book.rows a.events is.noted) (omega arith));
     sized = sized;
-    whole = subst IsWhole (sym (empty_handed p a.waited empty)) whole;
+    whole = subst (IsWhole (setup_of (arc_value a.config))) (sym (begins_anew p carried empty cleared)) whole;
+    range_room = subst (λ n. cpus (setup_of (arc_value a.config)) ≤ n) (sym kept_room) is.range_room;
     at_hand = subst (λ n. HasCall p n a.calls) (made_longer ∙ sym rows_longer) at_hand;
   }
 
@@ -149,17 +177,17 @@ module _ (a : Inside) (is : IsOrderly a) (more : length a.book.rows < length a.c
     made_then : MadeBy made.items ((local_of a).answers ++ answer ∷ [])
     made_then = let room = is.room in made_told a.calls book.rows made.items (made_longer ∙ sym rows_longer) (omega (arith, rows_longer)) ∙ ap (map (λ (x : Answered). x.made)) answers_then
 
-    place_then : IsPlacedFor a.config (arc_value a.opening) made.items a.calls (length made.items) p
-        → place_of p [] ≡ begin (setup_of a.config) (local_of a).opening ((local_of a).answers ++ answer ∷ []) (slice_get a.calls (suc (length (local_of a).answers)))
+    place_then : IsPlacedFor (arc_value a.config) (arc_value a.opening) made.items a.calls (length made.items) p
+        → place_of p nothing ≡ begin (setup_of (arc_value a.config)) (local_of a).opening ((local_of a).answers ++ answer ∷ []) (slice_get a.calls (suc (length (local_of a).answers)))
     place_then place = place ((local_of a).answers ++ answer ∷ []) made_then
-        ∙ ap (λ n. begin (setup_of a.config) (local_of a).opening ((local_of a).answers ++ answer ∷ []) (slice_get a.calls n)) (made_longer ∙ add-one (length a.book.rows) ∙ ap suc (sym (count_is a is)))
+        ∙ ap (λ n. begin (setup_of (arc_value a.config)) (local_of a).opening ((local_of a).answers ++ answer ∷ []) (slice_get a.calls n)) (made_longer ∙ add-one (length a.book.rows) ∙ ap suc (sym (count_is a is)))
 
-    pub answered_view : HasNoWaited p → IsPlacedFor a.config (arc_value a.opening) made.items a.calls (length made.items) p
-        → local_of (record a { book = book; made = made; events = a.events + 1; place = p }) ≡ moved_to (local_of a) (Answer reply (made_of m))
+    pub answered_view : CarriesNoSpans p → IsPlacedFor (arc_value a.config) (arc_value a.opening) made.items a.calls (length made.items) p
+        → local_of (record a { book = book; made = made; events = a.events + 1; place = p; ranges = ranges }) ≡ moved_to (local_of a) (Answer reply (made_of m))
     answered_view empty place =
-        ap (λ answers. told_with answers (a.events + 1) (place_of p a.waited)) answers_then
-        ∙ ap (λ n. told_with ((local_of a).answers ++ answer ∷ []) n (place_of p a.waited)) (add-one a.events)
-        ∙ ap (told_with ((local_of a).answers ++ answer ∷ []) (suc a.events)) (empty_handed p a.waited empty ∙ place_then place)
+        ap (λ answers. told_with answers (a.events + 1) (place_of p carried)) answers_then
+        ∙ ap (λ n. told_with ((local_of a).answers ++ answer ∷ []) n (place_of p carried)) (add-one a.events)
+        ∙ ap (told_with ((local_of a).answers ++ answer ∷ []) (suc a.events)) (begins_anew p carried empty cleared ∙ place_then place)
         ∙ ap (λ o. answered_of (local_of a) o (λ (x : Call). record { call = x; reply = reply; made = made_of m; own_event = suc a.events })) (sym (ap (slice_get a.calls) (count_is a is) ∙ at))
 
 pub more_to_answer : (a : Inside) (l : Local) → IsOrderly a → local_of a ≡ l → length l.answers < length l.calls → length a.book.rows < length a.calls
@@ -175,13 +203,13 @@ no_answers [] made = refl
 no_answers (call ∷ calls) made = refl
 
 -- a caller before its first call
-pub started_view : (config : Config) (caller : ℕ) (opening : Arc (List Code) Global) (calls : List Call) (book : BookRows) (made : Vec Made Global) (p : Place) (waited : List Span)
-    → book ≡ record { caller = caller; rows = []; spare = length calls } → HasNoWaited p → IsPlacedFor config (arc_value opening) [] calls 0 p
-    → local_of (record { config = config; caller = caller; opening = opening; calls = calls; book = book; made = made; events = 0; place = p; waited = waited }) ≡ started (setup_of config) (map answer_of (arc_value opening)) caller calls
-started_view config caller opening calls book made p waited new empty place =
-    ap (λ (b : BookRows). local_of (record { config = config; caller = caller; opening = opening; calls = calls; book = b; made = made; events = 0; place = p; waited = waited })) new
-    ∙ ap (λ answers. record (started (setup_of config) (map answer_of (arc_value opening)) caller calls) { answers = answers; place = place_of p waited }) (no_answers calls made.items)
-    ∙ ap (λ q. record (started (setup_of config) (map answer_of (arc_value opening)) caller calls) { place = q }) (empty_handed p waited empty ∙ place [] refl)
+pub started_view : (a : Inside) → a.book ≡ record { caller = a.caller; rows = []; spare = length a.calls } → a.events ≡ 0 → a.ranges.items ≡ [] → CarriesNoSpans a.place → IsPlacedFor (arc_value a.config) (arc_value a.opening) [] a.calls 0 a.place
+    → local_of a ≡ started (setup_of (arc_value a.config)) (map answer_of (arc_value a.opening)) a.caller a.calls
+started_view a new first none empty place =
+    ap (λ (b : BookRows). local_of (record a { book = b })) new
+    ∙ ap (λ n. record (local_of a) { answers = answers_with a.calls [] a.made.items; events = n }) first
+    ∙ ap (λ answers. record (started (setup_of (arc_value a.config)) (map answer_of (arc_value a.opening)) a.caller a.calls) { answers = answers; place = place_of a.place (carried_of a) }) (no_answers a.calls a.made.items)
+    ∙ ap (λ q. record (started (setup_of (arc_value a.config)) (map answer_of (arc_value a.opening)) a.caller a.calls) { place = q }) (begins_anew a.place (carried_of a) empty none ∙ place [] refl)
 
 -- what was noted of the answers is the book
 pub noted_again : (calls : List Call) (rows : List Noted) (made : List Made) → length made ≡ length rows → length rows ≤ length calls → map note_of (answers_with calls rows made) ≡ rows

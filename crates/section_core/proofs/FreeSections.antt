@@ -4,13 +4,17 @@ use Rattle.vm_model.specs.declared.areas.Span.{Span}
 use Rattle.vm_model.specs.Space.{end_of, span, holds, covers, paint, lowest, runs}
 use Rattle.vm_model.specs.PlainMap.{PlainMap, Mark, Free, Held, is_free, taken}
 use Rattle.vm_model.specs.Events.{ForPages, Carve, NoHole, Drop, Return}
-use Rattle.vm_model.specs.Places.{Place, Then, AskSearch, Dropping, PurgeReturning, ask}
+use Rattle.vm_model.specs.Places.{Place, Then, MadeNothing, AskSearch, Dropping, PurgeReturning, ask}
 use Rattle.vm_model.specs.Given.{given, carving}
-use Rattle.vm_model.specs.Next.{Next, next}
+use Rattle.vm_model.specs.declared.calls.Reply.TheVariants as reply
+use Rattle.vm_model.specs.Next.{Next, Answer, next, without_space}
 use Rattle.vm_model.specs.History.{Local, moved_to}
 use Rattle.vm_model.specs.Parts.{FreeRuns, map_with}
 use Rattle.vm_model.proofs.PaintRuns.{map-paint, lowest_is_free}
 use Rattle.map_parts.proofs.TakenPages.{taken_of_runs, taken_in}
+use Rattle.section_core.specs.declared.place.Aim.{Aim}
+use Rattle.section_core.specs.declared.place.Aim.TheVariants as aim
+use Rattle.section_core.specs.Places.{aim_of}
 use Rattle.section_core.specs.Sections.{IsMoved}
 use Rattle.section_core.proofs.Moved.{moved_as}
 
@@ -64,3 +68,8 @@ found_within bits pages align start e = (lowest_is_free bits pages align start e
 pub all_one : (s : Span) (n : ℕ) → end_of s ≤ n → All (λ (t : Span). end_of t ≤ n) (s ∷ [])
 all_one s n h zero d low = h
 all_one s n h (suc k) d low = absurd (omega arith)
+
+-- without space a call for pages is answered
+pub no_space : (a : Aim) → without_space (aim_of a) ≡ Answer reply.NoSpace MadeNothing
+no_space (aim.Area k) = refl
+no_space (aim.Block cpu pages) = refl

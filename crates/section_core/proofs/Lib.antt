@@ -1,7 +1,13 @@
 pub mod Answered
 pub mod Moved
 pub mod FreeSections
+pub mod BlockSections
 pub mod Counted
+pub mod LawfulCallers
+pub mod Hulls
+pub mod CarriedLists
+pub mod NextParts
+pub mod LawfulBlocks
 pub mod LawfulRegions
 pub mod SectionsMade
 pub mod Picks
@@ -11,3 +17,5 @@ pub mod PlainWorlds
 pub mod Starts
 pub mod TablesTold
 pub mod Sorted
+pub mod Gathered
+pub mod BlockTables

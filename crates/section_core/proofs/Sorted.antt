@@ -18,7 +18,7 @@ module _ {X : Type 0} (key : X → ℕ) where
   abbrev pub same : X → X → Bool
   same x y = key x == key y
 
-  abbrev IsUpFrom : ℕ → List X → Type 0
+  abbrev pub IsUpFrom : ℕ → List X → Type 0
   IsUpFrom low [] = Unit {0}
   IsUpFrom low (y ∷ ys) = (low ≤ key y) × IsUpFrom (key y) ys
 
@@ -31,7 +31,7 @@ module _ {X : Type 0} (key : X → ℕ) where
   above_is : (x y : X) → key y < key x → same x y ≡ false
   above_is x y low = grind (arith, nat_tests)
 
-  same_key : (x y : X) → same x y ≡ true → key x ≡ key y
+  pub same_key : (x y : X) → same x y ≡ true → key x ≡ key y
   same_key x y e = grind (arith, nat_tests)
 
   kept : (x y : X) (ys : List X) → same x y ≡ true → filter (same x) (y ∷ ys) ≡ y ∷ filter (same x) ys
@@ -49,7 +49,7 @@ module _ {X : Type 0} (key : X → ℕ) where
   same_rest x y z ys zs false e f h = sym (left_out x y ys e) ∙ h ∙ left_out x z zs f
 
   -- two lists in order that have the same elements of each key, in the same order, are one
-  unique : (low : ℕ) (ys zs : List X) → IsUpFrom low ys → IsUpFrom low zs → ((x : X) → filter (same x) ys ≡ filter (same x) zs) → ys ≡ zs
+  pub unique : (low : ℕ) (ys zs : List X) → IsUpFrom low ys → IsUpFrom low zs → ((x : X) → filter (same x) ys ≡ filter (same x) zs) → ys ≡ zs
   unique low [] [] u v h = refl
   unique low [] (z ∷ zs) u v h = let no : [] ≡ z ∷ filter (same z) zs = h z ∙ kept z z zs (same_is z z refl) in cc
   unique low (y ∷ ys) [] u v h = let no : y ∷ filter (same y) ys ≡ [] = sym (kept y y ys (same_is y y refl)) ∙ h y in cc
@@ -101,11 +101,11 @@ module _ {X : Type 0} (key : X → ℕ) where
         ∙ behind_kept y z (filter (same y) zs) (filter (same y) (x ∷ [])) (same y z)
   ]
 
-  sorted_up : (xs : List X) → IsUpFrom 0 (sort_by key xs)
+  pub sorted_up : (xs : List X) → IsUpFrom 0 (sort_by key xs)
   sorted_up [] = tt
   sorted_up (x ∷ xs) = up_put 0 x (sort_by key xs) (omega arith) (sorted_up xs)
 
-  sorted_kept : (y : X) (xs : List X) → filter (same y) (sort_by key xs) ≡ filter (same y) (reverse xs)
+  pub sorted_kept : (y : X) (xs : List X) → filter (same y) (sort_by key xs) ≡ filter (same y) (reverse xs)
   sorted_kept y [] = refl
   sorted_kept y (x ∷ xs) =
       filter_put 0 x y (sort_by key xs) (sorted_up xs) ∙ ap (λ l. l ++ filter (same y) (x ∷ [])) (sorted_kept y xs)
@@ -117,7 +117,7 @@ module _ {X : Type 0} (key : X → ℕ) where
   up_from low (y ∷ z ∷ zs) first up = (first y (omega arith), up_from (key y) (z ∷ zs) (λ d h. up 0 1 y (omega arith) (omega arith)) (λ i j d h low. up (suc i) (suc j) d (omega arith) (omega arith)))
 
   -- what is in order, and has the elements of each key in the reversed order, is the sorted list
-  sorted_is : (xs ys : List X) → IsNonDecreasingBy key ys → ((x : X) → filter (same x) ys ≡ filter (same x) (reverse xs)) → ys ≡ sort_by key xs
+  pub sorted_is : (xs ys : List X) → IsNonDecreasingBy key ys → ((x : X) → filter (same x) ys ≡ filter (same x) (reverse xs)) → ys ≡ sort_by key xs
   sorted_is xs ys up kept_all = unique 0 ys (sort_by key xs) (up_from 0 ys (λ d h. omega arith) up) (sorted_up xs) (λ x. kept_all x ∙ sym (sorted_kept x xs))
 
   -- two keys tie exactly where they are the same
@@ -131,7 +131,7 @@ module _ {X : Type 0} (key : X → ℕ) where
   not_below_is : (a b : ℕ) → b ≤ a → is_lt (nat_cmp a b) ≡ false
   not_below_is a b h = let e : nat_lt a b ≡ false = grind (arith, nat_tests) in ap (λ t. is_lt (cond t Less (cond (a == b) Equal Greater))) e ∙ no_less (a == b)
 
-  ties_same : (x y : X) → ties (λ a b. is_lt (nat_cmp (key a) (key b))) x y ≡ same x y
+  pub ties_same : (x y : X) → ties (λ a b. is_lt (nat_cmp (key a) (key b))) x y ≡ same x y
   ties_same x y = elim (cases_lt (key x) (key y)) [
     | inl below ↦ ap (λ b. not b && not (is_lt (nat_cmp (key y) (key x)))) (below_is (key x) (key y) below) ∙ sym (other_is x y below)
     | inr from ↦ ap (λ b. not b && not (is_lt (nat_cmp (key y) (key x)))) (not_below_is (key x) (key y) from) ∙ elim (cases_lt (key y) (key x)) [
@@ -140,7 +140,7 @@ module _ {X : Type 0} (key : X → ℕ) where
     ]
   ]
 
-  filter_alike : (p q : X → Bool) → ((y : X) → p y ≡ q y) → (ys : List X) → filter p ys ≡ filter q ys
+  pub filter_alike : (p q : X → Bool) → ((y : X) → p y ≡ q y) → (ys : List X) → filter p ys ≡ filter q ys
   filter_alike p q e [] = refl
   filter_alike p q e (y ∷ ys) = ap (λ b. cond b (y ∷ filter p ys) (filter p ys)) (e y) ∙ ap (λ l. cond (q y) (y ∷ l) l) (filter_alike p q e ys)
 

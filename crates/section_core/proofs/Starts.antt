@@ -1,15 +1,16 @@
 -- Where a kernel starts.
-use Rattle.std.proofs.Common.{slice_index_or, ◌≡◌, ℕ, zero, suc, ◌+◌, ◌≤◌, inl, false, not, List, [], ◌∷◌, ◌++◌, length, map, replicate, remove, slice_get, sum_by, count_by, cond, Some, refl, ap, sym, ◌∙◌, arith, append_assoc, length-append, add-one}
+use Rattle.std.proofs.Common.{slice_index, ◌<◌, slice_index_or, ◌≡◌, ℕ, zero, suc, ◌+◌, ◌≤◌, inl, false, not, List, [], ◌∷◌, ◌++◌, length, map, replicate, remove, slice_get, sum_by, count_by, cond, Some, refl, ap, sym, ◌∙◌, arith, append_assoc, length-append, add-one}
 use Rattle.std.proofs.lemmas.Option.{slice_get_read}
+use Rattle.std.proofs.lemmas.List.{map-append}
 use Rattle.std.proofs.lemmas.List.Sums.{sum_by-cons}
 use Rattle.vm_model.specs.declared.calls.Call.{Call}
-use Rattle.vm_model.specs.declared.calls.Call.TheVariants.{Vmalloc, Vfree}
-use Rattle.vm_model.specs.Space.{runs}
-use Rattle.vm_model.specs.Setup.{Setup}
+use Rattle.vm_model.specs.declared.calls.Call.TheVariants.{Vmalloc, Vfree, MapRam, UnmapRam, UnmapAliases}
+use Rattle.vm_model.specs.Space.{runs, count_from}
+use Rattle.vm_model.specs.Setup.{Setup, cpus}
 use Rattle.vm_model.specs.PlainMap.{Free, is_free, at_first}
 use Rattle.vm_model.specs.Calls.{Answered, can_place}
 use Rattle.vm_model.specs.History.{World, Local, started, placing_calls, opening_world, callers_from, opening_answers, finish, most_events}
-use Rattle.vm_model.specs.Parts.{Region, regions_of}
+use Rattle.vm_model.specs.Parts.{Region, CpuBlocks, cpu_blocks, regions_of}
 use Rattle.map_laws.proofs.ReachedSteps.{steps_reached}
 use Rattle.section_core.specs.Locals.{AreBuilt, IsBuiltCall}
 use Rattle.section_core.specs.Kernels.{KernelState, IsStanding, CanStart, CanJoin, start_of, opening_of, callers_of}
@@ -26,6 +27,9 @@ free_at_first n = ap runs (map-replicate (λ mark. not (is_free mark)) n Free)
 not_placing : (call : Call) → IsBuiltCall call → can_place call ≡ false
 not_placing (Vmalloc bytes align) is = refl
 not_placing (Vfree target) is = refl
+not_placing (MapRam cpu pages) is = refl
+not_placing (UnmapRam target) is = refl
+not_placing UnmapAliases is = refl
 not_placing _ is = absurd is
 
 none_placing : (calls : List Call) → AreBuilt calls → count_by can_place calls ≡ 0
@@ -85,13 +89,35 @@ callers_next c answers callers callers' rest rest' calls e pushed =
     ∙ ap (λ xs. xs ++ callers_from c answers (suc (suc (length callers))) rest') (sym pushed)
     ∙ ap (λ n. callers' ++ callers_from c answers (suc n) rest') (sym more)
 
--- nine regions in a row
-pub same_nine : (items : List Region) (a b c d e f g h i a' b' c' d' e' f' g' h' i' : Region) → items ≡ a ∷ b ∷ c ∷ d ∷ e ∷ f ∷ g ∷ h ∷ i ∷ [] → a ≡ a' → b ≡ b' → c ≡ c' → d ≡ d' → e ≡ e' → f ≡ f' → g ≡ g' → h ≡ h' → i ≡ i'
-    → items ≡ a' ∷ b' ∷ c' ∷ d' ∷ e' ∷ f' ∷ g' ∷ h' ∷ i' ∷ []
-same_nine items a b c d e f g h i a' b' c' d' e' f' g' h' i' same p q r s t u v w x =
-    same ∙ ap (λ z. z ∷ b ∷ c ∷ d ∷ e ∷ f ∷ g ∷ h ∷ i ∷ []) p ∙ ap (λ z. a' ∷ z ∷ c ∷ d ∷ e ∷ f ∷ g ∷ h ∷ i ∷ []) q ∙ ap (λ z. a' ∷ b' ∷ z ∷ d ∷ e ∷ f ∷ g ∷ h ∷ i ∷ []) r
-    ∙ ap (λ z. a' ∷ b' ∷ c' ∷ z ∷ e ∷ f ∷ g ∷ h ∷ i ∷ []) s ∙ ap (λ z. a' ∷ b' ∷ c' ∷ d' ∷ z ∷ f ∷ g ∷ h ∷ i ∷ []) t ∙ ap (λ z. a' ∷ b' ∷ c' ∷ d' ∷ e' ∷ z ∷ g ∷ h ∷ i ∷ []) u
-    ∙ ap (λ z. a' ∷ b' ∷ c' ∷ d' ∷ e' ∷ f' ∷ z ∷ h ∷ i ∷ []) v ∙ ap (λ z. a' ∷ b' ∷ c' ∷ d' ∷ e' ∷ f' ∷ g' ∷ z ∷ i ∷ []) w ∙ ap (λ z. a' ∷ b' ∷ c' ∷ d' ∷ e' ∷ f' ∷ g' ∷ h' ∷ z ∷ []) x
+-- eight regions in a row, and more behind them
+pub same_regions : (items items' more : List Region) (a b c d e f g h a' b' c' d' e' f' g' h' : Region) → items ≡ a ∷ b ∷ c ∷ d ∷ e ∷ f ∷ g ∷ h ∷ [] → items' ≡ items ++ more → a ≡ a' → b ≡ b' → c ≡ c' → d ≡ d' → e ≡ e' → f ≡ f' → g ≡ g' → h ≡ h'
+    → items' ≡ a' ∷ b' ∷ c' ∷ d' ∷ e' ∷ f' ∷ g' ∷ h' ∷ more
+same_regions items items' more a b c d e f g h a' b' c' d' e' f' g' h' same then_ p q r s t u v w =
+    then_ ∙ ap (λ xs. xs ++ more) same ∙ ap (λ z. z ∷ b ∷ c ∷ d ∷ e ∷ f ∷ g ∷ h ∷ more) p ∙ ap (λ z. a' ∷ z ∷ c ∷ d ∷ e ∷ f ∷ g ∷ h ∷ more) q ∙ ap (λ z. a' ∷ b' ∷ z ∷ d ∷ e ∷ f ∷ g ∷ h ∷ more) r
+    ∙ ap (λ z. a' ∷ b' ∷ c' ∷ z ∷ e ∷ f ∷ g ∷ h ∷ more) s ∙ ap (λ z. a' ∷ b' ∷ c' ∷ d' ∷ z ∷ f ∷ g ∷ h ∷ more) t ∙ ap (λ z. a' ∷ b' ∷ c' ∷ d' ∷ e' ∷ z ∷ g ∷ h ∷ more) u
+    ∙ ap (λ z. a' ∷ b' ∷ c' ∷ d' ∷ e' ∷ f' ∷ z ∷ h ∷ more) v ∙ ap (λ z. a' ∷ b' ∷ c' ∷ d' ∷ e' ∷ f' ∷ g' ∷ z ∷ more) w
+
+-- one number more
+count_more : (n first : ℕ) → count_from (suc n) first ≡ count_from n first ++ (first + n) ∷ []
+count_more zero first = ap (λ x. x ∷ []) (let e : first ≡ first + 0 = omega arith in e)
+count_more (suc n) first = ap (λ xs. first ∷ xs) (count_more n (suc first)) ∙ ap (λ x. first ∷ count_from n (suc first) ++ x ∷ []) (let e : suc first + n ≡ first + suc n = omega arith in e)
+
+first_number : (n cpu : ℕ) → cpu < n → slice_index (replicate n 1) cpu ≡ 1
+first_number zero cpu low = absurd (omega arith)
+first_number (suc n) zero low = refl
+first_number (suc n) (suc cpu) low = first_number n cpu (omega arith)
+
+-- one more processor, without blocks
+pub blocks_pushed : (c : Setup) (old now new : List Region) (r : Region) (cpu : ℕ) → cpu < cpus c → now ≡ old ++ map (cpu_blocks (at_first c 0) c.block_pages) (count_from cpu 0) → r ≡ CpuBlocks cpu c.block_pages [] 1 → new ≡ now ++ r ∷ []
+    → new ≡ old ++ map (cpu_blocks (at_first c 0) c.block_pages) (count_from (cpu + 1) 0)
+blocks_pushed c old now new r cpu low had is pushed =
+    let own : r ≡ cpu_blocks (at_first c 0) c.block_pages cpu = is ∙ ap (CpuBlocks cpu c.block_pages []) (sym (first_number (cpus c) cpu low)) in
+    let numbers : count_from cpu 0 ++ cpu ∷ [] ≡ count_from (cpu + 1) 0 =
+    sym (count_more cpu 0 ∙ ap (λ n. count_from cpu 0 ++ n ∷ []) (let e : 0 + cpu ≡ cpu = omega arith in e)) ∙ ap (λ n. count_from n 0) (sym (add-one cpu)) in
+    let grown : map (cpu_blocks (at_first c 0) c.block_pages) (count_from cpu 0) ++ cpu_blocks (at_first c 0) c.block_pages cpu ∷ [] ≡ map (cpu_blocks (at_first c 0) c.block_pages) (count_from (cpu + 1) 0) =
+    sym (map-append (cpu_blocks (at_first c 0) c.block_pages) (count_from cpu 0) (cpu ∷ [])) ∙ ap (map (cpu_blocks (at_first c 0) c.block_pages)) numbers in
+    pushed ∙ ap (λ xs. xs ++ r ∷ []) had ∙ append_assoc old (map (cpu_blocks (at_first c 0) c.block_pages) (count_from cpu 0)) (r ∷ [])
+    ∙ ap (λ x. old ++ (map (cpu_blocks (at_first c 0) c.block_pages) (count_from cpu 0) ++ x ∷ [])) own ∙ ap (λ xs. old ++ xs) grown
 
 -- a section is no longer than all together
 pub section_short : (calls : List (List Call)) (k : ℕ) (own : List Call) → slice_get calls k ≡ Some own → length own ≤ sum_by length calls

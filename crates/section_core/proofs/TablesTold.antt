@@ -1,9 +1,10 @@
 -- The tables of a kernel that stands in a world.
-use Rattle.std.proofs.Common.{lit<, slice_index_or, count_by, is_some, append-nil, add-one, ◌≡◌, ℕ, suc, ◌+◌, ◌/◌, ◌<◌, ◌≤◌, All, List, [], ◌∷◌, ◌++◌, length, map, flat_map, take, slice_get, filter, not, Some, refl, ap, sym, ◌∙◌, subst, arith}
+use Rattle.std.proofs.Common.{◌-◌, drop, slice_index, lit<, slice_index_or, count_by, is_some, append-nil, add-one, ◌≡◌, ℕ, suc, ◌+◌, ◌/◌, ◌<◌, ◌≤◌, All, List, [], ◌∷◌, ◌++◌, length, map, flat_map, take, slice_get, filter, not, Some, refl, ap, sym, ◌∙◌, subst, arith}
 use Rattle.std.proofs.lemmas.Grind.{flat_map-append}
 use Rattle.vm_model.specs.declared.calls.Call.{Call}
 use Rattle.vm_model.specs.declared.calls.Entry.{Entry}
-use Rattle.vm_model.specs.Setup.{Setup}
+use Rattle.vm_model.specs.Setup.{Setup, cpus}
+use Rattle.vm_model.specs.Blocks.{blocks_of}
 use Rattle.vm_model.specs.Events.{Event}
 use Rattle.vm_model.specs.Calls.{Answered}
 use Rattle.vm_model.specs.History.{World, Local}
@@ -13,8 +14,10 @@ use Rattle.history_book.specs.BookRows.{BookRows}
 use Rattle.history_book.specs.Entries.{places_of, note_of, AreNotedOf}
 use Rattle.history_book.proofs.Places.{places_of-callers}
 use Rattle.section_core.specs.Lawful.{IsRunning}
-use Rattle.section_core.specs.Kernels.{KernelState, IsStanding, IsSomewhere, movers}
-use Rattle.section_core.proofs.LawfulRegions.{sound}
+use Rattle.std.proofs.lemmas.List.{take_all, length-drop}
+use Rattle.std.proofs.lemmas.List.Elements.{All-nil, All-cons}
+use Rattle.section_core.specs.Kernels.{KernelState, IsStanding, IsSomewhere, IsOfBlocks, movers}
+use Rattle.section_core.proofs.LawfulCallers.{sound}
 use Rattle.section_core.proofs.Counted.{reached_counted, events_of, length-numbers_of}
 use Rattle.section_core.proofs.Answered.{take_one}
 use Rattle.section_core.proofs.PlainWorlds.{plain_world}
@@ -26,15 +29,15 @@ use Rattle.std.proofs.Math.Nat.{mul-div_cancel_left}
 use Rattle.std.proofs.lemmas.Option.{slice_get_read}
 use Rattle.vm_model.specs.declared.areas.Span.{Span}
 use Rattle.vm_model.specs.declared.areas.Area.{Area}
-use Rattle.vm_model.specs.declared.config.Config.{Config}
+use Rattle.unit_layout.specs.declared.config.Config.{Config}
 use Rattle.vm_model.specs.declared.tables.Tables.{Tables}
 use Rattle.vm_model.specs.declared.rows.BlockRow.{BlockRow}
 use Rattle.vm_model.specs.declared.rows.PartRow.{PartRow}
 use Rattle.vm_model.specs.Space.{sort_by, longest_of, count_from}
-use Rattle.vm_model.specs.Config.{setup_of}
+use Rattle.unit_layout.specs.Config.{setup_of}
 use Rattle.vm_model.specs.PlainMap.{PlainMap, free_runs}
 use Rattle.vm_model.specs.Frames.{free_frames, is_used}
-use Rattle.vm_model.specs.Parts.{Region, FreeRuns, LiveAreas, WaitingSpans, Pages, regions_of}
+use Rattle.vm_model.specs.Parts.{FreeRuns, LiveAreas, Pages, Region, WaitingSpans, cpu_blocks, regions_of}
 use Rattle.vm_model.specs.Tables.{block_row, part_rows, chunk_row, object_rows, hint_rows, tables_of}
 use Rattle.vm_model.specs.Tables.{chunk_audit as chunk_audit_of}
 
@@ -97,19 +100,18 @@ same_tables t u e0 e1 e2 e3 e4 e5 e6 e7 e8 e9 e10 e11 e12 e13 e14 e15 e16 =
 -- the tables of a world of the built words, from what its regions tell
 pub tables_told : (config : Config) (opening : List Call) (calls : List (List Call)) (w : World) (t : Tables) → IsRunning (setup_of config) opening calls w → t.entries ≡ entries_of w.events w.locals → t.events ≡ length w.events
     → t.frames ≡ length (free_frames (setup_of config) w.map.frames) → t.mapped ≡ count_by is_some w.map.frames → t.stale ≡ count_by (λ b. b) w.map.stale → t.free ≡ free_runs w.map → t.areas ≡ w.map.areas
-    → t.waiting ≡ sort_by (λ (s : Span). s.start) w.map.waiting → t.blocks ≡ [] → t.parts ≡ [] → t.chunks ≡ [] → t.objects ≡ [] → t.tree_blocks ≡ length (free_runs w.map) → t.tree_largest ≡ (longest_of (free_runs w.map)).pages → t.plain_largest ≡ (longest_of (free_runs w.map)).pages
+    → t.waiting ≡ sort_by (λ (s : Span). s.start) w.map.waiting → t.blocks ≡ (tables_of (setup_of config) w).blocks → t.parts ≡ (tables_of (setup_of config) w).parts → t.chunks ≡ [] → t.objects ≡ [] → t.tree_blocks ≡ length (free_runs w.map) → t.tree_largest ≡ (longest_of (free_runs w.map)).pages → t.plain_largest ≡ (longest_of (free_runs w.map)).pages
     → t.chunk_audit ≡ [] → t.hints ≡ [] → t ≡ tables_of (setup_of config) w
 tables_told config opening calls w t is entries events frames mapped stale free areas waiting blocks parts chunks objects tree_blocks tree_largest plain_largest chunk_audit hints =
     let empty = (plain_world (setup_of config) opening calls w is).empty in
     same_tables t (tables_of (setup_of config) w) entries events frames mapped stale free areas
     waiting
-    (blocks ∙ ap (λ bs. sort_by (λ (b : BlockRow). b.start) (map (block_row (setup_of config)) bs)) (sym empty.blocks))
-    (parts ∙ ap (λ bs. sort_by (λ (p : PartRow). p.span.start) (flat_map part_rows bs)) (sym empty.blocks))
-    (chunks ∙ ap (map (chunk_row (setup_of config))) (sym empty.chunks))
-    (objects ∙ ap (flat_map object_rows) (sym empty.chunks))
+    blocks parts
+    (chunks ∙ ap (map (chunk_row (setup_of config))) (sym empty))
+    (objects ∙ ap (flat_map object_rows) (sym empty))
     tree_blocks tree_largest plain_largest
-    (chunk_audit ∙ ap (map (chunk_audit_of (setup_of config))) (sym empty.chunks))
-    (hints ∙ ap (flat_map (hint_rows (setup_of config))) (sym empty.chunks))
+    (chunk_audit ∙ ap (map (chunk_audit_of (setup_of config))) (sym empty))
+    (hints ∙ ap (flat_map (hint_rows (setup_of config))) (sym empty))
 
 -- the regions of a kernel by their numbers
 pub region_at : (c : Setup) (opening : List Call) (calls : List (List Call)) (w : World) (k : KernelState) (held : List Region) (n : ℕ) (r : Region) → IsStanding c opening calls w k → held ≡ k.regions → r ≡ slice_index_or held n r → n < length held
@@ -148,3 +150,16 @@ free_count c opening calls w is =
 
 pub length-movers : (events : List Event) → length (movers events) ≡ length events
 length-movers events = length-map events (λ (e : Event). e.caller)
+
+-- the regions behind the first eight are those of the processors' blocks
+all_of_blocks : (m : PlainMap) (pages : ℕ) (cpus_here : List ℕ) → All IsOfBlocks (map (cpu_blocks m pages) cpus_here)
+all_of_blocks m pages [] = All-nil IsOfBlocks
+all_of_blocks m pages (cpu ∷ rest) = All-cons IsOfBlocks (cpu_blocks m pages cpu) (map (cpu_blocks m pages) rest) (cpu, pages, blocks_of cpu m.blocks, slice_index m.next_part cpu, refl) (all_of_blocks m pages rest)
+
+pub behind : (items regions part : List Region) → items ≡ regions → part ≡ take (length items - 8) (drop 8 items) → part ≡ drop 8 regions
+behind items regions part same is = is ∙ take_all (length items - 8) (drop 8 items) (let wide = length-drop 8 items in omega arith) ∙ ap (drop 8) same
+
+pub blocks_behind : (k : KernelState) (part : List Region) → IsSomewhere k → part ≡ take (length k.regions - 8) (drop 8 k.regions) → All IsOfBlocks part
+blocks_behind k part is e =
+    let st = is.4 in
+    subst (All IsOfBlocks) (sym (behind k.regions (regions_of is.0 is.3.map) part st.regions e)) (all_of_blocks is.3.map is.0.block_pages (count_from (cpus is.0) 0))

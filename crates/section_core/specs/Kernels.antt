@@ -6,7 +6,11 @@ use Rattle.vm_model.specs.Events.{Event}
 use Rattle.vm_model.specs.Places.{ask, AskNothing}
 use Rattle.vm_model.specs.Given.{can_move}
 use Rattle.vm_model.specs.History.{World, Local, opening_world, with_callers, finish, most_events, callers_from, opening_answers}
-use Rattle.vm_model.specs.Parts.{Region, regions_of, wants, moves}
+use Rattle.vm_model.specs.Parts.{Region, CpuBlocks, regions_of, wants, moves}
+use Rattle.vm_model.specs.PlainMap.{Block}
+use Rattle.vm_model.specs.declared.rows.BlockRow.{BlockRow}
+use Rattle.vm_model.specs.declared.rows.PartRow.{PartRow}
+use Rattle.map_blocks.specs.BlockRows.{block_table, part_table}
 use Rattle.section_core.specs.declared.region.Stepped.{Stepped}
 use Rattle.section_core.specs.declared.region.Stepped.TheVariants.{Moved, Stays, Ended}
 use Rattle.vm_model.specs.Rules.{IsTrace}
@@ -71,3 +75,15 @@ pub record CanJoin (c : Setup) (sections : List (List Call)) (k : KernelState) (
   pub can : CanStart c sections
   pub ended : IsStanding c (opening_of sections) (callers_of sections) (finish most_events (opening_world c (opening_of sections) (callers_of sections))) k
   pub before : callers ≡ callers_from c (opening_answers k.locals) 1 (callers_of sections)
+
+-- a region of a processor's blocks, and its rows of blocks and of live parts
+abbrev pub IsOfBlocks : Region → Type 0
+IsOfBlocks r = (cpu : ℕ) × (pages : ℕ) × (blocks : List Block) × (next : ℕ) × (r ≡ CpuBlocks cpu pages blocks next)
+
+abbrev pub block_table_of : Region → List BlockRow
+block_table_of (CpuBlocks cpu pages blocks next) = block_table (record { cpu = cpu; pages = pages; blocks = blocks; next = next })
+block_table_of _ = []
+
+abbrev pub part_table_of : Region → List PartRow
+part_table_of (CpuBlocks cpu pages blocks next) = part_table (record { cpu = cpu; pages = pages; blocks = blocks; next = next })
+part_table_of _ = []

@@ -2,18 +2,19 @@
 use Rattle.std.specs.Prelude.{◌≡◌, ℕ, ◌+◌, ◌<◌, ◌≤◌, All, List, [], ◌∷◌, length, map, slice_get, Some, vec_capacity}
 use Rattle.std.specs.Arc.{arc_value}
 use Rattle.vm_model.specs.declared.calls.Call.{Call}
-use Rattle.vm_model.specs.Config.{setup_of}
-use Rattle.vm_model.specs.Setup.{Setup, cpus}
+use Rattle.unit_layout.specs.Config.{setup_of}
+use Rattle.vm_model.specs.Setup.{cpus}
+use Rattle.vm_model.specs.Rules.{IsSetup}
 use Rattle.vm_model.specs.Calls as model
 use Rattle.vm_model.specs.History as history
-use Rattle.vm_model.specs.declared.calls.Call.TheVariants.{Vmalloc, Vfree}
+use Rattle.vm_model.specs.declared.calls.Call.TheVariants.{Vmalloc, Vfree, MapRam, UnmapRam, UnmapAliases}
 use Rattle.history_book.specs.declared.noted.Noted.{Noted}
 use Rattle.section_core.specs.declared.answers.Made.{Made}
 use Rattle.section_core.specs.declared.answers.Answered.{Answered}
 use Rattle.section_core.specs.declared.place.Place.{Place}
 use Rattle.section_core.specs.declared.place.Place.TheVariants.{Over}
 use Rattle.section_core.specs.declared.local.Local.TheInside.{Inside}
-use Rattle.section_core.specs.Places.{place_of, made_of, IsSized, IsWhole}
+use Rattle.section_core.specs.Places.{Carried, place_of, made_of, IsSized, IsWhole}
 
 -- an answer of the opening, as all callers share it
 abbrev pub answer_of : Answered → model.Answered
@@ -27,25 +28,32 @@ abbrev pub answers_with : List Call → List Noted → List Made → List model.
 answers_with (call ∷ calls) (n ∷ rows) (m ∷ made) = answer_with call n m ∷ answers_with calls rows made
 answers_with _ _ _ = []
 
+-- the lists that it carries
+abbrev pub carried_of : Inside → Carried
+carried_of a = record { gone = a.gone.items; waited = a.waited; ranges = a.ranges.items }
+
 abbrev pub local_of : Inside → history.Local
 local_of a = record {
-  setup = setup_of a.config;
+  setup = setup_of (arc_value a.config);
   caller = a.caller;
   opening = map answer_of (arc_value a.opening);
   calls = a.calls;
   answers = answers_with a.calls a.book.rows a.made.items;
   events = a.events;
-  place = place_of a.place a.waited;
+  place = place_of a.place (carried_of a);
 }
 
 -- what each of these answered calls made
 abbrev pub MadeBy : List Made → List model.Answered → Type 0
 MadeBy made answers = map made_of made ≡ map (λ (a : model.Answered). a.made) answers
 
--- a call of the built words
+-- a call of the built words, whose processor can be
 abbrev pub IsBuiltCall : Call → Type 0
 IsBuiltCall (Vmalloc bytes align) = Unit {0}
 IsBuiltCall (Vfree target) = Unit {0}
+IsBuiltCall (MapRam cpu pages) = cpu < 64
+IsBuiltCall (UnmapRam target) = Unit {0}
+IsBuiltCall UnmapAliases = Unit {0}
 IsBuiltCall _ = ⊥
 
 abbrev pub AreBuilt : List Call → Type 0
@@ -56,14 +64,9 @@ abbrev pub HasCall : Place → ℕ → List Call → Type 0
 HasCall Over answered calls = Unit {0}
 HasCall _ answered calls = answered < length calls
 
--- one processor, and a space of at most 1,048,576 pages
-pub record IsPlain (c : Setup) : Type 0 where
-  pub processor : cpus c ≡ 1
-  pub space : c.space ≤ 1048576
-
--- a caller's parts fit together, and there is room for the answers to come
+-- a caller's parts fit together, and there is room for the answers to come and for a range of each processor
 pub record IsOrderly (a : Inside) : Type 0 where
-  pub space : a.config.space ≤ 1048576
+  pub setup : IsSetup (setup_of (arc_value a.config))
   pub built : AreBuilt a.calls
   pub few : length a.calls ≤ 100000
   pub made : length a.made.items ≡ length a.book.rows
@@ -72,5 +75,6 @@ pub record IsOrderly (a : Inside) : Type 0 where
   pub own : a.book.caller ≡ a.caller
   pub noted : All (λ (n : Noted). n.own_event ≤ a.events) a.book.rows
   pub sized : IsSized a.place
-  pub whole : IsWhole (place_of a.place a.waited)
+  pub whole : IsWhole (setup_of (arc_value a.config)) (place_of a.place (carried_of a))
+  pub range_room : cpus (setup_of (arc_value a.config)) ≤ vec_capacity a.ranges
   pub at_hand : HasCall a.place (length a.book.rows) a.calls

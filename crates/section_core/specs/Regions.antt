@@ -2,8 +2,13 @@
 use Rattle.std.specs.Prelude.{[]}
 use Rattle.vm_model.specs.Parts as parts
 use Rattle.vm_model.specs.Parts.{Region, PurgeTurn, AllocTurn, FreeRuns, LiveAreas, WaitingSpans, CpuBlocks}
+use Rattle.map_blocks.specs.BlockRows.{BlockRows}
 use Rattle.section_core.specs.declared.region.Side.{Side}
 use Rattle.section_core.specs.declared.region.Side.TheVariants.{Desk, Purge, Alloc, Free, Busy, Lazy, Pages, Percpu, Blocks}
+
+-- the region of a processor's blocks
+abbrev pub blocks_region : BlockRows → Region
+blocks_region side = CpuBlocks side.cpu side.pages side.blocks side.next
 
 abbrev pub region_of : Side → Region
 region_of Desk = parts.Desk
@@ -14,4 +19,4 @@ region_of (Busy side) = LiveAreas side.areas side.next
 region_of (Lazy side) = WaitingSpans side
 region_of (Pages side) = parts.Pages side.frames side.stale side.cells
 region_of (Percpu room) = parts.Percpu [] 1 0 room
-region_of Blocks = CpuBlocks 0 [] 1
+region_of (Blocks side) = blocks_region side

@@ -1,29 +1,28 @@
 //! The sections over the live areas.
 ghost use Rattle.std.specs.Prelude.{◌≡◌, ◌<◌, ◌+◌, ◌≤◌, ◌^◌, ℕ, length, Some, OnOk, OnErr};
-ghost use Rattle.vm_model.specs.declared.areas.AreaKind.TheVariants as kind;
 ghost use Rattle.vm_model.specs.Space.{end_of};
 ghost use Rattle.vm_model.specs.Places as model;
 ghost use Rattle.vm_model.specs.Places.{ask};
 ghost use Rattle.vm_model.specs.Parts.{LiveAreas, wants};
 ghost use Rattle.busy_areas.specs.Kept.{IsUnused};
+ghost use Rattle.section_core.specs.Places.{then_of, carried_at, IsSizedAfter};
 ghost use Rattle.section_core.specs.Sections.{IsMoved, TakesMemory, IsSettledWell};
 
-use crate::answers::Made;
+use crate::answers::{Made, address_of};
 use crate::local::Local;
-use crate::place::Place;
+use crate::place::{After, Place};
 use busy_areas::BusySide;
 use std::alloc::AllocError;
 use vm_model::{AreaKind, Reply, Span};
 
-/// The bytes of a page.
-const PAGE: u64 = 4096;
-
-/// The address of page 0, the kernel's `VMALLOC_START`.
-const FIRST_ADDRESS: u64 = 0xffff_c900_0000_0000;
-
 /// Settles a mapped span as a live area, whose address answers the call.
-fn settle(local: &mut Local, busy: &mut BusySide, span: Span) -> Result<(), AllocError>
-    requires place { local.old.place ≡ model.SettlingArea span kind.Vmalloc }
+fn settle(
+    local: &mut Local,
+    busy: &mut BusySide,
+    span: Span,
+    kind: AreaKind,
+) -> Result<(), AllocError>
+    requires place { local.old.place ≡ model.SettlingArea span kind }
     requires some { 1 ≤ span.pages }
     requires within { end_of span ≤ 1048576 }
     requires unused { IsUnused busy.old.areas span }
@@ -32,13 +31,67 @@ fn settle(local: &mut Local, busy: &mut BusySide, span: Span) -> Result<(), Allo
     ensures ok { OnOk result (IsMoved local.old (LiveAreas busy.old.areas busy.old.next) local.new (LiveAreas busy.new.areas busy.new.next)) }
     ensures err { OnErr result ((local.new ≡ local.old) × (busy.new ≡ busy.old)) }
 {
-    let serial = busy.insert(span, AreaKind::Vmalloc, local.caller())?;
+    let serial = busy.insert(span, kind, local.caller())?;
     let start = span.start;
     local.answer(
-        Reply::Address(FIRST_ADDRESS + PAGE * start as u64),
+        Reply::Address(address_of(start)),
         Made::Area { start, serial },
     );
     Ok(())
+}
+
+/// Settles a carved span as the area of a new block.
+fn settle_block(
+    local: &mut Local,
+    busy: &mut BusySide,
+    span: Span,
+    cpu: u8,
+    pages: u32,
+) -> Result<(), AllocError>
+    requires place { local.old.place ≡ model.SettlingBlock span cpu pages }
+    requires some { 1 ≤ span.pages }
+    requires first { 1 ≤ pages }
+    requires unused { IsUnused busy.old.areas span }
+    requires at_hand { length local.old.answers < length local.old.calls }
+    requires events { local.old.events + 1 < 2 ^ 32 }
+    ensures ok { OnOk result (IsMoved local.old (LiveAreas busy.old.areas busy.old.next) local.new (LiveAreas busy.new.areas busy.new.next)) }
+    ensures err { OnErr result ((local.new ≡ local.old) × (busy.new ≡ busy.old)) }
+{
+    busy.insert(span, AreaKind::Block { cpu: cpu.into() }, local.caller())?;
+    local.go(Place::AddingBlock {
+        start: span.start,
+        cpu,
+        pages,
+    });
+    Ok(())
+}
+
+/// Takes out the areas of the blocks that a purge has taken out.
+fn unlink_all(local: &mut Local, busy: &mut BusySide, extra: Option<Span>, after: After)
+    requires place { local.old.place ≡ model.PurgeUnlinking (carried_at local.old.place).gone extra (then_of after) }
+    requires sized { IsSizedAfter after }
+    requires at_hand { length local.old.answers < length local.old.calls }
+    requires events { local.old.events + 1 < 2 ^ 32 }
+    ensures { IsMoved local.old (LiveAreas busy.old.areas busy.old.next) local.new (LiveAreas busy.new.areas busy.new.next) }
+{
+    busy.unlink(local.gone());
+    local.unlinked(extra, after);
+}
+
+/// Takes out the area of a spent block, whose pages wait then.
+fn unlink(local: &mut Local, busy: &mut BusySide, start: u32, reply: Reply)
+    requires place { local.old.place ≡ model.UnlinkingBlock start reply }
+    requires blocks { 1 ≤ local.old.setup.block_pages }
+    requires at_hand { length local.old.answers < length local.old.calls }
+    requires events { local.old.events + 1 < 2 ^ 32 }
+    ensures { IsMoved local.old (LiveAreas busy.old.areas busy.old.next) local.new (LiveAreas busy.new.areas busy.new.next) }
+{
+    busy.unlink(&[start]);
+    let pages = local.block_pages();
+    local.go(Place::Waiting {
+        span: Span { start, pages },
+        reply,
+    });
 }
 
 /// Takes out the area that is freed, unless it isn't live any more.
@@ -64,7 +117,10 @@ pub(crate) fn at_busy(local: &mut Local, busy: &mut BusySide) -> Result<(), Allo
     ensures err { OnErr result ((local.new ≡ local.old) × (busy.new ≡ busy.old)) }
 {
     match local.place() {
-        Place::SettlingArea(span) => settle(local, busy, span)?,
+        Place::SettlingArea(span, kind) => settle(local, busy, span, kind)?,
+        Place::SettlingBlock { span, cpu, pages } => settle_block(local, busy, span, cpu, pages)?,
+        Place::PurgeUnlinking { extra, after } => unlink_all(local, busy, extra, after),
+        Place::UnlinkingBlock { start, reply } => unlink(local, busy, start, reply),
         Place::Removing { start, serial } => remove(local, busy, start, serial),
         _ => unreachable!(),
     }

@@ -1,19 +1,23 @@
 //! The kernel: all regions and all callers, one step after another.
-ghost use Rattle.std.specs.Prelude.{◌∷◌, ◌≡◌, ◌≢◌, ◌<◌, ◌≤◌, ℕ, List, All, Some, length, take, slice_get, reverse, IfOk, IfSome, OnOk, OnErr};
+ghost use Rattle.std.specs.Prelude.{◌∷◌, ◌≡◌, ◌≢◌, ◌<◌, ◌≤◌, ℕ, List, All, Some, length, take, drop, slice_get, reverse, IfOk, IfSome, OnOk, OnErr};
 ghost use Rattle.vm_model.specs.declared.calls.Call.{Call};
 ghost use Rattle.vm_model.specs.Setup.{Setup};
 ghost use Rattle.vm_model.specs.Space.{sort_by};
 ghost use Rattle.vm_model.specs.declared.areas.Span.{Span};
-ghost use Rattle.vm_model.specs.Config.{setup_of};
+ghost use Rattle.vm_model.specs.declared.rows.BlockRow.{BlockRow};
+ghost use Rattle.vm_model.specs.declared.rows.PartRow.{PartRow};
+ghost use Rattle.unit_layout.specs.Config.{setup_of};
+ghost use Rattle.vm_model.specs.Rules.{IsSetup};
+ghost use Rattle.std.specs.Arc.{arc_value};
 ghost use Rattle.vm_model.specs.History.{World, opening_world, step, pick_all, moves_in, first_mover, finish, most_events};
-ghost use Rattle.vm_model.specs.declared.config.Config.{Config};
+ghost use Rattle.unit_layout.specs.declared.config.Config.{Config};
 ghost use Rattle.vm_model.specs.Tables.{entries_of, tables_of};
 ghost use Rattle.vm_model.specs.LegalHistory.{AllOver};
-ghost use Rattle.vm_model.specs.Parts.{wants, moves, after};
+ghost use Rattle.vm_model.specs.Parts.{regions_of, wants, moves, after};
 ghost use Rattle.vm_model.specs.Run.{section_by};
 ghost use Rattle.section_core.specs.declared.region.Stepped.TheVariants.{Moved};
-ghost use Rattle.section_core.specs.Lawful.{IsLawful};
-ghost use Rattle.section_core.specs.Kernels.{KernelState, IsStanding, IsSteppedAs, SectionAs, CanStart, CanJoin, start_of, opening_of, callers_of};
+ghost use Rattle.section_core.specs.Lawful.{IsRunning, IsLawful};
+ghost use Rattle.section_core.specs.Kernels.{KernelState, IsStanding, IsSteppedAs, SectionAs, CanStart, CanJoin, IsOfBlocks, start_of, opening_of, callers_of};
 
 use crate::answers::AnswerList;
 use crate::local::{Local, first_callers};
@@ -25,9 +29,10 @@ use lazy_purge::LazySide;
 use std::alloc::{AllocError, Global};
 use std::marker::Model;
 use std::sync::Arc;
+use unit_layout::Config;
 use vm_model::{
-    BlockList, CallerCalls, CallsList, ChunkAuditList, ChunkList, Config, Entry, EntryList,
-    HintList, ObjectList, PartList, Span, SpanList, Tables,
+    BlockList, BlockRow, CallerCalls, CallsList, ChunkAuditList, ChunkList, Entry, EntryList,
+    HintList, ObjectList, PartList, PartRow, Span, SpanList, Tables,
 };
 
 /// More events than any trace makes.
@@ -73,26 +78,31 @@ fn section_of(
 impl Kernel {
     /// Starts an allocator on the numbers of a header, and makes the calls of the opening, the first section, to their
     /// end. The callers of the further sections stand before their first calls then.
-    pub fn start(alloc: Global, config: &Config, sections: CallsList) -> Result<Kernel, AllocError>
-        requires { CanStart (setup_of config.now) sections }
-        ensures { IfOk result (λ kernel. IsStanding (setup_of config.now) (opening_of sections) (callers_of sections) (start_of (setup_of config.now) sections) kernel) }
+    pub fn start(alloc: Global, config: Config, sections: CallsList) -> Result<Kernel, AllocError>
+        requires { CanStart (setup_of config) sections }
+        ensures { IfOk result (λ kernel. IsStanding (setup_of config) (opening_of sections) (callers_of sections) (start_of (setup_of config) sections) kernel) }
     {
+        let config = Arc::new(alloc, config)?;
         let mut sections = sections.into_vec();
         let opening = sections.remove(0);
-        let mut kernel = Kernel::before(alloc, config, opening)?;
+        let mut kernel = Kernel::before(alloc, &config, opening)?;
         kernel.finish()?;
         let answers = Arc::new(alloc, kernel.locals[0].answers(alloc)?)?;
-        kernel.join(first_callers(alloc, config, &answers, sections)?)?;
+        kernel.join(first_callers(alloc, &config, &answers, sections)?)?;
         Ok(kernel)
     }
 
     /// The opening before its first call.
-    fn before(alloc: Global, config: &Config, opening: CallerCalls) -> Result<Kernel, AllocError>
-        requires { (calls : List (List Call)) × CanStart (setup_of config.now) (opening ∷ calls) }
-        ensures { IfOk result (λ kernel. (calls : List (List Call)) → CanStart (setup_of config.now) (opening ∷ calls) → IsStanding (setup_of config.now) opening calls (opening_world (setup_of config.now) opening calls) kernel) }
+    fn before(
+        alloc: Global,
+        config: &Arc<Config, Global>,
+        opening: CallerCalls,
+    ) -> Result<Kernel, AllocError>
+        requires { (calls : List (List Call)) × CanStart (setup_of (arc_value config.now)) (opening ∷ calls) }
+        ensures { IfOk result (λ kernel. (calls : List (List Call)) → CanStart (setup_of (arc_value config.now)) (opening ∷ calls) → IsStanding (setup_of (arc_value config.now)) opening calls (opening_world (setup_of (arc_value config.now)) opening calls) kernel) }
     {
         let none = Arc::new(alloc, AnswerList::of(Vec::new(alloc)))?;
-        let first = Local::start(alloc, config, 0, none, opening)?;
+        let first = Local::start(alloc, Arc::try_clone(config)?, 0, none, opening)?;
         Ok(Kernel {
             regions: first_regions(alloc, config)?,
             locals: vec![in alloc; first]?,
@@ -211,8 +221,8 @@ impl Kernel {
             free: SpanList::of(free_blocks(alloc, free)?),
             areas: self.regions[4].busy().areas(alloc)?,
             waiting: SpanList::of(waiting_spans(alloc, self.regions[5].lazy())?),
-            blocks: BlockList::of(Vec::new(alloc)),
-            parts: PartList::of(Vec::new(alloc)),
+            blocks: BlockList::of(block_rows(alloc, &self.regions[8..])?),
+            parts: PartList::of(part_rows(alloc, &self.regions[8..])?),
             chunks: ChunkList::of(Vec::new(alloc)),
             objects: ObjectList::of(Vec::new(alloc)),
             tree_blocks: free.len(),
@@ -256,4 +266,30 @@ fn waiting_spans(alloc: Global, lazy: &LazySide) -> Result<Vec<Span>, AllocError
     let mut spans = latest_first(alloc, lazy)?;
     spans.sort_by_key(|span| span.start)?;
     Ok(spans)
+}
+
+/// The blocks of all processors by rising start.
+fn block_rows(alloc: Global, regions: &[Region]) -> Result<Vec<BlockRow>, AllocError>
+    requires { All IsOfBlocks regions.now }
+    ensures { IfOk result (λ rows. (c : Setup) (opening : List Call) (calls : List (List Call)) (w : World) → IsRunning c opening calls w → regions.now ≡ drop 8 (regions_of c w.map) → rows.items ≡ (tables_of c w).blocks) }
+{
+    let mut rows = Vec::new(alloc);
+    for region in regions {
+        rows.append(&mut region.blocks().block_rows(alloc)?.into_vec())?;
+    }
+    rows.sort_by_key(|row| row.start)?;
+    Ok(rows)
+}
+
+/// The live parts of all processors by rising start.
+fn part_rows(alloc: Global, regions: &[Region]) -> Result<Vec<PartRow>, AllocError>
+    requires { All IsOfBlocks regions.now }
+    ensures { IfOk result (λ rows. (c : Setup) (opening : List Call) (calls : List (List Call)) (w : World) → IsRunning c opening calls w → regions.now ≡ drop 8 (regions_of c w.map) → rows.items ≡ (tables_of c w).parts) }
+{
+    let mut rows = Vec::new(alloc);
+    for region in regions {
+        rows.append(&mut region.blocks().part_rows(alloc)?.into_vec())?;
+    }
+    rows.sort_by_key(|row| row.span.start)?;
+    Ok(rows)
 }

@@ -3,7 +3,9 @@
 
 mod answers;
 mod begin;
+mod block_sections;
 mod busy_sections;
+mod carried;
 mod free_sections;
 pub mod kernel;
 mod lazy_sections;

@@ -1,20 +1,25 @@
 //! The regions of an allocator, each of which one lock guards.
-ghost use Rattle.std.specs.Prelude.{◌≡◌, ◌≤◌, ℕ, ℤ, Bool, List, Option, IfOk};
+ghost use Rattle.std.specs.Prelude.{◌≡◌, ◌++◌, ℕ, ℤ, Bool, List, map, Option, IfOk, OnOk};
+ghost use Rattle.vm_model.specs.Space.{count_from};
+ghost use Rattle.vm_model.specs.Setup.{cpus};
 ghost use Rattle.vm_model.specs.declared.areas.Span.{Span};
 ghost use Rattle.vm_model.specs.declared.areas.Area.{Area};
 ghost use Rattle.vm_model.specs.Parts as parts;
 ghost use Rattle.vm_model.specs.PlainMap.{at_first};
-ghost use Rattle.vm_model.specs.Parts.{regions_of, FreeRuns, LiveAreas, WaitingSpans};
-ghost use Rattle.vm_model.specs.Config.{setup_of};
+ghost use Rattle.vm_model.specs.Parts.{regions_of, cpu_blocks, FreeRuns, LiveAreas, WaitingSpans, CpuBlocks};
+ghost use Rattle.vm_model.specs.PlainMap.{Block};
+ghost use Rattle.unit_layout.specs.Config.{setup_of};
+ghost use Rattle.vm_model.specs.Rules.{IsSetup};
 ghost use Rattle.section_core.specs.Regions.{region_of};
 
 use augmented_tree::FreeSide;
 use busy_areas::BusySide;
 use lazy_purge::LazySide;
+use map_blocks::BlockSide;
 use page_pool::PageSide;
 use std::alloc::{AllocError, Global};
 use std::marker::Model;
-use vm_model::Config;
+use unit_layout::Config;
 
 /// What a region holds.
 #[derive(Drop)]
@@ -35,8 +40,8 @@ pub(crate) enum Side {
     Pages(PageSide),
     /// No chunk is made by a built call; so many objects may be placed.
     Percpu(u32),
-    /// The blocks of the one processor: none, as no built call makes one.
-    Blocks,
+    /// The blocks of a processor, its `vmap_block_queue` in the kernel.
+    Blocks(BlockSide),
 }
 
 /// One of the regions of an allocator.
@@ -97,6 +102,17 @@ impl Region {
         }
     }
 
+    /// The blocks of a processor, of the region that has them.
+    pub(crate) fn blocks(&self) -> &BlockSide
+        requires { (cpu : ℕ) × (pages : ℕ) × (blocks : List Block) × (next : ℕ) × (self.now ≡ CpuBlocks cpu pages blocks next) }
+        ensures { self.now ≡ CpuBlocks result.now.cpu result.now.pages result.now.blocks result.now.next }
+    {
+        match &self.side {
+            Side::Blocks(blocks) => blocks,
+            _ => unreachable!(),
+        }
+    }
+
     /// The page map, of the region that has it.
     pub(crate) fn pages(&self) -> &PageSide
         requires { (frames : List (Option ℕ)) × (stale : List Bool) × (cells : List ℤ) × (self.now ≡ parts.Pages frames stale cells) }
@@ -109,15 +125,26 @@ impl Region {
     }
 }
 
+/// Puts the regions of the processors' blocks behind those that are there.
+fn push_blocks(alloc: Global, config: &Config, regions: &mut Vec<Region>) -> Result<(), AllocError>
+    requires { IsSetup (setup_of config.now) }
+    ensures { OnOk result (regions.new.items ≡ regions.old.items ++ map (cpu_blocks (at_first (setup_of config.now) 0) config.now.block_pages) (count_from (cpus (setup_of config.now)) 0)) }
+{
+    for cpu in 0..config.layout.cpus() {
+        let blocks = BlockSide::new(alloc, cpu, config.block_pages);
+        regions.push(Region::of(Side::Blocks(blocks)))?;
+    }
+    Ok(())
+}
+
 /// The regions of a space where nothing has happened: every page is free, and nothing is mapped.
 pub(crate) fn first_regions(alloc: Global, config: &Config) -> Result<Vec<Region>, AllocError>
-    requires low { 1 ≤ config.now.space }
-    requires high { config.now.space ≤ 1048576 }
+    requires { IsSetup (setup_of config.now) }
     ensures { IfOk result (λ regions. regions.items ≡ regions_of (setup_of config.now) (at_first (setup_of config.now) 0)) }
 {
     let free = FreeSide::whole(alloc, config.space)?;
     let pages = PageSide::new(alloc, config.space, config.frames)?;
-    let regions = vec![in alloc;
+    let mut regions = vec![in alloc;
         Region::of(Side::Desk),
         Region::of(Side::Purge(None)),
         Region::of(Side::Alloc(None)),
@@ -126,8 +153,8 @@ pub(crate) fn first_regions(alloc: Global, config: &Config) -> Result<Vec<Region
         Region::of(Side::Lazy(LazySide::new(alloc))),
         Region::of(Side::Pages(pages)),
         Region::of(Side::Percpu(0)),
-        Region::of(Side::Blocks),
     ]?;
+    push_blocks(alloc, config, &mut regions)?;
     Ok(regions)
 }
 

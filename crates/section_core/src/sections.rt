@@ -6,6 +6,7 @@ ghost use Rattle.vm_model.specs.Parts.{wants, moves};
 ghost use Rattle.section_core.specs.Lawful.{IsLawful};
 ghost use Rattle.section_core.specs.Sections.{Answers, TakesMemory};
 
+use crate::block_sections::at_blocks;
 use crate::busy_sections::at_busy;
 use crate::free_sections::at_free;
 use crate::lazy_sections::at_lazy;
@@ -13,7 +14,7 @@ use crate::local::Local;
 use crate::page_sections::at_pages;
 use crate::place::Place;
 use crate::region::{Region, Side, Stepped};
-use crate::turn_sections::{at_blocks, at_desk, at_purge};
+use crate::turn_sections::{at_desk, at_purge};
 use std::alloc::AllocError;
 
 /// Makes the caller's next section over the region that it wants: one event. It stays where the region is a turn that
@@ -32,7 +33,7 @@ pub fn section(local: &mut Local, region: &mut Region) -> Result<Stepped, AllocE
         Side::Busy(busy) => at_busy(local, busy)?,
         Side::Lazy(lazy) => at_lazy(local, lazy)?,
         Side::Pages(pages) => at_pages(local, pages),
-        Side::Blocks => at_blocks(local),
+        Side::Blocks(blocks) => at_blocks(local, blocks)?,
         Side::Alloc(_) | Side::Percpu(_) => unreachable!(),
     }
     Ok(Stepped::Moved)
@@ -43,7 +44,7 @@ pub(crate) fn moves(local: &Local, region: &Region) -> bool
     ensures { result ≡ moves local.now region.now }
 {
     match (local.place(), &region.side) {
-        (Place::Over, _) | (Place::PurgeTaking(_), Side::Purge(Some(_))) => false,
+        (Place::Over, _) | (Place::PurgeTaking { .. }, Side::Purge(Some(_))) => false,
         _ => true,
     }
 }

@@ -1,6 +1,6 @@
-//! The sections over the desk and the purge turn, and over the blocks of the one processor, of which there are none.
-ghost use Rattle.std.specs.Prelude.{◌≡◌, ◌<◌, ◌+◌, ◌^◌, ℕ, [], length, Some};
-ghost use Rattle.vm_model.specs.Parts.{Desk, PurgeTurn, CpuBlocks, wants};
+//! The sections over the desk and the purge turn.
+ghost use Rattle.std.specs.Prelude.{◌≡◌, ◌+◌, ◌<◌, ◌^◌, Some};
+ghost use Rattle.vm_model.specs.Parts.{Desk, PurgeTurn, wants};
 ghost use Rattle.section_core.specs.Sections.{IsMoved, Answers};
 
 use crate::answers::Made;
@@ -27,12 +27,12 @@ pub(crate) fn at_purge(local: &mut Local, turn: &mut Option<u16>) -> Stepped
     ensures { Answers local.old (PurgeTurn turn.old) local.new (PurgeTurn turn.new) result }
 {
     match local.place() {
-        Place::PurgeTaking(after) => {
+        Place::PurgeTaking { extra, after } => {
             if turn.is_some() {
                 return Stepped::Stays;
             }
             *turn = Some(local.caller());
-            local.go(Place::PurgeFragmenting(after));
+            local.take_purge(extra, after);
         }
         Place::PurgeGiving(after) => {
             *turn = None;
@@ -41,16 +41,4 @@ pub(crate) fn at_purge(local: &mut Local, turn: &mut Option<u16>) -> Stepped
         _ => unreachable!(),
     }
     Stepped::Moved
-}
-
-/// Takes out the fragmented blocks of the one processor, of which there are none.
-pub(crate) fn at_blocks(local: &mut Local)
-    requires wants { wants local.old ≡ Some 8 }
-    requires events { local.old.events + 1 < 2 ^ 32 }
-    ensures { IsMoved local.old (CpuBlocks 0 [] 1) local.new (CpuBlocks 0 [] 1) }
-{
-    match local.place() {
-        Place::PurgeFragmenting(after) => local.go(Place::PurgeCollecting(after)),
-        _ => unreachable!(),
-    }
 }

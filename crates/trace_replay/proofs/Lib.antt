@@ -1,5 +1,6 @@
 pub mod Gathered
 pub mod SectionSizes
+pub mod BuiltLines
 pub mod BuiltTraces
 pub mod BuiltSetups
 pub mod BuiltSections

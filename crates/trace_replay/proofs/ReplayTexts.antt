@@ -5,11 +5,13 @@ use Rattle.std.specs.Fmt.{digits}
 use Rattle.vm_model.specs.History.{finish, history_of}
 use Rattle.trace_text.specs.Reading.{Reading, unread}
 use Rattle.trace_text.specs.Grammar.{IsTraceOf}
-use Rattle.trace_text.specs.Built.{built_for_purge}
+use Rattle.trace_text.specs.Built.{is_built}
 use Rattle.trace_text.proofs.Outcomes.{Outcome, Whole, Bad, reads, reads-whole}
 use Rattle.trace_text.proofs.Exclusive.{one_trace, trace_or_bad}
+use Rattle.trace_text.proofs.ReadLayouts.{stands_or_refused}
 use Rattle.trace_replay.specs.declared.status.Status.{Status}
-use Rattle.trace_replay.specs.declared.status.Status.TheVariants.{Done, BadTrace, Unbuilt, Usage, OutOfMemory, ReadFault, WriteFault, TooLong}
+use Rattle.trace_replay.specs.declared.status.Status.TheVariants.{Done, BadTrace, BadLayout, Unbuilt, Usage, OutOfMemory, ReadFault, WriteFault, TooLong}
+use Rattle.trace_replay.specs.BuiltReadings.{HasLayout}
 use Rattle.trace_replay.specs.Headline.{report_of, Writes, most_bytes}
 use Rattle.trace_replay.specs.WorkedReplays.{IsReplayedAs, free_space, free_space_report, OneFreeSpace, two_areas, two_areas_report, TwoAreasWithGuards, two_callers, two_callers_report, PlacesAsPicked, two_purges, two_purges_report, APickStays}
 
@@ -17,36 +19,38 @@ abbrev reading_of : Outcome → Reading
 reading_of (Whole r) = r
 reading_of (Bad number rest) = unread
 
-replayed_as : (bytes text : List ℕ) → reads built_for_purge bytes ≡ Whole (reading_of (reads built_for_purge bytes)) → report_of (reading_of (reads built_for_purge bytes)) ≡ text → IsReplayedAs bytes text
-replayed_as bytes text whole same =
-    let r : Reading = reading_of (reads built_for_purge bytes) in
-    let trace : IsTraceOf built_for_purge bytes r = reads-whole built_for_purge bytes r whole in
+replayed_as : (bytes text : List ℕ) → reads is_built bytes ≡ Whole (reading_of (reads is_built bytes)) → HasLayout (reading_of (reads is_built bytes)) → report_of (reading_of (reads is_built bytes)) ≡ text → IsReplayedAs bytes text
+replayed_as bytes text whole stands same =
+    let r : Reading = reading_of (reads is_built bytes) in
+    let trace : IsTraceOf is_built bytes r = reads-whole is_built bytes r whole in
     record {
       trace = (r, trace);
-      report = λ other is. ap report_of (one_trace built_for_purge bytes other r is trace) ∙ same;
+      stands = λ other is. subst HasLayout (one_trace is_built bytes r other trace is) stands;
+      report = λ other is. ap report_of (one_trace is_built bytes other r is trace) ∙ same;
     }
 
 pub one_free_space : OneFreeSpace
 unfolding digits ones history_of finish
-one_free_space = replayed_as free_space free_space_report refl refl
+one_free_space = replayed_as free_space free_space_report refl refl refl
 
 pub two_areas_with_guards : TwoAreasWithGuards
 unfolding digits ones history_of finish
-two_areas_with_guards = replayed_as two_areas two_areas_report refl refl
+two_areas_with_guards = replayed_as two_areas two_areas_report refl refl refl
 
 pub places_as_picked : PlacesAsPicked
 unfolding digits ones history_of finish
-places_as_picked = replayed_as two_callers two_callers_report refl refl
+places_as_picked = replayed_as two_callers two_callers_report refl refl refl
 
 pub a_pick_stays : APickStays
 unfolding digits ones history_of finish
-a_pick_stays = replayed_as two_purges two_purges_report refl refl
+a_pick_stays = replayed_as two_purges two_purges_report refl refl refl
 
 -- what may be written for a trace is its report
 pub only_report : (bytes text : List ℕ) (room : ℕ) → IsReplayedAs bytes text → length bytes ≤ most_bytes → length text ≤ room → (status : Status) (written : List ℕ) → Writes bytes status written → length written ≤ room
-only_report bytes text room is short low Done written w = let (r, trace, legal, same) = w.1 in omega (arith, ap length (same ∙ is.report r trace))
-only_report bytes text room is short low (BadTrace line) written w = let (rest, stops, other) = w.1 in absurd (trace_or_bad built_for_purge bytes is.trace.0 line is.trace.1 (rest, stops))
-only_report bytes text room is short low (Unbuilt line) written w = let (rest, stops, other) = w.1 in absurd (trace_or_bad built_for_purge bytes is.trace.0 line is.trace.1 (rest, stops))
+only_report bytes text room is short low Done written w = let (r, trace, stands, legal, same) = w.1 in omega (arith, ap length (same ∙ is.report r trace))
+only_report bytes text room is short low (BadTrace line) written w = let (rest, stops, other) = w.1 in absurd (trace_or_bad is_built bytes is.trace.0 line is.trace.1 (rest, stops))
+only_report bytes text room is short low (BadLayout error) written w = absurd (stands_or_refused is_built bytes error is.stands w.1)
+only_report bytes text room is short low (Unbuilt line) written w = let (rest, stops, other) = w.1 in absurd (trace_or_bad is_built bytes is.trace.0 line is.trace.1 (rest, stops))
 only_report bytes text room is short low TooLong written w = absurd (omega arith)
 only_report bytes text room is short low Usage written w = absurd w
 only_report bytes text room is short low OutOfMemory written w = absurd w

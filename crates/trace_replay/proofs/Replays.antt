@@ -1,10 +1,10 @@
 -- What a kernel tells that ran the opening, the picks and the rest of a trace is its history.
 use Rattle.std.proofs.Common.{All, ◌≡◌, ℕ, zero, suc, ◌+◌, ◌<◌, List, [], ◌∷◌, length, Option, Some, None, refl, sym, ap, ◌∙◌, subst, arith, length-append, length-set, slice_get}
 use Rattle.vm_model.specs.declared.calls.Call.{Call}
-use Rattle.vm_model.specs.declared.config.Config.{Config}
+use Rattle.unit_layout.specs.declared.config.Config.{Config}
 use Rattle.vm_model.specs.declared.tables.Tables.{Tables}
 use Rattle.vm_model.specs.Setup.{Setup}
-use Rattle.vm_model.specs.Config.{setup_of}
+use Rattle.unit_layout.specs.Config.{setup_of}
 use Rattle.vm_model.specs.Events.{Section}
 use Rattle.vm_model.specs.Calls.{Answered}
 use Rattle.vm_model.specs.Next.{next}

@@ -3,13 +3,15 @@ use Rattle.std.proofs.Common.{◌≡◌, ◌≢◌, ◌≤◌, ◌<◌, ◌⊎�
 use Rattle.trace_text.specs.declared.faults.Fault.TheVariants as fault
 use Rattle.trace_text.specs.Reading.{Reading}
 use Rattle.trace_text.specs.Grammar.{IsTraceOf}
-use Rattle.trace_text.specs.Built.{built_for_purge}
+use Rattle.trace_text.specs.Built.{is_built}
 use Rattle.trace_text.specs.Report.{fault_line}
-use Rattle.trace_text.proofs.Exclusive.{trace_or_bad}
+use Rattle.trace_text.proofs.Exclusive.{one_trace, trace_or_bad}
+use Rattle.trace_text.proofs.ReadLayouts.{stands_or_refused}
 use Rattle.trace_replay.specs.Streams.{Rose}
 use Rattle.trace_replay.specs.declared.answer.Outcome.{Outcome}
 use Rattle.trace_replay.specs.declared.status.Status.{Status}
-use Rattle.trace_replay.specs.declared.status.Status.TheVariants.{Done, BadTrace, Unbuilt, Usage, OutOfMemory, ReadFault, WriteFault, TooLong}
+use Rattle.trace_replay.specs.declared.status.Status.TheVariants.{Done, BadTrace, BadLayout, Unbuilt, Usage, OutOfMemory, ReadFault, WriteFault, TooLong}
+use Rattle.trace_replay.specs.BuiltReadings.{HasLayout}
 use Rattle.trace_replay.specs.Headline.{Writes, IsWritten, IsRead, Answers, HasRoomFor, IsTold, IsSilent, most_bytes}
 
 -- a source that gave too many bytes
@@ -39,6 +41,7 @@ room_for (Some bytes) (Some room) status text h w x e =
 written_whole : (bytes before : List ℕ) (status : Status) (text : List ℕ) (after : Option (List ℕ)) → Writes bytes status text → after ≡ Some (before ++ text) → IsWritten bytes status before after
 written_whole bytes before Done text after w is = (text, w, is)
 written_whole bytes before (BadTrace line) text after w is = (text, w, is)
+written_whole bytes before (BadLayout error) text after w is = (text, w, is)
 written_whole bytes before (Unbuilt line) text after w is = (text, w, is)
 written_whole bytes before TooLong text after w is = (text, w, is)
 written_whole bytes before Usage text after w is = absurd w
@@ -56,6 +59,7 @@ written bytes before status text answer first after b n w (inr failed) is =
 answers_whole : (bytes : List ℕ) (status : Status) (text : List ℕ) → Writes bytes status text → Answers bytes status
 answers_whole bytes Done text w = (text, w)
 answers_whole bytes (BadTrace line) text w = (text, w)
+answers_whole bytes (BadLayout error) text w = (text, w)
 answers_whole bytes (Unbuilt line) text w = (text, w)
 answers_whole bytes TooLong text w = (text, w)
 answers_whole bytes Usage text w = absurd w
@@ -92,6 +96,7 @@ not_silent status text answer first after b n read memory told silent = loud ans
     loud OutOfMemory silent read memory = memory refl
     loud Done silent read memory = silent
     loud (BadTrace line) silent read memory = silent
+    loud (BadLayout error) silent read memory = silent
     loud (Unbuilt line) silent read memory = silent
     loud TooLong silent read memory = silent
     loud Usage silent read memory = silent
@@ -102,13 +107,14 @@ not_silent status text answer first after b n read memory told silent = loud ans
     no_memory status text answer first after b n s (inr failed) = λ e. let no = failed.0 in cc
 
 -- a short trace and no fault leave two statuses
-pub complete : (bytes : List ℕ) (r : Reading) (status : Status) → Answers bytes status → length bytes ≤ most_bytes → IsTraceOf built_for_purge bytes r → status ≢ ReadFault → status ≢ WriteFault
+pub complete : (bytes : List ℕ) (r : Reading) (status : Status) → Answers bytes status → length bytes ≤ most_bytes → IsTraceOf is_built bytes r → HasLayout r → status ≢ ReadFault → status ≢ WriteFault
     → (status ≡ Done) ⊎ (status ≡ OutOfMemory)
-complete bytes r Done says short trace read write = inl refl
-complete bytes r OutOfMemory says short trace read write = inr refl
-complete bytes r (BadTrace line) says short trace read write = let (text, writes) = says in let (rest, stops, other) = writes.1 in absurd (trace_or_bad built_for_purge bytes r line trace (rest, stops))
-complete bytes r (Unbuilt line) says short trace read write = let (text, writes) = says in let (rest, stops, other) = writes.1 in absurd (trace_or_bad built_for_purge bytes r line trace (rest, stops))
-complete bytes r TooLong says short trace read write = let (text, writes) = says in let long = writes.0 in absurd (omega arith)
-complete bytes r Usage says short trace read write = absurd says
-complete bytes r ReadFault says short trace read write = absurd (read refl)
-complete bytes r WriteFault says short trace read write = absurd (write refl)
+complete bytes r Done says short trace stands read write = inl refl
+complete bytes r OutOfMemory says short trace stands read write = inr refl
+complete bytes r (BadTrace line) says short trace stands read write = let (text, writes) = says in let (rest, stops, other) = writes.1 in absurd (trace_or_bad is_built bytes r line trace (rest, stops))
+complete bytes r (BadLayout error) says short trace stands read write = let (text, writes) = says in absurd (stands_or_refused is_built bytes error (λ other is. subst HasLayout (one_trace is_built bytes r other trace is) stands) writes.1)
+complete bytes r (Unbuilt line) says short trace stands read write = let (text, writes) = says in let (rest, stops, other) = writes.1 in absurd (trace_or_bad is_built bytes r line trace (rest, stops))
+complete bytes r TooLong says short trace stands read write = let (text, writes) = says in let long = writes.0 in absurd (omega arith)
+complete bytes r Usage says short trace stands read write = absurd says
+complete bytes r ReadFault says short trace stands read write = absurd (read refl)
+complete bytes r WriteFault says short trace stands read write = absurd (write refl)

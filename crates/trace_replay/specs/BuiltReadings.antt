@@ -1,10 +1,12 @@
--- What a trace of the built words tells: frames and a lazy limit, callers whose calls are vmalloc and vfree, and the order in which they move.
-use Rattle.std.specs.Prelude.{◌≡◌, ◌≤◌, ℕ, zero, suc, List, [], All, length}
+-- What a trace of the built words tells: the numbers of a machine, and callers whose calls are vmalloc, vfree, map_ram, unmap_ram and unmap_aliases.
+use Rattle.std.specs.Prelude.{◌≡◌, ◌≤◌, ℕ, zero, suc, List, [], All, length, None}
 use Rattle.vm_model.specs.declared.calls.Call.{Call}
-use Rattle.vm_model.specs.Setup.{Setup}
-use Rattle.vm_model.specs.Rules.{AreRuled}
-use Rattle.trace_text.specs.Held.{header_of}
-use Rattle.trace_text.specs.Reading.{Reading, Made, calls_of}
+use Rattle.vm_model.specs.Setup.{Setup, cpus}
+use Rattle.vm_model.specs.Rules.{IsSetup, AreRuled}
+use Rattle.unit_layout.specs.Config.{setup_of}
+use Rattle.unit_layout.specs.Refusals.{refusal}
+use Rattle.trace_text.specs.Reading.{Reading, Made, calls_of, cpus_of}
+use Rattle.trace_text.specs.Told.{config_of, layout_spec}
 use Rattle.section_core.specs.Locals.{AreBuilt}
 
 -- the opening's calls, as the calls of this section may name them
@@ -17,16 +19,21 @@ pub record IsPick (callers pick : ℕ) : Type 0 where
   pub low : 1 ≤ pick
   pub high : pick ≤ callers
 
+-- the layout that the header asks for is not refused
+abbrev pub HasLayout : Reading → Type 0
+HasLayout r = refusal (layout_spec r.header) ≡ None
+
+-- each call of each section may stand on a machine with the processors of the header
+abbrev pub AreAllRuled : Reading → Type 0
+AreAllRuled r = (c : Setup) → cpus c ≡ cpus_of r.header → (caller : ℕ) → AreRuled c (opening_before caller r.calls) [] (calls_of caller r.calls)
+
 pub record IsBuilt (r : Reading) : Type 0 where
-  pub header : r.header ≡ header_of r.header.space r.header.frames r.header.lazy r.header.callers
-  pub space_low : 1 ≤ r.header.space
-  pub space_high : r.header.space ≤ 1048576
-  pub frames_high : r.header.frames ≤ 8192
-  pub lazy_high : r.header.lazy ≤ 1048576
+  pub setup : IsSetup (setup_of (config_of r.header))
   pub callers_low : 1 ≤ r.header.callers
   pub callers_high : r.header.callers ≤ 16
+  pub counters : r.header.counters ≡ 0
   pub calls : (caller : ℕ) → AreBuilt (calls_of caller r.calls)
-  pub ruled : (c : Setup) (caller : ℕ) → AreRuled c (opening_before caller r.calls) [] (calls_of caller r.calls)
+  pub ruled : AreAllRuled r
   pub few : length r.calls ≤ 100000
   pub picks : All (IsPick r.header.callers) r.picks
   pub counts : r.counts ≡ []

@@ -3,20 +3,21 @@ use Rattle.std.specs.Prelude.{◌≡◌, ◌⊎◌, ◌<◌, ◌≤◌, ◌++◌
 use Rattle.std.specs.List.{range_with_len}
 use Rattle.vm_model.specs.declared.calls.Call.{Call}
 use Rattle.vm_model.specs.Setup.{Setup}
-use Rattle.vm_model.specs.Config.{setup_of}
+use Rattle.unit_layout.specs.Config.{setup_of}
 use Rattle.vm_model.specs.History.{World, history_of}
 use Rattle.vm_model.specs.Tables.{tables_of}
 use Rattle.vm_model.specs.Laws.{IsOneLegalHistory}
 use Rattle.trace_text.specs.declared.faults.Fault.TheVariants as fault
 use Rattle.trace_text.specs.Reading.{Reading, calls_of, cpus_of}
-use Rattle.trace_text.specs.Told.{config_of}
+use Rattle.trace_text.specs.Told.{config_of, IsRefusedLayout}
 use Rattle.trace_text.specs.CounterTotals.{counter_rows}
 use Rattle.trace_text.specs.Grammar.{IsTraceOf}
-use Rattle.trace_text.specs.Built.{built_for_purge, waiting_for_purge, IsBadLine, IsUnbuiltLine}
+use Rattle.trace_text.specs.Built.{is_built, is_waiting, IsBadLine, IsUnbuiltLine}
 use Rattle.trace_text.specs.Report.{report, fault_line}
 use Rattle.trace_replay.specs.Streams.{Rose}
+use Rattle.trace_replay.specs.BuiltReadings.{HasLayout}
 use Rattle.trace_replay.specs.declared.status.Status.{Status}
-use Rattle.trace_replay.specs.declared.status.Status.TheVariants.{Done, BadTrace, Unbuilt, Usage, OutOfMemory, ReadFault, WriteFault, TooLong}
+use Rattle.trace_replay.specs.declared.status.Status.TheVariants.{Done, BadTrace, BadLayout, Unbuilt, Usage, OutOfMemory, ReadFault, WriteFault, TooLong}
 
 -- the machine of a trace, its opening's calls and its callers' calls
 abbrev pub setup : Reading → Setup
@@ -49,9 +50,10 @@ most_bytes = 16777216
 
 -- what a status says of the bytes, and the text that is written with it
 abbrev pub Writes : List ℕ → Status → List ℕ → Type 0
-Writes bytes Done text = (length bytes ≤ most_bytes) × ((r : Reading) × IsTraceOf built_for_purge bytes r × HasLegalHistory r × (text ≡ report_of r))
-Writes bytes (BadTrace line) text = (length bytes ≤ most_bytes) × IsBadLine built_for_purge waiting_for_purge bytes line × (text ≡ fault_line (fault.Line line))
-Writes bytes (Unbuilt line) text = (length bytes ≤ most_bytes) × IsUnbuiltLine built_for_purge waiting_for_purge bytes line × (text ≡ fault_line (fault.Unbuilt line))
+Writes bytes Done text = (length bytes ≤ most_bytes) × ((r : Reading) × IsTraceOf is_built bytes r × HasLayout r × HasLegalHistory r × (text ≡ report_of r))
+Writes bytes (BadTrace line) text = (length bytes ≤ most_bytes) × IsBadLine is_built is_waiting bytes line × (text ≡ fault_line (fault.Line line))
+Writes bytes (BadLayout error) text = (length bytes ≤ most_bytes) × IsRefusedLayout is_built bytes error × (text ≡ fault_line (fault.Layout error))
+Writes bytes (Unbuilt line) text = (length bytes ≤ most_bytes) × IsUnbuiltLine is_built is_waiting bytes line × (text ≡ fault_line (fault.Unbuilt line))
 Writes bytes TooLong text = (most_bytes < length bytes) × (text ≡ fault_line fault.Length)
 Writes bytes _ text = ⊥
 
@@ -66,6 +68,7 @@ IsWritten bytes status before after = (text : List ℕ) × Writes bytes status t
 abbrev pub IsRead : Status → Option (List ℕ) → Type 0
 IsRead Done left = left ≡ Some []
 IsRead (BadTrace line) left = left ≡ Some []
+IsRead (BadLayout error) left = left ≡ Some []
 IsRead (Unbuilt line) left = left ≡ Some []
 IsRead _ left = Unit {0}
 

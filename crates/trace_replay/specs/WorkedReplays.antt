@@ -2,13 +2,15 @@
 use Rattle.std.specs.Prelude.{◌≡◌, ℕ, List, codes}
 use Rattle.trace_text.specs.Reading.{Reading}
 use Rattle.trace_text.specs.Grammar.{IsTraceOf}
-use Rattle.trace_text.specs.Built.{built_for_purge}
+use Rattle.trace_text.specs.Built.{is_built}
+use Rattle.trace_text.specs.Told.{LayoutStands}
 use Rattle.trace_replay.specs.Headline.{report_of}
 
--- the bytes are a trace, and this is the report of each trace that they are
+-- the bytes are a trace whose layout stands, and this is the report of each trace that they are
 pub record IsReplayedAs (bytes text : List ℕ) : Type 0 where
-  pub trace : (r : Reading) × IsTraceOf built_for_purge bytes r
-  pub report : (r : Reading) → IsTraceOf built_for_purge bytes r → report_of r ≡ text
+  pub trace : (r : Reading) × IsTraceOf is_built bytes r
+  pub stands : LayoutStands is_built bytes
+  pub report : (r : Reading) → IsTraceOf is_built bytes r → report_of r ≡ text
 
 abbrev pub free_space : List ℕ
 free_space = codes "vmtrace 1\nspace 16\nend\n"

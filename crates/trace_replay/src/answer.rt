@@ -31,7 +31,7 @@ fn tables_of_trace(alloc: Global, trace: Trace) -> Result<Tables, AllocError>
         picks,
         ..
     } = trace;
-    let mut kernel = Kernel::start(alloc, &config, calls)?;
+    let mut kernel = Kernel::start(alloc, config, calls)?;
     kernel.run(picks.as_slice())?;
     kernel.finish()?;
     kernel.tables(alloc)
@@ -71,6 +71,9 @@ pub fn answer(alloc: Global, bytes: &[u8]) -> Result<Outcome, AllocError>
         }
         Err(TraceError::Unbuilt { line }) => {
             fault(alloc, Status::Unbuilt { line }, &Fault::Unbuilt { line })
+        }
+        Err(TraceError::Layout(error)) => {
+            fault(alloc, Status::BadLayout(error), &Fault::Layout(error))
         }
         Err(TraceError::OutOfMemory) => Err(AllocError),
     }

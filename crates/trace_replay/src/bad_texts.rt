@@ -222,27 +222,52 @@ const BAD_SECTIONS: [(&[u8], u32); 43] = [
     ),
 ];
 
+/// Each rule of the words of blocks and of groups of processors is broken once.
+const BAD_BLOCKS: [(&[u8], u32); 18] = [
+    (b"block 8 4\n", 1),
+    (b"vmtrace 1\nblock 8 4\nspace 16\nend\n", 2),
+    (b"vmtrace 1\nspace 16\nblock 8 5\nend\n", 3),
+    (b"vmtrace 1\nspace 16\nblock 8 8\nend\n", 3),
+    (b"vmtrace 1\nspace 16\nblock 4 2\nend\n", 3),
+    (b"vmtrace 1\nspace 16\nblock 2048 4\nend\n", 3),
+    (b"vmtrace 1\nspace 16\nblock 8 4\nlazy 1\nend\n", 4),
+    (b"vmtrace 1\nspace 16\nunit 7 1\nend\n", 3),
+    (b"vmtrace 1\nspace 16\nunit 8 3\nend\n", 3),
+    (b"vmtrace 1\nspace 16\norder 1\nunit 8 1\nend\n", 4),
+    (b"vmtrace 1\nspace 16\ngroup 1 1\nend\n", 3),
+    (b"vmtrace 1\nspace 16\ngroup 65 0\nend\n", 3),
+    (b"vmtrace 1\nspace 16\nmap_ram a 1 1\nend\n", 3),
+    (b"vmtrace 1\nspace 16\ngroup 2 0\nmap_ram a 2 1\nend\n", 4),
+    (b"vmtrace 1\nspace 16\nvmalloc x 1 1\nunmap_ram x\nend\n", 4),
+    (b"vmtrace 1\nspace 16\nmap_ram x 0 1\nvfree x\nend\n", 4),
+    (
+        b"vmtrace 1\nspace 16\nmap_ram x 0 1\ncaller 1\nunmap_ram x\nend\n",
+        5,
+    ),
+    (b"vmtrace 1\nspace 16\nunmap_aliases x\nend\n", 3),
+];
+
 /// The first bad line begins with a word that is not built.
 const UNBUILT: [(&[u8], u32); 7] = [
     (
-        b"vmtrace 1\nspace 16\nvmalloc x 1 1\nblock 8 4\nvmalloc y 1 1\nend\n",
+        b"vmtrace 1\nspace 16\nvmalloc x 1 1\nalloc_percpu z 4 4\nvmalloc y 1 1\nend\n",
         4,
     ),
     (
-        b"vmtrace 1\nspace 16\nvmalloc x 1 1\nmap_ram z 0 1\nvmalloc y 1 1\nend\n",
+        b"vmtrace 1\nspace 16\nvmalloc x 1 1\nbalance\nvmalloc y 1 1\nend\n",
         4,
     ),
     (
-        b"vmtrace 1\nspace 16\nvmalloc x 1 1\nunmap_ram x\nvmalloc y 1 1\nend\n",
+        b"vmtrace 1\nspace 16\nvmalloc x 1 1\nfree_percpu x\nvmalloc y 1 1\nend\n",
         4,
     ),
     (b"vmtrace 1\nspace 16\nsum", 3),
     (b"vmtrace 1\nspace 16\ncallers 2\ncounters 1 32\nend\n", 4),
     (
-        b"vmtrace 1\nspace 16\ncaller 1\nvmalloc x 1 1\nunmap_ram x\nend\n",
+        b"vmtrace 1\nspace 16\ncaller 1\nmap_ram x 0 1\nadd x 0 0 1\nend\n",
         5,
     ),
-    (b"vmtrace 1\nspace 16\norder 1\nunit 8 1\nend\n", 4),
+    (b"vmtrace 1\nspace 16\norder 1\ncount 0 0 1\nend\n", 4),
 ];
 
 /// The status of a replay, and what it writes.
@@ -269,6 +294,15 @@ fn bad_texts(rt: HostRuntime) {
 #[test]
 fn bad_sections(rt: HostRuntime) {
     for (text, line) in BAD_SECTIONS {
+        let (status, written) = replayed(rt.alloc(), text);
+        assert_eq!(rt; status, Status::BadTrace { line });
+        assert!(rt; written.as_slice().starts_with(b"fault line "));
+    }
+}
+
+#[test]
+fn bad_blocks(rt: HostRuntime) {
+    for (text, line) in BAD_BLOCKS {
         let (status, written) = replayed(rt.alloc(), text);
         assert_eq!(rt; status, Status::BadTrace { line });
         assert!(rt; written.as_slice().starts_with(b"fault line "));

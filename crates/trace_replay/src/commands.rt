@@ -3,8 +3,9 @@ ghost use Rattle.std.specs.Prelude.{◌≡◌, ◌≢◌, ◌≤◌, ◌<◌, �
 ghost use Rattle.std.specs.Option.{ForSome};
 ghost use Rattle.trace_text.specs.Reading.{Reading};
 ghost use Rattle.trace_text.specs.Grammar.{IsTraceOf};
-ghost use Rattle.trace_text.specs.Built.{built_for_purge};
+ghost use Rattle.trace_text.specs.Built.{is_built};
 ghost use Rattle.trace_replay.specs.Streams.{Rose};
+ghost use Rattle.trace_replay.specs.BuiltReadings.{HasLayout};
 ghost use Rattle.trace_replay.specs.Headline.{Writes, IsWritten, IsRead, Answers, HasRoomFor, IsTold, ReplayWords, IsRefused, IsSilent, HasRoomForUsage, most_bytes};
 
 use crate::answer::{Outcome, answer, too_long, usage};
@@ -67,8 +68,8 @@ pub fn replay<S: Source, K: Sink>(alloc: Global, mode: Mode, source: &mut S, sin
     ensures silent { IsSilent result → K.taken sink.new ≡ K.taken sink.old }
     ensures usage { result ≢ Status.Usage }
 
-    // A trace of the built words that is short enough, and no fault.
-    ensures complete { (bytes : List ℕ) (reading : Reading) → S.left source.old ≡ Some bytes → length bytes ≤ most_bytes → IsTraceOf built_for_purge bytes reading
+    // A trace of the built words that is short enough, whose layout stands, and no fault.
+    ensures complete { (bytes : List ℕ) (reading : Reading) → S.left source.old ≡ Some bytes → length bytes ≤ most_bytes → IsTraceOf is_built bytes reading → HasLayout reading
         → ¬ Rose (S.faults source.old) (S.faults source.new) → ¬ Rose (K.faults sink.old) (K.faults sink.new) → (result ≡ Status.Done) ⊎ (result ≡ Status.OutOfMemory) }
 {
     match mode {
@@ -111,7 +112,7 @@ fn refuse<K: Sink>(alloc: Global, sink: &mut K) -> Status
 /// | Status | Written |
 /// |---|---|
 /// | `Done` | the report |
-/// | `BadTrace`, `Unbuilt`, `Usage`, `TooLong` | the line that tells the fault |
+/// | `BadTrace`, `BadLayout`, `Unbuilt`, `Usage`, `TooLong` | the line that tells the fault |
 /// | `WriteFault` | a prefix of the text that was being written |
 /// | `ReadFault`, `OutOfMemory` | nothing |
 pub fn run<S: Source, K: Sink>(
@@ -135,7 +136,7 @@ pub fn run<S: Source, K: Sink>(
 
     ensures usage { result ≡ Status.Usage → ¬ ReplayWords (map string_bytes words.now) }
     ensures silent { IsSilent result → K.taken sink.new ≡ K.taken sink.old }
-    ensures complete { ReplayWords (map string_bytes words.now) → (bytes : List ℕ) (reading : Reading) → S.left source.old ≡ Some bytes → length bytes ≤ most_bytes → IsTraceOf built_for_purge bytes reading
+    ensures complete { ReplayWords (map string_bytes words.now) → (bytes : List ℕ) (reading : Reading) → S.left source.old ≡ Some bytes → length bytes ≤ most_bytes → IsTraceOf is_built bytes reading → HasLayout reading
         → ¬ Rose (S.faults source.old) (S.faults source.new) → ¬ Rose (K.faults sink.old) (K.faults sink.new) → (result ≡ Status.Done) ⊎ (result ≡ Status.OutOfMemory) }
     ensures read_fault { result ≡ Status.ReadFault → Rose (S.faults source.old) (S.faults source.new) }
     ensures write_fault { result ≡ Status.WriteFault → Rose (K.faults sink.old) (K.faults sink.new) }

@@ -11,6 +11,10 @@ mod failing_calls;
 #[cfg(test)]
 mod freed_areas;
 mod gather;
+#[cfg(test)]
+mod groups_of_processors;
+#[cfg(test)]
+mod mapped_blocks;
 mod memory_sink;
 mod memory_source;
 mod send;

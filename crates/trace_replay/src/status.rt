@@ -2,6 +2,8 @@
 ghost use Rattle.std.specs.Prelude.{◌≡◌};
 ghost use Rattle.trace_replay.specs.Status.{code_of};
 
+use unit_layout::LayoutError;
+
 /// How a command ends. What is written beside each is said at `run`.
 #[derive(Clone, Copy, Debug, PartialEq, Eq)]
 pub enum Status {
@@ -11,6 +13,8 @@ pub enum Status {
     BadTrace { line: u32 },
     /// The same, where that line begins with a word of the grammar that is not built yet.
     Unbuilt { line: u32 },
+    /// The source was read to its end and is a trace, and this is why the layout that its header asks for is refused.
+    BadLayout(LayoutError),
     /// The words name no command.
     Usage,
     /// Memory was wanting. Nothing was written.
@@ -30,7 +34,7 @@ impl Status {
     {
         match self {
             Status::Done => 0,
-            Status::BadTrace { .. } => 1,
+            Status::BadTrace { .. } | Status::BadLayout(_) => 1,
             Status::Usage => 2,
             Status::OutOfMemory => 3,
             Status::ReadFault => 4,

@@ -6,6 +6,7 @@ use crate::{
 use std::alloc::Global;
 use std::io::{self, ErrorKind, Read, Write};
 use std::test::Fail;
+use unit_layout::LayoutError;
 
 const EMPTY: &str = "vmtrace 1\nspace 16\nend\n";
 
@@ -199,7 +200,7 @@ fn reports(rt: HostRuntime) {
             REFUSED,
         ),
         (
-            "vmtrace 1\nspace 16\nblock 8 4\nend\n",
+            "vmtrace 1\nspace 16\ncounters 1 32\nend\n",
             Status::Unbuilt { line: 3 },
             "fault unbuilt 3\n",
         ),
@@ -304,6 +305,7 @@ fn exit_statuses(rt: HostRuntime) {
     for (status, code) in [
         (Status::Done, 0),
         (Status::BadTrace { line: 1 }, 1),
+        (Status::BadLayout(LayoutError::NoCpu { group: 0 }), 1),
         (Status::Usage, 2),
         (Status::OutOfMemory, 3),
         (Status::ReadFault, 4),

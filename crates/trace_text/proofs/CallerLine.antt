@@ -7,7 +7,7 @@ use Rattle.trace_text.specs.declared.progress.Progress.{Progress}
 use Rattle.trace_text.specs.Words.{is_number}
 use Rattle.trace_text.specs.Lines.{Caller}
 use Rattle.trace_text.specs.Reading.{Reading, Header, Named, find_name}
-use Rattle.trace_text.specs.Held.{IsHeld, Steps, place_of, sections_below}
+use Rattle.trace_text.specs.Held.{IsHeld, Steps, header_of, place_of, sections_below}
 use Rattle.trace_text.proofs.NamedCalls.{ranks, follows_held, none_is}
 use Rattle.trace_text.proofs.NumberLines.{caller_lines, number_refused, number_stands}
 use Rattle.trace_text.proofs.SectionProofs.{held_sections}
@@ -31,10 +31,8 @@ caller_refused p q r text n held wide e none =
 -- p with the open section ended, and the section of a caller begun
 pub record Opens (p q : Progress) (n : ℕ) : Type 0 where
   pub rank : q.rank ≡ 10
-  pub space : q.space ≡ p.space
-  pub frames : q.frames ≡ p.frames
-  pub lazy : q.lazy ≡ p.lazy
-  pub callers : q.callers ≡ p.callers
+  pub header : header_of q ≡ header_of p
+  pub cpus : q.cpus ≡ p.cpus
   pub caller : q.caller ≡ n
   pub names : q.names.entries ≡ []
   pub opening_names : q.opening_names ≡ (if p.caller == 0 then p.names else p.opening_names)
@@ -52,7 +50,8 @@ kept_names p r held name (inr e) = let same = held.caller in rw (ne_eqb p.caller
 held_after_caller : (p q : Progress) (r : Reading) (n : ℕ) → IsHeld p r → Opens p q n → r.caller < n → n ≤ r.header.callers → IsHeld q (record r { rank = 10; caller = n })
 held_after_caller p q r n held opens above among = record {
   rank = opens.rank;
-  header = let header = held.header in let space = opens.space in let frames = opens.frames in let lazy = opens.lazy in let callers = opens.callers in cc;
+  header = held.header ∙ sym opens.header;
+  cpus = opens.cpus ∙ held.cpus;
   caller = opens.caller;
   among = among;
   opening = λ early. absurd (omega arith);

@@ -62,6 +62,7 @@ order_stands p q r text held small after before (picks, are, put) =
       record {
         rank = refl;
         header = held.header;
+        cpus = held.cpus;
         caller = held.caller;
         among = held.among;
         opening = λ early. absurd (omega arith);

@@ -5,17 +5,19 @@ use Rattle.std.specs.List.{list_all}
 use Rattle.std.specs.Str.{bytes_eq}
 use Rattle.trace_text.specs.declared.progress.Progress.{Progress}
 use Rattle.trace_text.specs.Words.{fields, within, is_number}
-use Rattle.trace_text.specs.Lines.{Line, Version, Space, Frames, Lazy, Callers, Caller, Vmalloc, Vfree, Order, End, spelled, word_of}
+use Rattle.trace_text.specs.Lines.{Line, Version, Space, Frames, Lazy, Blocks, Units, GroupOf, Callers, Caller, Vmalloc, Vfree, MapRam, UnmapRam, UnmapAliases, Order, End, spelled, word_of}
 use Rattle.trace_text.specs.Reading.{Reading}
 use Rattle.trace_text.specs.Grammar.{stands, may_stand, follows}
-use Rattle.trace_text.specs.Built.{built_for_purge, one_of, words_of_header}
+use Rattle.trace_text.specs.Built.{is_built, one_of, words_of_header}
 use Rattle.trace_text.specs.Held.{StepsIn}
 
 pub record BeginsNoHeader (text : List ℕ) : Type 0 where
   pub callers : bytes_eq (take 8 text) (codes "callers ") ≡ false
   pub frames : bytes_eq (take 7 text) (codes "frames ") ≡ false
+  pub block : bytes_eq (take 6 text) (codes "block ") ≡ false
   pub lazy : bytes_eq (take 5 text) (codes "lazy ") ≡ false
   pub space : bytes_eq (take 6 text) (codes "space ") ≡ false
+  pub unit : bytes_eq (take 5 text) (codes "unit ") ≡ false
   pub version : bytes_eq text (codes "vmtrace 1") ≡ false
 
 pub no_header_line : (r : Reading) (text : List ℕ) (l : Line) → stands (one_of words_of_header) r l ≡ true → text ≡ fields (spelled l) → BeginsNoHeader text → ⊥
@@ -23,14 +25,20 @@ no_header_line r text Version s e other = let begins = other.version in let own 
 no_header_line r text (Space pages) s e other = let begins = other.space in let own = ap (λ t. bytes_eq (take 6 t) (codes "space ")) e in cc
 no_header_line r text (Frames frames) s e other = let begins = other.frames in let own = ap (λ t. bytes_eq (take 7 t) (codes "frames ")) e in cc
 no_header_line r text (Lazy pages) s e other = let begins = other.lazy in let own = ap (λ t. bytes_eq (take 5 t) (codes "lazy ")) e in cc
+no_header_line r text (Blocks pages part_limit) s e other = let begins = other.block in let own = ap (λ t. bytes_eq (take 6 t) (codes "block ")) e in cc
+no_header_line r text (Units pages atom) s e other = let begins = other.unit in let own = ap (λ t. bytes_eq (take 5 t) (codes "unit ")) e in cc
 no_header_line r text (Callers callers) s e other = let begins = other.callers in let own = ap (λ t. bytes_eq (take 8 t) (codes "callers ")) e in cc
 no_header_line r text _ s e other = cc
 
 pub record BeginsNoCall (text : List ℕ) : Type 0 where
   pub vmalloc : bytes_eq (take 8 text) (codes "vmalloc ") ≡ false
   pub vfree : bytes_eq (take 6 text) (codes "vfree ") ≡ false
+  pub map_ram : bytes_eq (take 8 text) (codes "map_ram ") ≡ false
+  pub unmap_ram : bytes_eq (take 10 text) (codes "unmap_ram ") ≡ false
+  pub unmap_aliases : bytes_eq text (codes "unmap_aliases") ≡ false
   pub order : bytes_eq (take 6 text) (codes "order ") ≡ false
   pub caller : bytes_eq (take 7 text) (codes "caller ") ≡ false
+  pub group : bytes_eq (take 6 text) (codes "group ") ≡ false
   pub end : bytes_eq text (codes "end") ≡ false
 
 no_order : (r : Reading) → may_stand r (Order []) ≡ true → ⊥
@@ -39,30 +47,38 @@ no_order r s =
     let some = (and_parts (within 1 64 0) (list_all (within 1 r.header.callers) []) rules).0 in
     cc
 
-no_line : (r : Reading) (text : List ℕ) (l : Line) → stands built_for_purge r l ≡ true → text ≡ fields (spelled l) → BeginsNoCall text → ((m : Line) → stands (one_of words_of_header) r m ≡ true → text ≢ fields (spelled m)) → ⊥
+no_line : (r : Reading) (text : List ℕ) (l : Line) → stands is_built r l ≡ true → text ≡ fields (spelled l) → BeginsNoCall text → ((m : Line) → stands (one_of words_of_header) r m ≡ true → text ≢ fields (spelled m)) → ⊥
 no_line r text Version s e other none = none Version s e
 no_line r text (Space pages) s e other none = none (Space pages) s e
 no_line r text (Frames frames) s e other none = none (Frames frames) s e
 no_line r text (Lazy pages) s e other none = none (Lazy pages) s e
+no_line r text (Blocks pages part_limit) s e other none = none (Blocks pages part_limit) s e
+no_line r text (Units pages atom) s e other none = none (Units pages atom) s e
+no_line r text (GroupOf cpus offset) s e other none = let begins = other.group in let own = ap (λ t. bytes_eq (take 6 t) (codes "group ")) e in cc
 no_line r text (Callers callers) s e other none = none (Callers callers) s e
 no_line r text (Caller caller) s e other none = let begins = other.caller in let own = ap (λ t. bytes_eq (take 7 t) (codes "caller ")) e in cc
 no_line r text (Vmalloc name bytes align) s e other none = let begins = other.vmalloc in let own = ap (λ t. bytes_eq (take 8 t) (codes "vmalloc ")) e in cc
 no_line r text (Vfree target) s e other none = let begins = other.vfree in let own = ap (λ t. bytes_eq (take 6 t) (codes "vfree ")) e in cc
-no_line r text (Order []) s e other none = no_order r (and_parts (built_for_purge (word_of (Order []))) (may_stand r (Order [])) s).1
+no_line r text (MapRam name cpu pages) s e other none = let begins = other.map_ram in let own = ap (λ t. bytes_eq (take 8 t) (codes "map_ram ")) e in cc
+no_line r text (UnmapRam target) s e other none = let begins = other.unmap_ram in let own = ap (λ t. bytes_eq (take 10 t) (codes "unmap_ram ")) e in cc
+no_line r text UnmapAliases s e other none = let begins = other.unmap_aliases in let own = ap (λ t. bytes_eq t (codes "unmap_aliases")) e in cc
+no_line r text (Order []) s e other none = no_order r (and_parts (is_built (word_of (Order []))) (may_stand r (Order [])) s).1
 no_line r text (Order (n ∷ picks)) s e other none = let begins = other.order in let own = ap (λ t. bytes_eq (take 6 t) (codes "order ")) e in cc
 no_line r text End s e other none = let begins = other.end in let own = ap (λ t. bytes_eq t (codes "end")) e in cc
 no_line r text _ s e other none = cc
 
 -- the words of the header are built
-header_stands : (r : Reading) (l : Line) → stands (one_of words_of_header) r l ≡ true → stands built_for_purge r l ≡ true
+header_stands : (r : Reading) (l : Line) → stands (one_of words_of_header) r l ≡ true → stands is_built r l ≡ true
 header_stands r Version s = s
 header_stands r (Space pages) s = s
 header_stands r (Frames frames) s = s
 header_stands r (Lazy pages) s = s
+header_stands r (Blocks pages part_limit) s = s
+header_stands r (Units pages atom) s = s
 header_stands r (Callers callers) s = s
 header_stands r _ s = cc
 
 -- where a text begins no later line, a line with this text is one of the header
-pub steps_header : (r : Reading) (text : List ℕ) (b : Bool) (q : Progress) → BeginsNoCall text → StepsIn (one_of words_of_header) r text b q → StepsIn built_for_purge r text b q
+pub steps_header : (r : Reading) (text : List ℕ) (b : Bool) (q : Progress) → BeginsNoCall text → StepsIn (one_of words_of_header) r text b q → StepsIn is_built r text b q
 steps_header r text true q other (l, e, s, held) = (l, e, header_stands r l s, held)
 steps_header r text false q other none = λ l s e. no_line r text l s e other none

@@ -1,10 +1,11 @@
 //! The lines of calls, as they are read.
-ghost use Rattle.std.specs.Prelude.{◌≡◌, ◌++◌, IfOk, codes};
-ghost use Rattle.trace_text.specs.Reading.{Reading};
-ghost use Rattle.trace_text.specs.Grammar.{is_vmalloc};
-ghost use Rattle.trace_text.specs.Held.{IsHeld, Steps, target_call};
+ghost use Rattle.std.specs.Prelude.{◌≡◌, ◌<◌, ◌++◌, ◌&&◌, true, IfOk, OnOk, IfSome, IfNone, IsTrue, codes};
+ghost use Rattle.trace_text.specs.Reading.{Reading, with_call, with_name};
+ghost use Rattle.trace_text.specs.Grammar.{is_new, is_vmalloc, is_map_ram, most_lines};
+ghost use Rattle.trace_text.specs.Held.{IsHeld, Steps, NamesCall, NamesNone, has_place, target_call};
 
 use crate::fields::{named_pair, target};
+use crate::groups::cpu_count;
 use crate::names::named_call;
 use crate::progress::{CALLS, Progress, SPACE};
 use std::alloc::AllocError;
@@ -13,6 +14,50 @@ use vm_model::{Call, Target};
 /// How many call and count lines a trace may have.
 const MOST_LINES: usize = 100_000;
 
+/// Whether a call line may come next.
+fn has_place(progress: &Progress) -> bool
+    ensures place { (r : Reading) → IsHeld progress.now r → result ≡ has_place r }
+    ensures room { IsTrue result → progress.now.lines < most_lines }
+{
+    SPACE <= progress.rank && progress.rank <= CALLS && progress.lines < MOST_LINES
+}
+
+/// Whether a call line that makes this name may come next.
+fn has_place_for(progress: &Progress, name: &[u8]) -> bool
+    ensures place { (r : Reading) → IsHeld progress.now r → result ≡ (has_place r && is_new r name.now) }
+    ensures room { IsTrue result → progress.now.lines < most_lines }
+{
+    has_place(progress) && !progress.names.contains_key(name)
+}
+
+/// Puts a call behind those of the open section.
+fn add_call(progress: &mut Progress, call: Call) -> Result<(), AllocError>
+    requires { progress.old.lines < most_lines }
+    ensures { OnOk result ((r : Reading) → IsHeld progress.old r → IsHeld progress.new (record (with_call r call) { rank = 10 })) }
+{
+    progress.calls.push(call)?;
+    progress.lines += 1;
+    progress.rank = CALLS;
+    Ok(())
+}
+
+/// The same of a call with a new name.
+fn add_named_call<'a>(
+    progress: &mut Progress<'a>,
+    name: &'a [u8],
+    call: Call,
+) -> Result<(), AllocError>
+    requires { progress.old.lines < most_lines }
+    ensures { OnOk result ((r : Reading) → IsHeld progress.old r → is_new r name.now ≡ true → IsHeld progress.new (record (with_name r name.now call) { rank = 10 })) }
+{
+    let place = progress.calls.len();
+    progress.names.insert(name, place)?;
+    progress.calls.push(call)?;
+    progress.lines += 1;
+    progress.rank = CALLS;
+    Ok(())
+}
+
 /// Reads `vmalloc NAME BYTES ALIGN`, after its word.
 pub fn read_vmalloc<'a>(progress: &mut Progress<'a>, text: &'a [u8]) -> Result<bool, AllocError>
     ensures { IfOk result (λ stood. (r : Reading) → IsHeld progress.old r → Steps r (codes "vmalloc " ++ text.now) stood progress.new) }
@@ -20,22 +65,36 @@ pub fn read_vmalloc<'a>(progress: &mut Progress<'a>, text: &'a [u8]) -> Result<b
     let Some((name, bytes, align)) = named_pair(text) else {
         return Ok(false);
     };
-    if progress.rank < SPACE || CALLS < progress.rank || MOST_LINES <= progress.lines {
+    if !has_place_for(progress, name) {
         return Ok(false);
     }
-    if progress.names.contains_key(name) {
+    add_named_call(progress, name, Call::Vmalloc { bytes, align })?;
+    Ok(true)
+}
+
+/// Reads `map_ram NAME CPU PAGES`, after its word.
+pub fn read_map_ram<'a>(progress: &mut Progress<'a>, text: &'a [u8]) -> Result<bool, AllocError>
+    ensures { IfOk result (λ stood. (r : Reading) → IsHeld progress.old r → Steps r (codes "map_ram " ++ text.now) stood progress.new) }
+{
+    let Some((name, cpu, pages)) = named_pair(text) else {
+        return Ok(false);
+    };
+    if u64::from(cpu_count(progress)) <= cpu {
         return Ok(false);
     }
-    let place = progress.calls.len();
-    progress.names.insert(name, place)?;
-    progress.calls.push(Call::Vmalloc { bytes, align })?;
-    progress.lines += 1;
-    progress.rank = CALLS;
+    if !has_place_for(progress, name) {
+        return Ok(false);
+    }
+    let call = Call::MapRam {
+        cpu: cpu as u16,
+        pages,
+    };
+    add_named_call(progress, name, call)?;
     Ok(true)
 }
 
 /// The call that a target names, with its number in its section. In the opening no call has the name `0.NAME`.
-fn aimed_call(progress: &Progress, opening: bool, name: &[u8]) -> Option<(usize, Call)>
+fn target_call(progress: &Progress, opening: bool, name: &[u8]) -> Option<(usize, Call)>
     ensures { (r : Reading) → IsHeld progress.now r → result ≡ target_call r (record { opening = opening; name = name.now }) }
 {
     if !opening {
@@ -47,10 +106,32 @@ fn aimed_call(progress: &Progress, opening: bool, name: &[u8]) -> Option<(usize,
     named_call(&progress.opening_names, section.as_slice(), name)
 }
 
+/// The target that the text is, and the call that it names.
+fn aimed_at(progress: &Progress, text: &[u8]) -> Option<(Target, Call)>
+    requires held { (r : Reading) × IsHeld progress.now r }
+    requires room { progress.now.lines < most_lines }
+    ensures some { IfSome result (λ found. (r : Reading) → IsHeld progress.now r → NamesCall r text.now found.0 found.1) }
+    ensures none { IfNone result ((r : Reading) → IsHeld progress.now r → NamesNone r text.now) }
+{
+    let (opening, name) = target(text)?;
+    let (number, call) = target_call(progress, opening, name)?;
+    let target = Target {
+        opening,
+        call: number as u32,
+    };
+    Some((target, call))
+}
+
 fn is_vmalloc(call: Call) -> bool
     ensures { result ≡ is_vmalloc call }
 {
     matches!(call, Call::Vmalloc { .. })
+}
+
+fn is_map_ram(call: Call) -> bool
+    ensures { result ≡ is_map_ram call }
+{
+    matches!(call, Call::MapRam { .. })
 }
 
 /// Reads `vfree TARGET`, after its word.
@@ -58,24 +139,44 @@ pub fn read_vfree(progress: &mut Progress, text: &[u8]) -> Result<bool, AllocErr
     requires held { (r : Reading) × IsHeld progress.old r }
     ensures { IfOk result (λ stood. (r : Reading) → IsHeld progress.old r → Steps r (codes "vfree " ++ text.now) stood progress.new) }
 {
-    let Some((opening, name)) = target(text) else {
-        return Ok(false);
-    };
-    if progress.rank < SPACE || CALLS < progress.rank || MOST_LINES <= progress.lines {
+    if !has_place(progress) {
         return Ok(false);
     }
-    let Some((number, call)) = aimed_call(progress, opening, name) else {
+    let Some((target, call)) = aimed_at(progress, text) else {
         return Ok(false);
     };
     if !is_vmalloc(call) {
         return Ok(false);
     }
-    let target = Target {
-        opening,
-        call: number as u32,
+    add_call(progress, Call::Vfree { target })?;
+    Ok(true)
+}
+
+/// Reads `unmap_ram TARGET`, after its word.
+pub fn read_unmap_ram(progress: &mut Progress, text: &[u8]) -> Result<bool, AllocError>
+    requires held { (r : Reading) × IsHeld progress.old r }
+    ensures { IfOk result (λ stood. (r : Reading) → IsHeld progress.old r → Steps r (codes "unmap_ram " ++ text.now) stood progress.new) }
+{
+    if !has_place(progress) {
+        return Ok(false);
+    }
+    let Some((target, call)) = aimed_at(progress, text) else {
+        return Ok(false);
     };
-    progress.calls.push(Call::Vfree { target })?;
-    progress.lines += 1;
-    progress.rank = CALLS;
+    if !is_map_ram(call) {
+        return Ok(false);
+    }
+    add_call(progress, Call::UnmapRam { target })?;
+    Ok(true)
+}
+
+/// Reads `unmap_aliases`.
+pub fn read_unmap_aliases(progress: &mut Progress) -> Result<bool, AllocError>
+    ensures { IfOk result (λ stood. (r : Reading) → IsHeld progress.old r → Steps r (codes "unmap_aliases") stood progress.new) }
+{
+    if !has_place(progress) {
+        return Ok(false);
+    }
+    add_call(progress, Call::UnmapAliases)?;
     Ok(true)
 }

@@ -1,11 +1,14 @@
 //! The lines of a trace, as they are read.
 ghost use Rattle.std.specs.Prelude.{◌≡◌, ◌++◌, ◌==◌, [], if◌then◌else◌, IfOk, codes};
 ghost use Rattle.trace_text.specs.Reading.{Reading};
-ghost use Rattle.trace_text.specs.Built.{built_for_purge};
+ghost use Rattle.trace_text.specs.Built.{is_built};
 ghost use Rattle.trace_text.specs.Held.{IsHeld, Steps, StepsIn};
 
-use crate::call_lines::{read_vfree, read_vmalloc};
+use crate::call_lines::{
+    read_map_ram, read_unmap_aliases, read_unmap_ram, read_vfree, read_vmalloc,
+};
 use crate::fields::number;
+use crate::groups::read_group;
 use crate::header_lines::read_header_line;
 use crate::picks::read_picks;
 use crate::progress::{CALLS, END, ORDER, Progress, SPACE};
@@ -80,7 +83,7 @@ pub fn read_line<'a>(
     line: &'a [u8],
 ) -> Result<bool, AllocError>
     requires held { (r : Reading) × IsHeld progress.old r }
-    ensures { IfOk result (λ stood. (r : Reading) → IsHeld progress.old r → StepsIn built_for_purge r line.now stood progress.new) }
+    ensures { IfOk result (λ stood. (r : Reading) → IsHeld progress.old r → StepsIn is_built r line.now stood progress.new) }
 {
     if let Some(text) = line.strip_prefix(b"vmalloc ") {
         return read_vmalloc(progress, text);
@@ -88,11 +91,23 @@ pub fn read_line<'a>(
     if let Some(text) = line.strip_prefix(b"vfree ") {
         return read_vfree(progress, text);
     }
+    if let Some(text) = line.strip_prefix(b"map_ram ") {
+        return read_map_ram(progress, text);
+    }
+    if let Some(text) = line.strip_prefix(b"unmap_ram ") {
+        return read_unmap_ram(progress, text);
+    }
+    if line == b"unmap_aliases".as_slice() {
+        return read_unmap_aliases(progress);
+    }
     if let Some(text) = line.strip_prefix(b"order ") {
         return read_order(progress, text);
     }
     if let Some(field) = line.strip_prefix(b"caller ") {
         return read_caller(alloc, progress, field);
+    }
+    if let Some(text) = line.strip_prefix(b"group ") {
+        return read_group(progress, text);
     }
     if line == b"end".as_slice() {
         return Ok(read_end(progress));

@@ -1,18 +1,24 @@
 //! What a trace says.
-ghost use Rattle.std.specs.Prelude.{◌≡◌, ℕ, IfOk};
+ghost use Rattle.std.specs.Prelude.{◌≡◌, IfOk, OnOk};
+ghost use Rattle.unit_layout.specs.Ranges.{IsInRange};
+ghost use Rattle.unit_layout.specs.Refusals.{refusal};
+ghost use Rattle.unit_layout.specs.Rule.{layout_of};
 ghost use Rattle.trace_text.specs.Held.{IsHeld, header_of};
 ghost use Rattle.trace_text.specs.Reading.{Reading};
-ghost use Rattle.trace_text.specs.Told.{Tells, config_of};
+ghost use Rattle.trace_text.specs.Told.{Tells, asked_layout, config_of, layout_spec};
 
+use crate::groups::groups_of;
 use crate::progress::Progress;
 use crate::sections::close_section;
-use std::alloc::{AllocError, Global};
-use vm_model::{CallsList, Config, CountLineList, PickList};
+use std::alloc::Global;
+use std::mem;
+use unit_layout::{BuildError, Config, GroupSpec, Layout, LayoutError, LayoutSpec};
+use vm_model::{CallsList, CountLineList, PickList};
 
 /// The header, the calls and the order of a trace.
 #[derive(Drop)]
 pub struct Trace {
-    /// The numbers of the header that an allocator has.
+    /// The numbers of the header that an allocator has, with the layout of the processors' units.
     pub config: Config,
     /// The calls of the opening, and then those of each caller from 1 on.
     pub calls: CallsList,
@@ -28,27 +34,42 @@ pub struct Trace {
     pub batch: u32,
 }
 
-/// The configuration where the header says these numbers. The lines of blocks aren't built.
-fn config(space: u32, frames: u32, lazy: u32) -> Config
-    ensures { (callers : ℕ) → result ≡ config_of (header_of space frames lazy callers) }
+/// The layout of the groups that lines named.
+fn layout(alloc: Global, unit: u32, atom: u32, named: Vec<GroupSpec>) -> Result<Layout, BuildError>
+    requires { IsInRange (asked_layout unit atom named.items) }
+    ensures layout { IfOk result (λ layout. layout ≡ layout_of (asked_layout unit atom named.items)) }
+    ensures stands { OnOk result (refusal (asked_layout unit atom named.items) ≡ None) }
+    ensures refused { (error : LayoutError) → result ≡ Err (BuildError.Layout error) → refusal (asked_layout unit atom named.items) ≡ Some error }
+{
+    let groups = groups_of(named)?;
+    Layout::build(alloc, &LayoutSpec { unit, atom, groups })
+}
+
+/// The configuration that the header says, with this layout.
+fn config(progress: &Progress, layout: Layout) -> Config
+    ensures { result ≡ record (config_of (header_of progress.now)) { layout = layout } }
 {
     Config {
-        space,
-        frames,
-        lazy,
-        block_pages: 128,
-        part_limit: 64,
+        space: progress.space,
+        frames: progress.frames,
+        lazy: progress.lazy,
+        block_pages: progress.block_pages,
+        part_limit: progress.part_limit,
+        layout,
     }
 }
 
-/// The trace whose lines were read.
-pub fn trace_of(alloc: Global, progress: Progress) -> Result<Trace, AllocError>
-    ensures { IfOk result (λ trace. (r : Reading) → IsHeld progress.entry r → Tells trace r) }
+/// The trace whose lines were read, where its layout isn't refused.
+pub fn trace_of(alloc: Global, mut progress: Progress) -> Result<Trace, BuildError>
+    requires { IsInRange (layout_spec (header_of progress)) }
+    ensures trace { IfOk result (λ trace. (r : Reading) → IsHeld progress.entry r → Tells trace r) }
+    ensures stands { OnOk result (refusal (layout_spec (header_of progress.entry)) ≡ None) }
+    ensures layout { (error : LayoutError) → result ≡ Err (BuildError.Layout error) → refusal (layout_spec (header_of progress.entry)) ≡ Some error }
 {
+    let groups = mem::replace(&mut progress.groups, Vec::new(alloc));
+    let layout = layout(alloc, progress.unit_pages, progress.atom, groups)?;
+    let config = config(&progress, layout);
     let Progress {
-        space,
-        frames,
-        lazy,
         callers,
         caller,
         calls,
@@ -59,7 +80,7 @@ pub fn trace_of(alloc: Global, progress: Progress) -> Result<Trace, AllocError>
     let mut sections = closed;
     close_section(alloc, &mut sections, calls, caller, callers)?;
     Ok(Trace {
-        config: config(space, frames, lazy),
+        config,
         calls: CallsList::of(sections),
         counts: CountLineList::of(Vec::new(alloc)),
         picks: PickList::of(picks),

@@ -3,3 +3,4 @@ pub mod Ranges
 pub mod Refusals
 pub mod Rows
 pub mod Laws
+pub mod Config

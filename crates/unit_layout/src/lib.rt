@@ -1,6 +1,7 @@
 //! The layout of per-CPU units over groups of processors.
 #![tactic(auto)]
 
+pub mod config;
 mod division;
 pub mod errors;
 pub mod laws;
@@ -11,6 +12,7 @@ pub mod request;
 mod tests;
 pub mod worked;
 
+pub use config::Config;
 pub use errors::{BuildError, LayoutError};
 pub use layout::{Group, Layout};
 pub use request::{GroupList, GroupSpec, LayoutSpec};

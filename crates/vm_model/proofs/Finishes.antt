@@ -1,16 +1,15 @@
 -- A caller that stands alone: a legal run of its events is what a completion makes.
-use Rattle.std.proofs.Common.{◌≡◌, ℕ, zero, suc, ◌+◌, ◌-◌, ◌≤◌, Bool, true, false, cond, List, [], ◌∷◌, ◌++◌, length, Option, Some, None, is_some, slice_get, slice_set, refl, sym, ap, ◌∙◌, subst, arith}
+use Rattle.std.proofs.Common.{◌≡◌, ℕ, zero, suc, ◌+◌, cond, List, [], ◌∷◌, ◌++◌, length, Option, Some, None, is_some, slice_get, slice_set, refl, sym, ap, ◌∙◌, subst, arith}
 use Rattle.vm_model.specs.declared.calls.Call.{Call}
-use Rattle.vm_model.specs.Setup.{Setup}
 use Rattle.vm_model.specs.PlainMap.{PlainMap}
 use Rattle.vm_model.specs.Events.{Section, Event}
 use Rattle.vm_model.specs.Effects.{effect}
 use Rattle.vm_model.specs.Places.{ask, AskNothing}
 use Rattle.vm_model.specs.Next.{Next, Go, Answer, next}
 use Rattle.vm_model.specs.Calls.{Answered}
-use Rattle.vm_model.specs.Given.{given, can_move}
+use Rattle.vm_model.specs.Given.{can_move}
 use Rattle.vm_model.specs.History.{World, Local, section_of, event_of, made_if, made_by, step, moved_to, answered_of, first_mover, finish}
-use Rattle.vm_model.specs.LegalHistory.{IsRun, IsNext, IsNextOf, after_event, after_event_of, world_after}
+use Rattle.vm_model.specs.LegalHistory.{IsRun, IsNext, after_event, after_event_of, world_after}
 use Rattle.vm_model.proofs.OneNext.{one_next, gives}
 
 -- one caller over a map, after these events

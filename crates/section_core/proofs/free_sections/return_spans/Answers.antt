@@ -4,15 +4,15 @@ use Rattle.vm_model.specs.Space.{end_of}
 use Rattle.vm_model.specs.Next.{Go}
 use Rattle.vm_model.specs.Places as model
 use Rattle.vm_model.specs.Parts.{FreeRuns}
-use Rattle.section_core.specs.Places.{then_of, waited_at}
+use Rattle.section_core.specs.Places.{then_of, carried_at}
 use Rattle.section_core.specs.Sections.{IsMoved}
 use Rattle.section_core.proofs.FreeSections.{returns_spans}
 use Rattle.section_core.proofs.free_sections.return_spans.Goals as goal
 
 pub returns-clause-ok : goal.returns-clause-ok
 returns-clause-ok c =
-    let ends : All (λ (s : Span). end_of s ≤ length c.requires.runs.0) (waited_at c.args.local.now.place) = subst (λ n. All (λ (s : Span). end_of s ≤ n) (waited_at c.args.local.now.place)) (sym c.requires.runs.1) c.requires.returnable.within in
+    let ends : All (λ (s : Span). end_of s ≤ length c.requires.runs.0) (carried_at c.args.local.now.place).waited = subst (λ n. All (λ (s : Span). end_of s ≤ n) (carried_at c.args.local.now.place).waited) (sym c.requires.runs.1) c.requires.returnable.within in
     let within : All (λ (s : Span). end_of s ≤ length c.requires.runs.0) c.waited.result.now = subst (All (λ (s : Span). end_of s ≤ length c.requires.runs.0)) (sym c.waited.ensures.spans) ends in
     subst (λ blocks. IsMoved c.args.local.now (FreeRuns blocks) c.go.new.self (FreeRuns c.release_all.new.self.blocks)) (sym c.requires.runs.2)
-    (returns_spans c.args.local.now c.requires.runs.0 c.requires.runs.1 (waited_at c.args.local.now.place) (then_of c.args.after) (Go (model.PurgeGiving (then_of c.args.after))) c.go.new.self c.release_all.new.self.blocks c.requires.place refl c.go.ensures
+    (returns_spans c.args.local.now c.requires.runs.0 c.requires.runs.1 (carried_at c.args.local.now.place).waited (then_of c.args.after) (Go (model.PurgeGiving (then_of c.args.after))) c.go.new.self c.release_all.new.self.blocks c.requires.place refl c.go.ensures
     (rw (c.waited.ensures.spans) at (c.in_ok-release_all.ensures.ok c.requires.runs.0 within c.requires.runs.2)))

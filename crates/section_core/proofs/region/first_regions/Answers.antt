@@ -3,14 +3,14 @@ use Rattle.vm_model.specs.Parts as parts
 use Rattle.vm_model.specs.Parts.{Region, FreeRuns, LiveAreas, WaitingSpans}
 use Rattle.page_pool.specs.Pages as pool
 use Rattle.busy_areas.specs.LiveRows.{LiveRows}
-use Rattle.section_core.proofs.Starts.{free_at_first, same_nine}
+use Rattle.section_core.proofs.Starts.{free_at_first, same_regions}
 use Rattle.section_core.proofs.region.first_regions.Goals as goal
 
 pub returns : goal.returns
 returns c =
-    same_nine c.in_ok-regions.regions.items _ _ _ _ _ _ _ _ _ _ _ _ _ _ _ _ _ _ c.in_ok-regions.ensures.items c.of.ensures c.of-2.ensures c.of-3.ensures
+    same_regions c.in_ok-regions.regions.items c.push_blocks.new.regions.items _ _ _ _ _ _ _ _ _ _ _ _ _ _ _ _ _ c.in_ok-regions.ensures.items c.in_ok-push_blocks.ensures c.of.ensures c.of-2.ensures c.of-3.ensures
     (c.of-4.ensures ∙ ap (λ blocks. FreeRuns blocks) (c.in_ok-free.ensures.free ∙ sym (free_at_first c.args.config.now.space)))
     (c.of-5.ensures ∙ ap (λ (rows : LiveRows). LiveAreas rows.areas rows.next) c.new-2.ensures)
     (c.of-6.ensures ∙ ap (λ spans. WaitingSpans spans) c.new-3.ensures)
     (c.of-7.ensures ∙ ap (λ (p : pool.Pages). parts.Pages p.frames p.stale p.cells) c.in_ok-pages.ensures)
-    c.of-8.ensures c.of-9.ensures
+    c.of-8.ensures

@@ -9,11 +9,12 @@ use Rattle.trace_replay.proofs.Reported.{done}
 use Rattle.trace_replay.proofs.answer.answer.Goals as goal
 
 pub report-requires : goal.report-requires
-report-requires c = let (reading, trace, tells) = c.in-Ok.ensures.trace in (reading, built_trace c.args.bytes.now reading trace, tells)
+report-requires c = let (reading, trace, tells) = c.in-Ok.ensures.trace in (reading, built_trace c.args.bytes.now reading trace (c.in-Ok.ensures.stands reading trace), tells)
 
 pub returns-in-Ok : goal.returns-in-Ok
 returns-in-Ok c =
     let (reading, trace, tells) = c.in-Ok.ensures.trace in
-    let built = built_trace c.args.bytes.now reading trace in
+    let stands = c.in-Ok.ensures.stands reading trace in
+    let built = built_trace c.args.bytes.now reading trace stands in
     IfOk-weaker c.report.result (λ (o : Outcome). (r : Reading) → IsBuilt r → Tells c.in-Ok.trace r → Reports r o.status o.text) (λ (o : Outcome). Writes c.args.bytes.now o.status o.text)
-    (λ o is. done c.args.bytes.now o reading c.requires trace (is reading built tells)) c.report.ensures
+    (λ o is. done c.args.bytes.now o reading c.requires trace stands (is reading built tells)) c.report.ensures

@@ -18,8 +18,8 @@ returns-in-Ok g c =
       read_fault = λ e. absurd (no_read_fault c.in-Ok.outcome.status c.in-Ok.outcome.text c.tell.result first after before now says.0 c.tell.ensures.told e);
       write_fault = write_fault c.in-Ok.outcome.status c.in-Ok.outcome.text c.tell.result first after before now says.1 c.tell.ensures.told;
       silent = λ silent. absurd (not_silent c.in-Ok.outcome.status c.in-Ok.outcome.text c.tell.result first after before now says.0 says.2 c.tell.ensures.told silent);
-      complete = λ bytes reading told short trace unread unwritten.
-          complete bytes reading c.tell.result (answers bytes c.in-Ok.outcome.status c.in-Ok.outcome.text c.tell.result first after before now (c.in-Ok.ensures.writes bytes told) c.tell.ensures.told) short trace
+      complete = λ bytes reading told short trace stands unread unwritten.
+          complete bytes reading c.tell.result (answers bytes c.in-Ok.outcome.status c.in-Ok.outcome.text c.tell.result first after before now (c.in-Ok.ensures.writes bytes told) c.tell.ensures.told) short trace stands
           (no_read_fault c.in-Ok.outcome.status c.in-Ok.outcome.text c.tell.result first after before now says.0 c.tell.ensures.told)
           (λ e. unwritten (write_fault c.in-Ok.outcome.status c.in-Ok.outcome.text c.tell.result first after before now says.1 c.tell.ensures.told e));
       failed_read = λ _. c.outcome_of.ensures.no_fault (λ e. cc);

@@ -17,12 +17,20 @@ returns-in-Some-strip_prefix c = λ r held. steps_behind (one_of words_of_header
     (with_front 7 c.args.line.now (codes "frames ") c.in-Some-strip_prefix.field.now c.in-Some-strip_prefix.ensures.cases.0 c.in-Some-strip_prefix.ensures.cases.1) (c.read_frames.ensures r held)
 
 pub returns-in-Some-strip_prefix-2 : goal.returns-in-Some-strip_prefix-2
-returns-in-Some-strip_prefix-2 c = λ r held. steps_behind (one_of words_of_header) (codes "lazy") c.in-Some-strip_prefix-2.field.now r c.args.line.now c.read_lazy.result c.read_lazy.new.progress refl refl
-    (with_front 5 c.args.line.now (codes "lazy ") c.in-Some-strip_prefix-2.field.now c.in-Some-strip_prefix-2.ensures.cases.0 c.in-Some-strip_prefix-2.ensures.cases.1) (c.read_lazy.ensures r held)
+returns-in-Some-strip_prefix-2 c = λ r held. steps_behind (one_of words_of_header) (codes "block") c.in-Some-strip_prefix-2.text.now r c.args.line.now c.read_block.result c.read_block.new.progress refl refl
+    (with_front 6 c.args.line.now (codes "block ") c.in-Some-strip_prefix-2.text.now c.in-Some-strip_prefix-2.ensures.cases.0 c.in-Some-strip_prefix-2.ensures.cases.1) (c.read_block.ensures r held)
 
 pub returns-in-Some-strip_prefix-3 : goal.returns-in-Some-strip_prefix-3
-returns-in-Some-strip_prefix-3 c = λ r held. steps_behind (one_of words_of_header) (codes "space") c.in-Some-strip_prefix-3.field.now r c.args.line.now c.read_space.result c.read_space.new.progress refl refl
-    (with_front 6 c.args.line.now (codes "space ") c.in-Some-strip_prefix-3.field.now c.in-Some-strip_prefix-3.ensures.cases.0 c.in-Some-strip_prefix-3.ensures.cases.1) (c.read_space.ensures r held)
+returns-in-Some-strip_prefix-3 c = λ r held. steps_behind (one_of words_of_header) (codes "lazy") c.in-Some-strip_prefix-3.field.now r c.args.line.now c.read_lazy.result c.read_lazy.new.progress refl refl
+    (with_front 5 c.args.line.now (codes "lazy ") c.in-Some-strip_prefix-3.field.now c.in-Some-strip_prefix-3.ensures.cases.0 c.in-Some-strip_prefix-3.ensures.cases.1) (c.read_lazy.ensures r held)
+
+pub returns-in-Some-strip_prefix-4 : goal.returns-in-Some-strip_prefix-4
+returns-in-Some-strip_prefix-4 c = λ r held. steps_behind (one_of words_of_header) (codes "space") c.in-Some-strip_prefix-4.field.now r c.args.line.now c.read_space.result c.read_space.new.progress refl refl
+    (with_front 6 c.args.line.now (codes "space ") c.in-Some-strip_prefix-4.field.now c.in-Some-strip_prefix-4.ensures.cases.0 c.in-Some-strip_prefix-4.ensures.cases.1) (c.read_space.ensures r held)
+
+pub returns-in-Some-strip_prefix-5 : goal.returns-in-Some-strip_prefix-5
+returns-in-Some-strip_prefix-5 c = λ r held. steps_behind (one_of words_of_header) (codes "unit") c.in-Some-strip_prefix-5.text.now r c.args.line.now c.read_unit.result c.read_unit.new.progress refl refl
+    (with_front 5 c.args.line.now (codes "unit ") c.in-Some-strip_prefix-5.text.now c.in-Some-strip_prefix-5.ensures.cases.0 c.in-Some-strip_prefix-5.ensures.cases.1) (c.read_unit.ensures r held)
 
 pub returns-then-eq : goal.returns-then-eq
 returns-then-eq c = λ r held.
@@ -34,7 +42,9 @@ returns c = λ r held l s e. no_header_line r c.args.line.now l s e
     (record {
       callers = c.in_default.ensures.cases;
       frames = c.in_default-strip_prefix.ensures.cases;
-      lazy = c.in_default-strip_prefix-2.ensures.cases;
-      space = c.in_default-strip_prefix-3.ensures.cases;
+      block = c.in_default-strip_prefix-2.ensures.cases;
+      lazy = c.in_default-strip_prefix-3.ensures.cases;
+      space = c.in_default-strip_prefix-4.ensures.cases;
+      unit = c.in_default-strip_prefix-5.ensures.cases;
       version = search rules;
     })

@@ -1,5 +1,6 @@
 use Rattle.std.proofs.Common.{arith, refl, ap, ◌∙◌, replicate, ◌-◌, ◌∷◌, ◌++◌, []}
 use Rattle.trace_text.proofs.CallerLine.{caller_refused, caller_stands}
+use Rattle.trace_text.specs.Held.{header_of}
 use Rattle.trace_text.specs.declared.progress.Progress.{Progress}
 use Rattle.trace_text.proofs.lines.read_caller.Goals as goal
 
@@ -14,10 +15,8 @@ returns c = λ r held.
     caller_stands p (record q { rank = 10; caller = c.in-Some.caller }) r c.args.field.now c.in-Some.caller held c.in-Some.ensures.some.0 c.in-Some.ensures.some.1 (omega arith) (omega arith) (omega arith) (omega arith)
     (record {
       rank = refl;
-      space = ap (λ (q : Progress). q.space) same;
-      frames = ap (λ (q : Progress). q.frames) same;
-      lazy = ap (λ (q : Progress). q.lazy) same;
-      callers = ap (λ (q : Progress). q.callers) same;
+      header = ap header_of same;
+      cpus = ap (λ (q : Progress). q.cpus) same;
       caller = refl;
       names = c.close_names.ensures.none;
       opening_names = c.close_names.ensures.kept;

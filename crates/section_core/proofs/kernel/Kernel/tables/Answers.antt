@@ -1,11 +1,12 @@
-use Rattle.std.proofs.Common.{◌∙◌, length, ap, arith, count_by, is_some}
+use Rattle.std.proofs.Common.{◌∙◌, ◌-◌, List, length, take, drop, ap, arith, count_by, is_some}
 use Rattle.vm_model.specs.declared.areas.Span.{Span}
 use Rattle.vm_model.specs.Space.{longest_of, sort_by}
 use Rattle.vm_model.specs.Setup.{Setup}
-use Rattle.vm_model.specs.Config.{setup_of}
+use Rattle.unit_layout.specs.Config.{setup_of}
 use Rattle.page_pool.specs.Pages as pool
+use Rattle.vm_model.specs.Parts.{Region, regions_of}
 use Rattle.section_core.specs.Kernels.{KernelState}
-use Rattle.section_core.proofs.TablesTold.{tables_told, region_at, all_regions, free_is, pages_are, areas_are, waiting_is, free_count, length-movers}
+use Rattle.section_core.proofs.TablesTold.{tables_told, region_at, all_regions, free_is, pages_are, areas_are, waiting_is, free_count, length-movers, behind, blocks_behind}
 use Rattle.section_core.proofs.kernel.Kernel.tables.Goals as goal
 
 pub returns : goal.returns
@@ -30,5 +31,15 @@ returns c = λ config opening calls w st.
     (c.stale.ensures ∙ ap (λ (p : pool.Pages). count_by (λ b. b) p.stale) pages)
     (c.of-2.ensures ∙ c.in_ok-free_blocks.ensures ∙ free)
     (c.in_ok-areas.ensures ∙ areas)
-    (c.of-3.ensures ∙ c.in_ok-waiting_spans.ensures ∙ ap (sort_by (λ (s : Span). s.start)) waiting) (c.of-4.ensures ∙ c.new.ensures.items) (c.of-5.ensures ∙ c.new-2.ensures.items) (c.of-6.ensures ∙ c.new-3.ensures.items) (c.of-7.ensures ∙ c.new-4.ensures.items)
-    (c.len-2.ensures.count ∙ ap length free) largest largest (c.of-8.ensures ∙ c.new-5.ensures.items) (c.of-9.ensures ∙ c.new-6.ensures.items)
+    (c.of-3.ensures ∙ c.in_ok-waiting_spans.ensures ∙ ap (sort_by (λ (s : Span). s.start)) waiting) (c.of-4.ensures ∙ c.in_ok-block_rows.ensures machine opening calls w st.running (behind c.self.inside.regions.items (regions_of machine w.map) _ (held ∙ st.regions) (ap (λ (rs : List Region). take (length rs - 8) (drop 8 rs)) c.deref.ensures.value))) (c.of-5.ensures ∙ c.in_ok-part_rows.ensures machine opening calls w st.running (behind c.self.inside.regions.items (regions_of machine w.map) _ (held ∙ st.regions) (ap (λ (rs : List Region). take (length rs - 8) (drop 8 rs)) c.deref-2.ensures.value))) (c.of-6.ensures ∙ c.new.ensures.items) (c.of-7.ensures ∙ c.new-2.ensures.items)
+    (c.len-2.ensures.count ∙ ap length free) largest largest (c.of-8.ensures ∙ c.new-3.ensures.items) (c.of-9.ensures ∙ c.new-4.ensures.items)
+
+pub block_rows-requires : goal.block_rows-requires
+block_rows-requires c =
+    blocks_behind (record { regions = c.self.inside.regions.items; locals = c.self.inside.locals.items; moved = c.self.inside.moved.items }) (take (length c.deref.result.now - 8) (drop 8 c.deref.result.now)) c.self.invariant
+    (ap (λ (rs : List Region). take (length rs - 8) (drop 8 rs)) c.deref.ensures.value)
+
+pub part_rows-requires : goal.part_rows-requires
+part_rows-requires c =
+    blocks_behind (record { regions = c.self.inside.regions.items; locals = c.self.inside.locals.items; moved = c.self.inside.moved.items }) (take (length c.deref-2.result.now - 8) (drop 8 c.deref-2.result.now)) c.self.invariant
+    (ap (λ (rs : List Region). take (length rs - 8) (drop 8 rs)) c.deref-2.ensures.value)

@@ -1,0 +1,5 @@
+mod TopBlocks
+mod Lowering
+mod Bases
+mod LaidOut
+mod Carving

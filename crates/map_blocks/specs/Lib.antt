@@ -1,0 +1,4 @@
+pub mod KeptLives
+pub mod KeptBlocks
+pub mod KeptSides
+pub mod BlockRows

@@ -1,0 +1,366 @@
+//! One processor's blocks.
+ghost use Rattle.std.specs.Prelude.{All, ◌≡◌, ◌≤◌, ◌<◌, ◌+◌, ◌-◌, ◌^◌, ◌∷◌, ◌++◌, [], ℕ, true, false, not, ◌==◌, Some, None, length, map, filter, find, slice_get, IfOk, IfSome, IfNone, OnSome, OnOk, OnErr};
+ghost use Rattle.std.specs.Ordering.{nat_cmp};
+ghost use Rattle.std.specs.BTreeMap.{insert_entry};
+ghost use Rattle.vm_model.specs.Space.{holds, span};
+ghost use Rattle.vm_model.specs.Bits.{binary_digits};
+ghost use Rattle.vm_model.specs.PlainMap.{Block};
+ghost use Rattle.vm_model.specs.Rules.{IsPower};
+ghost use Rattle.vm_model.specs.Laws.{ArePartsApart};
+ghost use Rattle.vm_model.specs.Blocks as model;
+ghost use Rattle.map_blocks.specs.KeptSides.{AreKnown, has_room, is_broken, without_all};
+ghost use Rattle.map_blocks.specs.BlockRows as rows;
+ghost use Rattle.map_blocks.specs.BlockRows.{BlockRows, IsHeld, IsUnused, at_of};
+
+use crate::kept_block::KeptBlock;
+use crate::part::Part;
+use crate::sizes::{order_of, rounded};
+use std::alloc::{AllocError, Global};
+use std::collections::BTreeMap;
+use std::marker::Model;
+use vm_model::{BlockList, BlockRow, PartList, PartRow, Span, StartList, wider};
+
+/// The blocks of one processor, its `vmap_block_queue` of the kernel: each by its start, and the starts of those that
+/// have room, in the order in which they were added.
+#[derive(Drop)]
+pub struct BlockSide {
+    alloc: Global,
+    cpu: u16,
+    pages: u32,
+    blocks: BTreeMap<u32, KeptBlock>,
+    queue: Vec<u32>,
+    added: u64,
+    next: u32,
+}
+
+impl Model for BlockSide {
+    ghost use Rattle.std.specs.BTreeMap.{values};
+    ghost use Rattle.map_blocks.specs.BlockRows.{BlockRows};
+    ghost use Rattle.map_blocks.specs.KeptSides.{blocks_in, AreKept};
+
+    ghost Value = { BlockRows };
+
+    ghost view = { λ s. record { cpu = s.cpu; pages = s.pages; blocks = blocks_in (values s.blocks); next = s.next } };
+
+    ghost invariant = { λ s. AreKept s.cpu s.pages s.blocks.entries s.queue.items s.added };
+}
+
+/// The start of the first queued block with room for so many pages.
+fn first_with_room(blocks: &BTreeMap<u32, KeptBlock>, queue: &[u32], room: u32) -> Option<u32>
+    requires { AreKnown blocks.now.entries queue.now }
+    ensures { result ≡ find (has_room room blocks.now.entries) queue.now }
+{
+    for start in queue {
+        let Some(block) = blocks.get(start) else {
+            unreachable!();
+        };
+        if room <= block.free() {
+            return Some(*start);
+        }
+    }
+    None
+}
+
+/// Takes a start out of the queue.
+fn unqueue(queue: &mut Vec<u32>, start: u32)
+    ensures { queue.new.items ≡ filter (λ n. not (n == start)) queue.old.items }
+{
+    queue.retain(|queued| *queued != start);
+}
+
+/// The starts of the fragmented blocks of a queue, and those of the others.
+fn split_fragmented(
+    alloc: Global,
+    blocks: &BTreeMap<u32, KeptBlock>,
+    queue: &[u32],
+) -> Result<(Vec<u32>, Vec<u32>), AllocError>
+    requires { AreKnown blocks.now.entries queue.now }
+    ensures gone { IfOk result (λ both. both.0.items ≡ filter (is_broken blocks.now.entries) queue.now) }
+    ensures kept { IfOk result (λ both. both.1.items ≡ filter (λ start. not (is_broken blocks.now.entries start)) queue.now) }
+{
+    let mut gone = Vec::new(alloc);
+    let mut kept = Vec::new(alloc);
+    for start in queue {
+        let Some(block) = blocks.get(start) else {
+            unreachable!();
+        };
+        if block.is_fragmented() {
+            gone.push(*start)?;
+        } else {
+            kept.push(*start)?;
+        }
+    }
+    Ok((gone, kept))
+}
+
+/// Takes the blocks at these starts away.
+fn remove_all(blocks: &mut BTreeMap<u32, KeptBlock>, starts: &[u32])
+    ensures { blocks.new.entries ≡ without_all starts.now blocks.old.entries }
+{
+    for start in starts {
+        blocks.remove(start);
+    }
+}
+
+/// Puts a block under its start.
+fn put_block(
+    blocks: &mut BTreeMap<u32, KeptBlock>,
+    start: u32,
+    block: KeptBlock,
+) -> Result<(), AllocError>
+    ensures ok { OnOk result (blocks.new.entries ≡ insert_entry nat_cmp blocks.old.entries start block) }
+    ensures err { OnErr result (blocks.new.entries ≡ blocks.old.entries) }
+{
+    match blocks.insert(start, block) {
+        Ok(_) => Ok(()),
+        Err(_) => Err(AllocError),
+    }
+}
+
+impl BlockSide {
+    /// A processor without blocks, whose blocks are to have so many pages. It takes no memory.
+    pub fn new(alloc: Global, cpu: u16, block_pages: u32) -> BlockSide
+        requires power { IsPower block_pages }
+        requires least { 8 ≤ block_pages }
+        requires most { block_pages ≤ 1024 }
+        ensures { result ≡ record { cpu = cpu; pages = block_pages; blocks = []; next = 1 } }
+    {
+        BlockSide {
+            alloc,
+            cpu,
+            pages: block_pages,
+            blocks: BTreeMap::new(alloc),
+            queue: Vec::new(alloc),
+            added: 0,
+            next: 1,
+        }
+    }
+
+    /// A part for a caller, cut from the first queued block that has room for it, as `vb_alloc` of the kernel looks for
+    /// one. None where no block has, and then nothing is changed. It takes no memory.
+    pub fn take_part(&mut self, pages: u32, caller: u16) -> Option<Part>
+        requires least { 1 ≤ pages }
+        requires most { pages ≤ self.old.pages }
+        ensures place { IfSome result (λ part. rows.part_to_cut pages self.old ≡ Some (at_of self.old.cpu part)) }
+        ensures order { IfSome result (λ part. part.order ≡ binary_digits (pages - 1)) }
+        ensures pages { IfSome result (λ part. part.pages ≡ pages) }
+        ensures caller { IfSome result (λ part. part.caller ≡ caller) }
+        ensures cut { IfSome result (λ part. self.new ≡ rows.with_cut caller (at_of self.old.cpu part) self.old) }
+        ensures none { IfNone result (rows.part_to_cut pages self.old ≡ None) }
+        ensures unchanged { IfNone result (self.new ≡ self.old) }
+    {
+        let start = first_with_room(&self.blocks, &self.queue, rounded(pages))?;
+        let Some(block) = self.blocks.get_mut(&start) else {
+            unreachable!();
+        };
+        let offset = block.cut(pages, caller);
+        let part = Part {
+            block: start,
+            offset,
+            order: order_of(pages),
+            pages,
+            caller,
+        };
+        if block.free() == 0 {
+            unqueue(&mut self.queue, start);
+        }
+        Some(part)
+    }
+
+    /// A new block, of which a caller has the first part in hand, as `new_vmap_block` of the kernel makes one. An error,
+    /// which also comes after 2 ^ 64 - 1 blocks, leaves all as it was.
+    pub fn add_block(&mut self, start: u32, pages: u32, caller: u16) -> Result<Part, AllocError>
+        requires least { 1 ≤ pages }
+        requires most { pages ≤ self.old.pages }
+        requires end { start + self.old.pages ≤ 1048576 }
+        requires unused { IsUnused self.old (span start self.old.pages) }
+        ensures part { IfOk result (λ part. part ≡ record { block = start; offset = 0; order = binary_digits (pages - 1); pages = pages; caller = caller }) }
+        ensures ok { IfOk result (λ part. self.new ≡ rows.with_block caller (at_of self.old.cpu part) self.old) }
+        ensures err { OnErr result (self.new ≡ self.old) }
+    {
+        let number = self.added;
+        let added = number.checked_add(1).ok_or(AllocError)?;
+        let mut block = KeptBlock::new(self.alloc, number, self.cpu, start, self.pages)?;
+        let part = Part {
+            block: start,
+            offset: block.cut(pages, caller),
+            order: order_of(pages),
+            pages,
+            caller,
+        };
+        let has_room = block.free() > 0;
+        self.queue.reserve(1)?;
+        put_block(&mut self.blocks, start, block)?;
+        self.added = added;
+        if has_room {
+            self.queue.push_reserved(start);
+        }
+        Ok(part)
+    }
+
+    /// A part that is in hand lives from here on, and gets the next serial, from 1. It takes no memory.
+    pub fn settle(&mut self, part: &Part) -> u32
+        requires held { IsHeld (at_of self.old.cpu part.now) self.old.blocks }
+        requires next { self.old.next < 4294967295 }
+        ensures serial { result ≡ self.old.next }
+        ensures settled { self.new ≡ rows.with_settled (at_of self.old.cpu part.now) self.old }
+    {
+        let serial = self.next;
+        let Some(block) = self.blocks.get_mut(&part.block) else {
+            unreachable!();
+        };
+        block.settle(part.offset, serial);
+        self.next = serial + 1;
+        serial
+    }
+
+    /// A caller takes the live part in hand that has this first page and serial, as `vb_free` of the kernel begins. None
+    /// where there is none, and then nothing is changed. It takes no memory.
+    pub fn begin_unmap(&mut self, start: u32, serial: u32, caller: u16) -> Option<Part>
+        ensures place { IfSome result (λ part. rows.named_parts start serial self.old ≡ at_of self.old.cpu part ∷ []) }
+        ensures order { IfSome result (λ part. part.order ≡ binary_digits (part.pages - 1)) }
+        ensures caller { IfSome result (λ part. part.caller ≡ caller) }
+        ensures held { IfSome result (λ part. self.new ≡ rows.with_held caller (at_of self.old.cpu part) self.old) }
+        ensures none { IfNone result (rows.named_parts start serial self.old ≡ []) }
+        ensures unchanged { IfNone result (self.new ≡ self.old) }
+    {
+        let (block, _) = self.blocks.range(..=start).next_back()?;
+        let block = *block;
+        let offset = start - block;
+        let Some(kept) = self.blocks.get_mut(&block) else {
+            unreachable!();
+        };
+        let pages = kept.take_up(offset, serial, caller)?;
+        Some(Part {
+            block,
+            offset,
+            order: order_of(pages),
+            pages,
+            caller,
+        })
+    }
+
+    /// A part that is in hand has ended, as `vb_free` of the kernel ends. The start of its block where all pages of that
+    /// are in ended parts then: the block is gone. It takes no memory.
+    pub fn retire(&mut self, part: &Part) -> Option<u32>
+        requires { IsHeld (at_of self.old.cpu part.now) self.old.blocks }
+        ensures spent { result ≡ rows.spent_start (at_of self.old.cpu part.now) self.old }
+        ensures ended { self.new ≡ rows.with_ended (at_of self.old.cpu part.now) self.old }
+    {
+        let Some(block) = self.blocks.get_mut(&part.block) else {
+            unreachable!();
+        };
+        block.end(part.offset);
+        if block.is_spent() {
+            self.blocks.remove(&part.block);
+            return Some(part.block);
+        }
+        None
+    }
+
+    /// Takes the blocks away of which each part has ended and some page was never in one, as the kernel's
+    /// `purge_fragmented_blocks`, and gives their starts in the order in which they were added. An error leaves all as it
+    /// was.
+    pub fn take_fragmented(&mut self) -> Result<StartList, AllocError>
+        ensures starts { IfOk result (λ starts. starts ≡ rows.fragmented self.old) }
+        ensures gone { OnOk result (self.new ≡ rows.without_blocks (rows.fragmented self.old) self.old) }
+        ensures err { OnErr result (self.new ≡ self.old) }
+    {
+        let (gone, kept) = split_fragmented(self.alloc, &self.blocks, &self.queue)?;
+        remove_all(&mut self.blocks, &gone);
+        self.queue = kept;
+        Ok(StartList::of(gone))
+    }
+
+    /// From the first to the last page that is in an ended part of a block in use: what `_vm_unmap_aliases` of the kernel
+    /// flushes for a processor. It takes no memory.
+    pub fn dirty_hull(&self) -> Option<Span>
+        ensures { result ≡ model.dirty_hull self.now.cpu self.now.blocks }
+    {
+        let mut hull = None;
+        for block in self.blocks.values() {
+            if let Some(range) = block.dirty_range() {
+                hull = Some(wider(range, hull));
+            }
+        }
+        hull
+    }
+
+    /// What its fields keep of the parts of each block.
+    pub(crate) fn keeps_parts_apart(&self)
+        ensures { All (ArePartsApart (rows.sized self.now.pages)) self.now.blocks }
+    {
+        let _pages = self.pages;
+    }
+
+    /// How many blocks there are.
+    pub fn blocks(&self) -> u32
+        ensures { result ≡ length (rows.block_table self.now) }
+    {
+        self.blocks.len() as u32
+    }
+
+    /// How many live parts they have. It takes time for each part.
+    pub fn parts(&self) -> u32
+        ensures { result ≡ length (rows.part_table self.now) }
+    {
+        let mut parts = 0;
+        for block in self.blocks.values() {
+            parts += block.live();
+        }
+        parts
+    }
+
+    /// A block by its place among all by rising start, from 0. It takes time for all before it, and no memory.
+    pub fn block_at(&self, index: u32) -> BlockRow
+        requires { index < length (rows.block_table self.now) }
+        ensures { slice_get (rows.block_table self.now) index ≡ Some result }
+    {
+        let mut left = index;
+        for block in self.blocks.values() {
+            if left == 0 {
+                return block.row();
+            }
+            left -= 1;
+        }
+        unreachable!()
+    }
+
+    /// A live part by its place among all by rising start, from 0. It takes time for all before it, and no memory.
+    pub fn part_at(&self, index: u32) -> PartRow
+        requires { index < length (rows.part_table self.now) }
+        ensures { slice_get (rows.part_table self.now) index ≡ Some result }
+    {
+        let mut left = index;
+        for block in self.blocks.values() {
+            let live = block.live();
+            if left < live {
+                return block.live_at(left);
+            }
+            left -= live;
+        }
+        unreachable!()
+    }
+
+    /// All blocks by rising start, in one pass.
+    pub fn block_rows(&self, alloc: Global) -> Result<BlockList, AllocError>
+        ensures { IfOk result (λ list. list ≡ rows.block_table self.now) }
+    {
+        let mut list = Vec::with_capacity(alloc, self.blocks.len())?;
+        for block in self.blocks.values() {
+            list.push(block.row())?;
+        }
+        Ok(BlockList::of(list))
+    }
+
+    /// All live parts by rising start, in one pass.
+    pub fn part_rows(&self, alloc: Global) -> Result<PartList, AllocError>
+        ensures { IfOk result (λ list. list ≡ rows.part_table self.now) }
+    {
+        let mut list = Vec::new(alloc);
+        for block in self.blocks.values() {
+            block.put_rows(&mut list)?;
+        }
+        Ok(PartList::of(list))
+    }
+}

@@ -1,0 +1,125 @@
+//! Layouts of traces, and those that are refused.
+
+use crate::faults::Fault;
+use crate::reader::{TraceError, read_trace};
+use crate::writer::write_fault;
+use std::alloc::Global;
+use std::test::Fail;
+use unit_layout::LayoutError;
+use vm_model::Call;
+
+#[test]
+fn lays_units_out(rt: HostRuntime) -> Result<(), Fail> {
+    for (text, unit_pages, atom, units) in [
+        (
+            b"vmtrace 1\nspace 64\nend\n".as_slice(),
+            8,
+            1,
+            [0].as_slice(),
+        ),
+        (
+            b"vmtrace 1\nspace 64\nunit 8 32\nend\n".as_slice(),
+            32,
+            32,
+            [0].as_slice(),
+        ),
+        (
+            b"vmtrace 1\nspace 64\nunit 8 32\ngroup 6 0\nend\n".as_slice(),
+            8,
+            32,
+            [0, 8, 16, 24, 32, 40].as_slice(),
+        ),
+        (
+            b"vmtrace 1\nspace 64\nunit 8 1\ngroup 1 0\ngroup 1 16\nend\n".as_slice(),
+            8,
+            1,
+            [0, 16].as_slice(),
+        ),
+        (
+            b"vmtrace 1\nspace 96\nblock 8 4\nunit 8 2\ngroup 1 0\ngroup 2 16\nend\n".as_slice(),
+            8,
+            2,
+            [0, 16, 24].as_slice(),
+        ),
+    ] {
+        let layout = read_trace(rt.alloc(), text)?.config.layout;
+        assert_eq!(rt; (layout.unit_pages(), layout.atom()), (unit_pages, atom));
+        assert_eq!(rt; layout.units(), units);
+    }
+    Ok(())
+}
+
+#[test]
+fn has_sixty_four_processors(rt: HostRuntime) -> Result<(), Fail> {
+    for text in [
+        b"vmtrace 1\nspace 16\ngroup 64 0\nend\n".as_slice(),
+        b"vmtrace 1\nspace 16\ngroup 60 0\ngroup 4 480\nend\n".as_slice(),
+    ] {
+        let trace = read_trace(rt.alloc(), text)?;
+        assert_eq!(rt; trace.config.layout.cpus(), 64);
+    }
+    Ok(())
+}
+
+#[test]
+fn reads_parts_of_two_processors(rt: HostRuntime) -> Result<(), Fail> {
+    let trace = read_trace(
+        rt.alloc(),
+        b"vmtrace 1\nspace 64\nblock 8 4\ngroup 2 0\nmap_ram a 1 3\nmap_ram b 1 1\nunmap_ram a\nunmap_aliases\nend\n",
+    )?;
+    assert_eq!(rt; trace.config.layout.units(), [0, 8].as_slice());
+    let opening = trace.calls.as_slice().first().ok_or("no opening")?;
+    assert_eq!(rt; opening.as_slice().len(), 4);
+    for (place, pages) in [(0, 3), (1, 1)] {
+        let call = opening.as_slice().get(place).copied();
+        assert_eq!(rt; call, Some(Call::MapRam { cpu: 1, pages }));
+    }
+    Ok(())
+}
+
+/// Why the layout of a text is refused.
+fn refused(alloc: Global, text: &[u8]) -> Option<LayoutError> {
+    match read_trace(alloc, text) {
+        Err(TraceError::Layout(error)) => Some(error),
+        _ => None,
+    }
+}
+
+#[test]
+fn refuses_layouts(rt: HostRuntime) -> Result<(), Fail> {
+    for (text, line) in [
+        (
+            b"vmtrace 1\nspace 64\ngroup 0 0\nend\n".as_slice(),
+            b"fault layout no-cpu 0\n".as_slice(),
+        ),
+        (
+            b"vmtrace 1\nspace 64\ngroup 1 0\ngroup 0 8\nvmalloc a 1 1\nend\n".as_slice(),
+            b"fault layout no-cpu 1\n".as_slice(),
+        ),
+        (
+            b"vmtrace 1\nspace 64\ngroup 1 0\ngroup 1 8\ngroup 1 16\ngroup 1 24\ngroup 1 32\ngroup 1 40\ngroup 1 48\ngroup 1 56\ngroup 1 64\nend\n".as_slice(),
+            b"fault layout groups 9\n".as_slice(),
+        ),
+        (
+            b"vmtrace 1\nspace 64\ngroup 1 0\ngroup 1 4\nend\n".as_slice(),
+            b"fault layout overlap 0 1\n".as_slice(),
+        ),
+        (
+            b"vmtrace 1\nspace 64\ngroup 1 0\ngroup 1 16\ngroup 1 20\nend\n".as_slice(),
+            b"fault layout overlap 1 2\n".as_slice(),
+        ),
+        (
+            b"vmtrace 1\nspace 64\ngroup 1 0\ngroup 1 1048570\nend\n".as_slice(),
+            b"fault layout wide 1048578\n".as_slice(),
+        ),
+        (
+            b"vmtrace 1\nspace 64\ngroup 1 0\ngroup 1 9999999999\nend\n".as_slice(),
+            b"fault layout wide 10000000007\n".as_slice(),
+        ),
+    ] {
+        let error = refused(rt.alloc(), text).ok_or("no refusal")?;
+        let written = write_fault(rt.alloc(), &Fault::Layout(error))?;
+        assert_eq!(rt; written.as_slice(), line);
+    }
+    Ok(())
+}
