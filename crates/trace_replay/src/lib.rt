@@ -2,19 +2,9 @@
 #![tactic(auto)]
 
 mod answer;
-#[cfg(test)]
-mod bad_texts;
 mod commands;
-#[cfg(test)]
-mod drawn_traces;
 mod failing_calls;
-#[cfg(test)]
-mod freed_areas;
 mod gather;
-#[cfg(test)]
-mod groups_of_processors;
-#[cfg(test)]
-mod mapped_blocks;
 mod memory_sink;
 mod memory_source;
 mod send;

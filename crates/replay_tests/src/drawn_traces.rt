@@ -1,5 +1,6 @@
 //! Traces of two to four callers that were drawn at random, with the reports that a plain model of the kernel gives them.
-use crate::{Mode, Status, StreamSink, StreamSource, replay};
+use crate::replayed::replayed;
+use trace_replay::Status;
 
 /// Searches with and without a hole, holes that a drop of another caller leaves between the two searches, picks that stay
 /// where another has the purge turn, picks of callers that have ended, and each reply that a `vmalloc` can get.
@@ -698,14 +699,8 @@ end
 #[test]
 fn each_drawn_trace_has_its_report(rt: HostRuntime) {
     for (trace, report) in DRAWN {
-        let mut source = StreamSource::new(trace.as_bytes());
-        let mut sink = StreamSink::new(Vec::new(rt.alloc()));
-        let status = replay(rt.alloc(), Mode::Replay, &mut source, &mut sink);
+        let (status, written) = replayed(rt.alloc(), trace.as_bytes());
         assert_eq!(rt; status, Status::Done, "at {trace}");
-        assert_eq!(rt;
-            sink.into_writer().as_slice(),
-            report.as_bytes(),
-            "at {trace}"
-        );
+        assert_eq!(rt; written.as_slice(), report.as_bytes(), "at {trace}");
     }
 }

@@ -1,8 +1,8 @@
 //! Traces that are read.
 
-use crate::reader::read_trace;
 use std::alloc::Global;
 use std::test::Fail;
+use trace_text::read_trace;
 use vm_model::{Call, CallerCalls, Target};
 
 #[test]

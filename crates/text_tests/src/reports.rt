@@ -1,10 +1,9 @@
 //! Reports and faults as bytes.
 ghost use Rattle.std.specs.Prelude.{◌≤◌};
 
-use crate::faults::Fault;
-use crate::writer::{write_fault, write_report, write_schedule};
 use std::alloc::{AllocError, Global};
 use std::test::Fail;
+use trace_text::{Fault, write_fault, write_report, write_schedule};
 use vm_model::{
     Area, AreaKind, AreaList, BlockList, BlockRow, ChunkAuditList, ChunkList, CounterList, Entry,
     EntryList, HintList, ObjectList, PartList, PartRow, Reply, Span, SpanList, Tables,

@@ -1,10 +1,8 @@
 //! Layouts of traces, and those that are refused.
 
-use crate::faults::Fault;
-use crate::reader::{TraceError, read_trace};
-use crate::writer::write_fault;
 use std::alloc::Global;
 use std::test::Fail;
+use trace_text::{Fault, TraceError, read_trace, write_fault};
 use unit_layout::LayoutError;
 use vm_model::Call;
 

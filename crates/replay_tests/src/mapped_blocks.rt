@@ -1,8 +1,6 @@
 //! Traces of `map_ram`, `unmap_ram` and `unmap_aliases`, and the reports of a plain model.
-use crate::commands::{Mode, replay};
-use crate::sink::StreamSink;
-use crate::source::StreamSource;
-use crate::status::Status;
+use crate::replayed::replayed;
+use trace_replay::Status;
 
 /// Each trace, named by what it shows, and its report.
 const MAPPED: [(&str, &str, &str); 6] = [
@@ -146,10 +144,8 @@ const MAPPED: [(&str, &str, &str); 6] = [
 #[test]
 fn parts_are_mapped_in_blocks(rt: HostRuntime) {
     for (shown, trace, report) in MAPPED {
-        let mut source = StreamSource::new(trace.as_bytes());
-        let mut sink = StreamSink::new(Vec::new(rt.alloc()));
-        let status = replay(rt.alloc(), Mode::Replay, &mut source, &mut sink);
+        let (status, written) = replayed(rt.alloc(), trace.as_bytes());
         assert_eq!(rt; status, Status::Done, "{shown}");
-        assert_eq!(rt; sink.into_writer().as_slice(), report.as_bytes(), "{shown}");
+        assert_eq!(rt; written.as_slice(), report.as_bytes(), "{shown}");
     }
 }

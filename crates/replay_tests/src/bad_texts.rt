@@ -1,6 +1,6 @@
 //! Texts that are no traces, with the line at which each is refused.
-use crate::{Mode, Status, StreamSink, StreamSource, replay};
-use std::alloc::Global;
+use crate::replayed::replayed;
+use trace_replay::Status;
 
 /// Each rule of the grammar is broken once, in the first line, the second, a middle one or the last.
 const BAD: [(&[u8], u32); 70] = [
@@ -269,13 +269,6 @@ const UNBUILT: [(&[u8], u32); 7] = [
     ),
     (b"vmtrace 1\nspace 16\norder 1\ncount 0 0 1\nend\n", 4),
 ];
-
-/// The status of a replay, and what it writes.
-fn replayed(alloc: Global, text: &[u8]) -> (Status, Vec<u8>) {
-    let mut sink = StreamSink::new(Vec::new(alloc));
-    let status = replay(alloc, Mode::Replay, &mut StreamSource::new(text), &mut sink);
-    (status, sink.into_writer())
-}
 
 #[test]
 fn bad_texts(rt: HostRuntime) {

@@ -1,9 +1,6 @@
 //! Traces that name groups of processors: reports of a plain model, and layouts that are refused.
-use crate::commands::{Mode, replay};
-use crate::sink::StreamSink;
-use crate::source::StreamSource;
-use crate::status::Status;
-use std::alloc::Global;
+use crate::replayed::replayed;
+use trace_replay::Status;
 use unit_layout::LayoutError;
 
 /// Each trace, named by what it shows, and its report.
@@ -111,18 +108,10 @@ const REFUSED: [(&str, Status, &str, &str); 5] = [
     ),
 ];
 
-/// The status of a replay, and what it writes.
-fn replayed(alloc: Global, trace: &str) -> (Status, Vec<u8>) {
-    let mut sink = StreamSink::new(Vec::new(alloc));
-    let mut source = StreamSource::new(trace.as_bytes());
-    let status = replay(alloc, Mode::Replay, &mut source, &mut sink);
-    (status, sink.into_writer())
-}
-
 #[test]
 fn processors_have_units_and_blocks(rt: HostRuntime) {
     for (shown, trace, report) in LAID_OUT {
-        let (status, written) = replayed(rt.alloc(), trace);
+        let (status, written) = replayed(rt.alloc(), trace.as_bytes());
         assert_eq!(rt; status, Status::Done, "{shown}");
         assert_eq!(rt; written.as_slice(), report.as_bytes(), "{shown}");
     }
@@ -131,7 +120,7 @@ fn processors_have_units_and_blocks(rt: HostRuntime) {
 #[test]
 fn layouts_are_refused(rt: HostRuntime) {
     for (shown, refused, trace, text) in REFUSED {
-        let (status, written) = replayed(rt.alloc(), trace);
+        let (status, written) = replayed(rt.alloc(), trace.as_bytes());
         assert_eq!(rt; status, refused, "{shown}");
         assert_eq!(rt; status.code(), 1, "{shown}");
         assert_eq!(rt; written.as_slice(), text.as_bytes(), "{shown}");

@@ -1,11 +1,11 @@
 //! Texts that are no trace, and their first bad lines.
 
-use crate::reader::{TraceError, read_trace};
-use crate::text::Text;
+use itoa::Buffer;
 use std::alloc::{AllocError, Global};
 use std::test::Fail;
+use trace_text::{TraceError, read_trace};
 
-/// The first bad line, and whether it begins with a word that a later stage builds.
+/// The first bad line, and whether it begins with a word that isn't built yet.
 fn refused(alloc: Global, text: &[u8]) -> Option<(u32, bool)> {
     match read_trace(alloc, text) {
         Err(TraceError::BadLine { line }) => Some((line, false)),
@@ -32,9 +32,9 @@ fn first_lines(rt: HostRuntime) {
 
 /// The first bad line of a text that begins with a space of 16 pages.
 fn refused_behind_space(alloc: Global, rest: &[u8]) -> Result<Option<(u32, bool)>, AllocError> {
-    let mut text = Text::of(Vec::new(alloc));
-    text.put(b"vmtrace 1\nspace 16\n")?;
-    text.put(rest)?;
+    let mut text = Vec::new(alloc);
+    text.extend_from_slice(b"vmtrace 1\nspace 16\n")?;
+    text.extend_from_slice(rest)?;
     Ok(refused(alloc, text.as_slice()))
 }
 
@@ -344,12 +344,12 @@ fn picks(rt: HostRuntime) -> Result<(), Fail> {
 
 /// The first bad line of a text with one order line of so many picks.
 fn refused_picks(alloc: Global, picks: u32) -> Result<Option<(u32, bool)>, AllocError> {
-    let mut line = Text::of(Vec::new(alloc));
-    line.put(b"order")?;
+    let mut line = Vec::new(alloc);
+    line.extend_from_slice(b"order")?;
     for _ in 0..picks {
-        line.put(b" 1")?;
+        line.extend_from_slice(b" 1")?;
     }
-    line.put(b"\nend")?;
+    line.extend_from_slice(b"\nend")?;
     refused_behind_space(alloc, line.as_slice())
 }
 
@@ -363,14 +363,14 @@ fn sixty_four_picks_of_a_line(rt: HostRuntime) -> Result<(), Fail> {
 
 #[test]
 fn one_call_too_many(rt: HostRuntime) -> Result<(), Fail> {
-    let mut text = Text::of(Vec::new(rt.alloc()));
-    text.put(b"vmtrace 1\nspace 16\n")?;
-    for i in 0..100_001 {
-        text.put(b"vmalloc a")?;
-        text.put_number(i)?;
-        text.put(b" 1 1\n")?;
+    let mut text = Vec::new(rt.alloc());
+    text.extend_from_slice(b"vmtrace 1\nspace 16\n")?;
+    for i in 0..100_001u64 {
+        text.extend_from_slice(b"vmalloc a")?;
+        text.extend_from_slice(Buffer::new().format(i).as_bytes())?;
+        text.extend_from_slice(b" 1 1\n")?;
     }
-    text.put(b"end\n")?;
+    text.extend_from_slice(b"end\n")?;
     assert_eq!(rt;
         refused(rt.alloc(), text.as_slice()),
         Some((100_003, false))

@@ -1,8 +1,6 @@
 //! Traces of `vfree`, with few frames and with a lazy limit, and the reports of a plain model.
-use crate::commands::{Mode, replay};
-use crate::sink::StreamSink;
-use crate::source::StreamSource;
-use crate::status::Status;
+use crate::replayed::replayed;
+use trace_replay::Status;
 
 /// Each trace, named by what it shows, and its report.
 const FREED: [(&str, &str, &str); 6] = [
@@ -136,10 +134,8 @@ const FREED: [(&str, &str, &str); 6] = [
 #[test]
 fn freed_areas_wait_and_are_purged(rt: HostRuntime) {
     for (shown, trace, report) in FREED {
-        let mut source = StreamSource::new(trace.as_bytes());
-        let mut sink = StreamSink::new(Vec::new(rt.alloc()));
-        let status = replay(rt.alloc(), Mode::Replay, &mut source, &mut sink);
+        let (status, written) = replayed(rt.alloc(), trace.as_bytes());
         assert_eq!(rt; status, Status::Done, "{shown}");
-        assert_eq!(rt; sink.into_writer().as_slice(), report.as_bytes(), "{shown}");
+        assert_eq!(rt; written.as_slice(), report.as_bytes(), "{shown}");
     }
 }
