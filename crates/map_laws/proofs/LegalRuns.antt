@@ -139,6 +139,7 @@ module _ (c : Setup) (calls : List (List Call)) (P : World → Type 0) (lasts : 
         pub events : List Event
         pub all : v.events ≡ before ++ events
         pub legal : IsLegalHistory c opening calls before events
+        pub led_to : v ≡ world_after (callers_world c opening calls before) events
         pub over : AllOver v.locals
 
       whole_is : IsWhole (finish most_events (pick_all (with_callers c calls (finish most_events (opening_world c opening calls))) picks))
@@ -147,6 +148,7 @@ module _ (c : Setup) (calls : List (List Call)) (P : World → Type 0) (lasts : 
         events = whole.runs.made;
         all = whole.runs.events ∙ ap (λ l. l ++ whole.runs.made) opened.runs.events;
         legal = (opened.runs.run, over_first, subst (λ v. IsRun v whole.runs.made) same_start whole.runs.run);
+        led_to = whole.runs.ends ∙ ap (λ v. world_after v whole.runs.made) same_start;
         over = every_run_ends c opening calls (pick_all (with_callers c calls (finish most_events (opening_world c opening calls))) picks) trace picked_reached;
       }
 
@@ -155,4 +157,4 @@ module _ (c : Setup) (calls : List (List Call)) (P : World → Type 0) (lasts : 
       history_is = refl
 
       pub one_legal : IsOneLegalHistory c opening calls picks
-      one_legal = let is = subst IsWhole (sym history_is) whole_is in record { first = is.before; events = is.events; all = is.all; legal = is.legal; over = is.over }
+      one_legal = let is = subst IsWhole (sym history_is) whole_is in record { first = is.before; events = is.events; all = is.all; legal = is.legal; led_to = is.led_to; over = is.over }
