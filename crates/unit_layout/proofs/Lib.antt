@@ -5,3 +5,4 @@ pub mod Apart
 pub mod Lying
 pub mod Standing
 pub mod Overlaps
+pub mod OwnGroups

@@ -51,3 +51,25 @@ TheFirstPair = refusal (layout_spec 8 1 (from 0 1 ∷ from 40 1 ∷ from 20 1 �
 
 abbrev pub AboveTheSpace : Type 0
 AboveTheSpace = refusal (layout_spec 8 1 (from 0 1 ∷ from 1048570 1 ∷ [])) ≡ Some (TooWide 1048578)
+
+-- Groups against which two reasons or more stand: the first one is told.
+
+-- the ninth group has no processor
+abbrev pub NoProcessorOfNine : Type 0
+NoProcessorOfNine = refusal (layout_spec 8 1 (from 0 1 ∷ from 8 1 ∷ from 16 1 ∷ from 24 1 ∷ from 32 1 ∷ from 40 1 ∷ from 48 1 ∷ from 56 1 ∷ from 64 0 ∷ [])) ≡ Some (NoCpu 8)
+
+abbrev pub NoProcessorAndSharedPages : Type 0
+NoProcessorAndSharedPages = refusal (layout_spec 8 1 (from 0 1 ∷ from 4 1 ∷ from 64 0 ∷ [])) ≡ Some (NoCpu 2)
+
+abbrev pub NineGroupsShare : Type 0
+NineGroupsShare = refusal (layout_spec 8 1 (from 0 1 ∷ from 4 1 ∷ from 16 1 ∷ from 24 1 ∷ from 32 1 ∷ from 40 1 ∷ from 48 1 ∷ from 56 1 ∷ from 64 1 ∷ [])) ≡ Some (TooManyGroups 9)
+
+abbrev pub NineGroupsAboveTheSpace : Type 0
+NineGroupsAboveTheSpace = refusal (layout_spec 8 1 (from 0 1 ∷ from 8 1 ∷ from 16 1 ∷ from 24 1 ∷ from 32 1 ∷ from 40 1 ∷ from 48 1 ∷ from 56 1 ∷ from 1048576 1 ∷ [])) ≡ Some (TooManyGroups 9)
+
+abbrev pub SharedAboveTheSpace : Type 0
+SharedAboveTheSpace = refusal (layout_spec 8 1 (from 0 1 ∷ from 1048570 1 ∷ from 1048571 1 ∷ [])) ≡ Some (Overlap 1 2)
+
+-- a group without a processor, nine groups, shared pages, and an end above the space
+abbrev pub FirstOfFour : Type 0
+FirstOfFour = refusal (layout_spec 8 1 (from 0 1 ∷ from 4 1 ∷ from 16 1 ∷ from 24 1 ∷ from 32 1 ∷ from 40 1 ∷ from 48 1 ∷ from 56 0 ∷ from 1048576 1 ∷ [])) ≡ Some (NoCpu 7)

@@ -55,7 +55,7 @@ fn share_a_page(division: Division, one: GroupSpec, other: GroupSpec) -> bool
 fn overlapped(division: Division, groups: &[GroupSpec], one: GroupSpec, from: usize) -> Option<u32>
     requires division { IsDivision division }
     requires groups { All IsGroupInRange groups.now }
-    requires few { length groups.now ≤ 8 }
+    requires few { length groups.now ≤ 64 }
     requires one { IsGroupInRange one }
     requires from { from ≤ length groups.now }
     ensures { result ≡ rule.first_place (λ other. rule.share_a_page (span_of division one) (span_of division other)) from (drop from groups.now) }
@@ -72,7 +72,7 @@ fn overlapped(division: Division, groups: &[GroupSpec], one: GroupSpec, from: us
 fn overlap(division: Division, groups: &[GroupSpec]) -> Option<LayoutError>
     requires division { IsDivision division }
     requires groups { All IsGroupInRange groups.now }
-    requires few { length groups.now ≤ 8 }
+    requires few { length groups.now ≤ 64 }
     ensures { result ≡ rule.overlap division 0 groups.now }
 {
     for first in 0..groups.len() {

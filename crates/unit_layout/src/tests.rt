@@ -1,10 +1,12 @@
-//! Tables of layouts.
-ghost use Rattle.std.specs.Prelude.{◌≤◌, All, IsTrue};
+//! Tables of layouts, and layouts against a plain program of the rule.
+ghost use Rattle.std.specs.Prelude.{◌≤◌, ◌<◌, All, IsTrue};
 ghost use Rattle.unit_layout.specs.Rule.{processors};
 ghost use Rattle.unit_layout.specs.Ranges.{IsInRange, IsGroupInRange, IsAligned};
 
+use crate::plain::{PlainLayout, plain_layout};
 use crate::{BuildError, Group, GroupList, GroupSpec, Layout, LayoutError, LayoutSpec};
 use std::alloc::{AllocError, Global};
+use std::process::Abort;
 
 /// What is asked for, as unit, atom and groups with their processors and offsets, and what it gives: the pages of a unit,
 /// the groups with their offsets and pages, and the units.
@@ -207,7 +209,7 @@ const LAYOUTS: [Laid; 33] = [
 /// What is asked for, and why it is refused.
 type Refused = (u32, u32, &'static [(u32, u64)], LayoutError);
 
-const REFUSALS: [Refused; 12] = [
+const REFUSALS: [Refused; 15] = [
     (8, 1, &[(0, 0)], LayoutError::NoCpu { group: 0 }),
     (
         8,
@@ -307,6 +309,44 @@ const REFUSALS: [Refused; 12] = [
     (
         8,
         1,
+        &[(1, 0), (1, 4), (0, 64)],
+        LayoutError::NoCpu { group: 2 },
+    ),
+    (
+        8,
+        1,
+        &[
+            (1, 0),
+            (1, 4),
+            (1, 16),
+            (1, 24),
+            (1, 32),
+            (1, 40),
+            (1, 48),
+            (1, 56),
+            (1, 1048576),
+        ],
+        LayoutError::TooManyGroups { groups: 9 },
+    ),
+    (
+        8,
+        1,
+        &[
+            (1, 0),
+            (1, 4),
+            (1, 16),
+            (1, 24),
+            (1, 32),
+            (1, 40),
+            (1, 48),
+            (0, 56),
+            (1, 1048576),
+        ],
+        LayoutError::NoCpu { group: 7 },
+    ),
+    (
+        8,
+        1,
         &[(1, 0), (1, 1048569)],
         LayoutError::TooWide { pages: 1048577 },
     ),
@@ -395,5 +435,120 @@ fn refuses_groups(rt: HostRuntime) -> Result<(), BuildError> {
             Ok(_) => panic!(rt; "no refusal"),
         }
     }
+    Ok(())
+}
+
+/// Whether the numbers of a layout are those of the plain program.
+fn has_numbers(layout: &Layout, plain: &PlainLayout) -> bool {
+    let mut same = layout.unit_pages() == plain.unit_pages
+        && layout.units().len() == plain.units.len()
+        && layout.groups().len() == plain.groups.len();
+    for (unit, wanted) in layout.units().iter().zip(plain.units.as_slice()) {
+        same = same && u64::from(*unit) == *wanted;
+    }
+    for (group, wanted) in layout.groups().iter().zip(plain.groups.as_slice()) {
+        let offset = u64::from(group.offset);
+        same = same && offset == wanted.start;
+        same = same && offset + u64::from(group.pages) == wanted.end;
+    }
+    same
+}
+
+/// Whether a layout stands, where it is built or refused as by the plain program.
+fn stands_as_plain(rt: &impl Abort, alloc: Global, spec: &LayoutSpec) -> Result<bool, BuildError>
+    requires { IsInRange spec.now }
+{
+    let wanted = match plain_layout(alloc, spec) {
+        Ok(plain) => Ok(plain),
+        Err(BuildError::Layout(error)) => Err(error),
+        Err(BuildError::OutOfMemory) => return Err(BuildError::OutOfMemory),
+    };
+    match (Layout::build(alloc, spec), wanted) {
+        (Ok(layout), Ok(plain)) => {
+            assert!(rt; has_numbers(&layout, &plain));
+            Ok(true)
+        }
+        (Err(BuildError::Layout(found)), Err(error)) => {
+            assert_eq!(rt; found, error);
+            Ok(false)
+        }
+        (Err(BuildError::OutOfMemory), _) => Err(BuildError::OutOfMemory),
+        _ => panic!(rt; "a layout is refused by one alone"),
+    }
+}
+
+/// Numbers as by dice, the same ones each time.
+#[derive(Drop)]
+struct Dice {
+    state: u32,
+}
+
+impl Dice {
+    /// A number below a limit.
+    fn below(&mut self, limit: u32) -> u32
+        requires { 1 ≤ limit }
+        ensures { result < limit }
+    {
+        self.state = self
+            .state
+            .wrapping_mul(1_664_525)
+            .wrapping_add(1_013_904_223);
+        (self.state / 65_536) % limit
+    }
+}
+
+/// Groups at drawn offsets: some share pages, lie above the largest space, or have no processor.
+fn drawn_groups(alloc: Global, dice: &mut Dice, atom: u32) -> Result<GroupList, AllocError>
+    requires { 1 ≤ atom }
+{
+    let step = if dice.below(2) == 0 { 96 } else { 640 };
+    let mut groups = Vec::new(alloc);
+    let cpus = 1 + dice.below(6);
+    groups.push(GroupSpec { cpus, offset: 0 })?;
+    for index in 1..1 + dice.below(9) {
+        let cpus = dice.below(24).min(1) * (1 + dice.below(6));
+        let far = 1_048_000 * (dice.below(24) / 23);
+        let place = far + index * step + dice.below(64);
+        let offset = u64::from(place - place % atom);
+        groups.push(GroupSpec { cpus, offset })?;
+    }
+    Ok(GroupList::of(groups))
+}
+
+/// A layout as the dice have it.
+fn drawn_layout(alloc: Global, dice: &mut Dice) -> Result<LayoutSpec, AllocError> {
+    let unit = 8 + dice.below(57);
+    let atom = 1 << dice.below(7);
+    let groups = drawn_groups(alloc, dice, atom)?;
+    Ok(LayoutSpec { unit, atom, groups })
+}
+
+#[test]
+fn tables_by_the_plain_program(rt: HostRuntime) -> Result<(), BuildError> {
+    for (unit, atom, groups, _, _, _) in LAYOUTS {
+        let spec = request(rt.alloc(), unit, atom, groups)?;
+        assert!(rt; is_in_range(&spec));
+        assert!(rt; stands_as_plain(&rt, rt.alloc(), &spec)?);
+    }
+    for (unit, atom, groups, _) in REFUSALS {
+        let spec = request(rt.alloc(), unit, atom, groups)?;
+        assert!(rt; is_in_range(&spec));
+        assert!(rt; !stands_as_plain(&rt, rt.alloc(), &spec)?);
+    }
+    Ok(())
+}
+
+#[test]
+fn drawn_layouts_by_the_plain_program(rt: HostRuntime) -> Result<(), BuildError> {
+    let mut dice = Dice { state: 1 };
+    let mut standing = 0u32;
+    for _ in 0..200 {
+        let spec = drawn_layout(rt.alloc(), &mut dice)?;
+        assert!(rt; is_in_range(&spec));
+        if stands_as_plain(&rt, rt.alloc(), &spec)? {
+            standing = standing.saturating_add(1);
+        }
+    }
+    assert!(rt; standing > 50 && standing < 150, "{standing} layouts stand");
     Ok(())
 }

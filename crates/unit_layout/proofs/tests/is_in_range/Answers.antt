@@ -1,11 +1,11 @@
-use Rattle.std.proofs.Common.{◌≡◌, ℕ, ◌^◌, ◌≤◌, List, [], ◌∷◌, length, Some, sym, ◌∙◌, ap, subst, arith, ◌==◌, true, false, count_ones}
+use Rattle.std.proofs.Common.{◌≡◌, ℕ, ◌≤◌, List, [], ◌∷◌, length, Some, sym, ◌∙◌, subst, arith, ◌==◌, true, false, count_ones}
 use Rattle.std.proofs.lemmas.Bool.Decides.{nat_tests}
 use Rattle.std.specs.List.{All, slice_get, slice_index_or}
 use Rattle.vm_model.specs.Rules.{IsPower}
 use Rattle.vm_model.proofs.Powers.{power_with}
 use Rattle.unit_layout.specs.declared.request.GroupSpec.{GroupSpec}
 use Rattle.unit_layout.specs.Rule.{processors}
-use Rattle.unit_layout.specs.Ranges.{IsInRange, IsGroupInRange, IsAligned}
+use Rattle.unit_layout.specs.Ranges.{IsGroupInRange, IsAligned}
 use Rattle.unit_layout.proofs.tests.is_in_range.Goals as goal
 
 first_offset : (groups : List GroupSpec) (d g : GroupSpec) → slice_get groups 0 ≡ Some g → (slice_index_or groups 0 d).offset ≡ 0 → g.offset ≡ 0

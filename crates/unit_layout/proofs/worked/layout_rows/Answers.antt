@@ -12,4 +12,10 @@ returns c = record {
   shared_pages = refl;
   the_first_pair = refl;
   above_the_space = refl;
+  no_processor_of_nine = refl;
+  no_processor_and_shared_pages = refl;
+  nine_groups_share = refl;
+  nine_groups_above_the_space = refl;
+  shared_above_the_space = refl;
+  first_of_four = refl;
 }
