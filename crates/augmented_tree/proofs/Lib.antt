@@ -6,3 +6,4 @@ mod FreeRuns
 mod Joins
 mod GivenBack
 pub mod Finds
+pub mod FoundPages

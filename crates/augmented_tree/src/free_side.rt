@@ -1,11 +1,11 @@
 //! The free blocks of a space: what `free_vmap_area_root` holds in the kernel. Functions of mm/vmalloc.c of Linux 6.1
 //! that these follow are named with them.
-ghost use Rattle.std.specs.Prelude.{◌≡◌, ◌≤◌, ◌<◌, ◌+◌, ◌&&◌, not, nat_le, max, find, filter, ℕ, List, Bool, true, false, Some, None, All, length, slice_get, replicate, option_map, IfOk, IfSome, IfNone, OnOk, OnErr, ◌∷◌, []};
+ghost use Rattle.std.specs.Prelude.{◌≡◌, ◌≤◌, ◌<◌, ◌+◌, ◌&&◌, not, nat_le, max, find, filter, ℕ, List, Bool, true, false, Some, None, All, length, slice_get, replicate, option_map, IfOk, IfSome, IfNone, IsSome, OnOk, OnErr, ◌∷◌, []};
 ghost use Rattle.vm_model.specs.Space.{span, holds, covers, times, end_of, lowest, longest_of, paint, AreSeparateFrom};
 ghost use Rattle.vm_model.specs.declared.areas.Span.{Span};
 ghost use Rattle.vm_model.specs.Setup.{last_of};
 ghost use Rattle.augmented_tree.specs.Blocks.{AreBlocks};
-ghost use Rattle.augmented_tree.specs.FreeBlocks.{FreeBlocks, AreFreeRuns};
+ghost use Rattle.augmented_tree.specs.FreeBlocks.{FreeBlocks, AreFreeRuns, IsFree, IsLowestFit, LeavesRunsWithout, GivesRunsWith};
 
 use crate::blocks::{block_before, block_with, blocks_up_to, cut_out, first_fit, put_back_all};
 use std::alloc::{AllocError, Global};
@@ -58,16 +58,18 @@ impl FreeSide {
         }
     }
 
-    /// Takes the least such pages out, as `__alloc_vmap_area` does, or none where so many fit nowhere. As with the kernel's
-    /// `ne_fit_preload` there is room for one more block before anything is changed, and no spare node is used up. An error
-    /// leaves the blocks as they were.
+    /// Takes the least such pages out, as `__alloc_vmap_area` does, or none where so many fit nowhere: it finds them as
+    /// `find_vmap_lowest_match` and cuts their block as `adjust_va_to_fit_type`. The alignment is in pages too. As with the
+    /// kernel's `preload_this_cpu_lock` there is room for one more block before anything is changed, and no spare node is
+    /// used up. An error, which comes only where the pages fit, leaves the blocks as they were.
     pub fn carve(&mut self, pages: u32, align: u32) -> Result<Option<Span>, AllocError>
         requires pages { 1 ≤ pages }
         requires align { 1 ≤ align }
-        ensures place { IfOk result (λ found. (taken : List Bool) → AreFreeRuns self.old taken → found ≡ option_map (λ start. span start pages) (lowest taken pages align)) }
-        ensures carved { IfOk result (λ found. IfSome found (λ place. (taken : List Bool) → AreFreeRuns self.old taken → AreFreeRuns self.new (paint (holds place) true taken))) }
+        ensures place { IfOk result (IsLowestFit self.old pages align) }
+        ensures carved { IfOk result (λ found. IfSome found (λ place. LeavesRunsWithout self.old self.new (holds place))) }
         ensures none { IfOk result (λ found. IfNone found (self.new ≡ self.old)) }
         ensures spare { self.new.spare ≡ self.old.spare }
+        ensures fits { OnErr result ((taken : List Bool) → AreFreeRuns self.old taken → IsSome (lowest taken pages align)) }
         ensures err { OnErr result (self.new ≡ self.old) }
     {
         let Some(fit) = first_fit(&self.blocks, pages, align) else {
@@ -99,12 +101,12 @@ impl FreeSide {
         self.spare
     }
 
-    /// Takes pages out that are free, as `adjust_va_to_fit_type` does. Their block may be cut in two, for which a spare
-    /// node is used up. It takes no memory.
+    /// Takes pages out that are free, as `adjust_va_to_fit_type` does for a given place. Their block may be cut in two: one
+    /// spare node is used up, whether it is or not. It takes no memory.
     pub fn carve_at(&mut self, span: Span)
-        requires free { (page : ℕ) → holds span page ≡ true → covers self.old.blocks page ≡ true }
+        requires free { IsFree self.old.blocks span }
         requires spare { 1 ≤ self.old.spare }
-        ensures carved { (taken : List Bool) → AreFreeRuns self.old taken → AreFreeRuns self.new (paint (holds span) true taken) }
+        ensures carved { LeavesRunsWithout self.old self.new (holds span) }
         ensures cover { (page : ℕ) → covers self.new.blocks page ≡ (covers self.old.blocks page && not (holds span page)) }
         ensures spare { self.new.spare + 1 ≡ self.old.spare }
     {
@@ -117,13 +119,13 @@ impl FreeSide {
     }
 
     /// Gives pages back, as `merge_or_add_vmap_area_augment` does for each span: blocks that touch become one. An error
-    /// leaves the blocks as they were.
+    /// comes only for want of room for as many blocks more, and leaves the blocks as they were.
     pub fn release_all(&mut self, spans: &[Span]) -> Result<(), AllocError>
         requires pages { All (λ (s : Span). 1 ≤ s.pages) spans.now }
         requires ends { All (λ (s : Span). end_of s ≤ 1048576) spans.now }
         requires disjoint { (page : ℕ) → times page spans.now ≤ 1 }
         requires taken { (page : ℕ) → covers spans.now page ≡ true → covers self.old.blocks page ≡ false }
-        ensures ok { OnOk result ((taken : List Bool) → All (λ (s : Span). end_of s ≤ length taken) spans.now → AreFreeRuns self.old taken → AreFreeRuns self.new (paint (covers spans.now) false taken)) }
+        ensures ok { OnOk result (GivesRunsWith self.old self.new spans.now) }
         ensures spare { self.new.spare ≡ self.old.spare }
         ensures err { OnErr result (self.new ≡ self.old) }
     {
@@ -148,11 +150,6 @@ impl FreeSide {
         ensures blocks { AreBlocks self.now.blocks }
     {
         block_before(&self.blocks, page)
-    }
-
-    /// What its memory comes from. It takes no memory.
-    pub fn allocator(&self) -> &Global {
-        self.blocks.allocator()
     }
 
     /// The pages of the largest block, or 0 where nothing is free. It takes no memory.

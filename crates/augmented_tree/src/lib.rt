@@ -2,6 +2,8 @@
 #![tactic(auto)]
 
 mod blocks;
+#[cfg(test)]
+mod drawn;
 mod free_side;
 
 pub use free_side::FreeSide;

@@ -1,5 +1,5 @@
-//! The live areas, by start: what `vmap_area_root` holds in the kernel.
-ghost use Rattle.std.specs.Prelude.{◌≡◌, ◌≤◌, true, false, All, ◌+◌, ◌^◌, ◌<◌, ◌↔◌, ℕ, [], ◌∷◌, length, find, slice_get, Some, IfOk, OnOk, OnErr, IfSome, IfNone, OnSome, IsTrue};
+//! The live areas, by start: the kernel's tree `vmap_area_root`.
+ghost use Rattle.std.specs.Prelude.{◌≡◌, ◌≤◌, true, false, All, ◌+◌, ◌^◌, ◌<◌, ◌↔◌, ℕ, [], ◌∷◌, length, Contains, slice_get, Some, IfOk, OnOk, OnErr, IfSome, IfNone, IsNone, OnSome, IsTrue};
 ghost use Rattle.std.specs.Ordering.{nat_cmp};
 ghost use Rattle.std.specs.BTreeMap.{insert_entry, values};
 ghost use Rattle.vm_model.specs.declared.areas.Span.{Span};
@@ -14,11 +14,13 @@ use std::collections::BTreeMap;
 use std::marker::Model;
 use vm_model::{Area, AreaKind, AreaList, Span};
 
-/// The live areas of a space, and the serial of the next. No two share a page.
+/// The live areas of a space, and the serial of the next: the kernel's `vmap_area_root`, whose areas have no serials.
+/// No two of them share a page.
 #[derive(Drop)]
 pub struct BusySide {
     areas: BTreeMap<u32, Area>,
     next: u32,
+    alloc: Global,
 }
 
 impl Model for BusySide {
@@ -84,26 +86,28 @@ fn put_all(
 }
 
 impl BusySide {
-    /// No area; serials begin at 1.
+    /// No area is live, and the next serial is 1. It takes no memory.
     pub fn new(alloc: Global) -> BusySide
-        ensures { result ≡ record { areas = []; next = 1 } }
+        ensures empty { result ≡ record { areas = []; next = 1 } }
     {
         BusySide {
             areas: BTreeMap::new(alloc),
             next: 1,
+            alloc,
         }
     }
 
-    /// A new area, which gets the next serial. An error, which also comes after 4,294,967,294 areas, leaves all as it was.
+    /// Puts a live area, which gets the next serial, among the others, as `insert_vmap_area` does. The serial is the
+    /// answer. An error comes for want of memory only.
     pub fn insert(&mut self, span: Span, kind: AreaKind, caller: u16) -> Result<u32, AllocError>
         requires page { 0 < span.pages }
         requires unused { IsUnused self.old.areas span }
+        requires serials { self.old.next + 1 < 2 ^ 32 }
         ensures serial { IfOk result (λ serial. serial ≡ self.old.next) }
         ensures ok { OnOk result (self.new ≡ with_new caller ((span, kind) ∷ []) self.old) }
         ensures err { OnErr result (self.new ≡ self.old) }
     {
         let serial = self.next;
-        let next = serial.checked_add(1).ok_or(AllocError)?;
         let area = Area {
             span,
             kind,
@@ -111,29 +115,30 @@ impl BusySide {
             serial,
         };
         put_area(&mut self.areas, area)?;
-        self.next = next;
+        self.next += 1;
         Ok(serial)
     }
 
-    /// New areas, which get the next serials in their order, and the first of these. An error, which also comes where
-    /// they would be more than 4,294,967,294 areas in all, leaves all as it was.
+    /// Puts live areas, which get the next serials in their order, all of them or none, as `pcpu_get_vm_areas` puts
+    /// those of a chunk by `insert_vmap_area`. The first of the serials is the answer; where there is no area to put, it
+    /// is that of the next. An error comes for want of memory only.
     pub fn insert_all(&mut self, areas: &[(Span, AreaKind)], caller: u16) -> Result<u32, AllocError>
         requires pages { All (λ (s : Span). 0 < s.pages) (asked_spans areas.now) }
         requires unused { (page : ℕ) → covers (asked_spans areas.now) page ≡ true → covers (spans_of self.old.areas) page ≡ false }
         requires disjoint { (page : ℕ) → times page (asked_spans areas.now) ≤ 1 }
+        requires serials { self.old.next + length areas.now < 2 ^ 32 }
         ensures serial { IfOk result (λ serial. serial ≡ self.old.next) }
         ensures ok { OnOk result (self.new ≡ with_new caller areas.now self.old) }
         ensures err { OnErr result (self.new ≡ self.old) }
     {
         let first = self.next;
-        let count = u32::try_from(areas.len()).map_err(|_| AllocError)?;
-        let next = first.checked_add(count).ok_or(AllocError)?;
         put_all(&mut self.areas, areas, caller, first)?;
-        self.next = next;
+        self.next += areas.len() as u32;
         Ok(first)
     }
 
-    /// Takes the area with this start and serial away, if there is one. It takes no memory.
+    /// Takes the area with this start and serial away, if there is one: `__find_vmap_area` and `unlink_va`, which go by
+    /// the start alone. An area that was put later at the same start has another serial, and stays. It takes no memory.
     pub fn remove(&mut self, start: u32, serial: u32) -> Option<Area>
         ensures found { IfSome result (λ area. named_areas start serial self.old.areas ≡ area ∷ []) }
         ensures page { IfSome result (λ area. 1 ≤ area.span.pages) }
@@ -147,18 +152,22 @@ impl BusySide {
         }
     }
 
-    /// Takes the areas with these starts away. It takes no memory.
+    /// Takes the areas with these starts away, whatever their serials, as `unlink_va` does. Where no area has a start,
+    /// that start changes nothing. It takes no memory.
     pub fn unlink(&mut self, starts: &[u32])
-        ensures { self.new ≡ record self.old { areas = areas_elsewhere starts.now self.old.areas } }
+        ensures others { self.new ≡ record self.old { areas = areas_elsewhere starts.now self.old.areas } }
     {
         for start in starts {
             self.areas.remove(start);
         }
     }
 
-    /// The area that holds a page.
+    /// The area that holds a page, as `find_vmap_area` gives it for an address. It takes no memory, and time for the
+    /// depth of the tree.
     pub fn find(&self, page: u32) -> Option<Area>
-        ensures { result ≡ find (λ (a : Area). holds a.span page) self.now.areas }
+        ensures kept { IfSome result (Contains self.now.areas) }
+        ensures found { IfSome result (λ area. holds area.span page ≡ true) }
+        ensures none { IsNone result ↔ (covers (spans_of self.now.areas) page ≡ false) }
     {
         let (_, area) = self.areas.range(..=page).next_back()?;
         if page - area.span.start < area.span.pages {
@@ -168,24 +177,17 @@ impl BusySide {
         }
     }
 
-    /// How many areas there are.
+    /// How many areas are live. It takes no memory.
     pub fn len(&self) -> u32
-        ensures { result ≡ length self.now.areas }
+        ensures count { result ≡ length self.now.areas }
     {
         self.areas.len() as u32
     }
 
-    /// Whether there is no area.
-    pub fn is_empty(&self) -> bool
-        ensures { IsTrue result ↔ (self.now.areas ≡ []) }
-    {
-        self.areas.is_empty()
-    }
-
-    /// An area by its place among all by rising start, from 0. It takes time for all before it.
+    /// An area by its place among all by rising start, from 0. It takes time for all before it, and no memory.
     pub fn area_at(&self, index: u32) -> Area
-        requires { index < length self.now.areas }
-        ensures { slice_get self.now.areas index ≡ Some result }
+        requires place { index < length self.now.areas }
+        ensures area { slice_get self.now.areas index ≡ Some result }
     {
         match self.areas.values().nth(index as usize) {
             Some(area) => *area,
@@ -193,11 +195,11 @@ impl BusySide {
         }
     }
 
-    /// All areas by rising start, in one pass.
-    pub fn areas(&self, alloc: Global) -> Result<AreaList, AllocError>
-        ensures { IfOk result (λ areas. areas ≡ self.now.areas) }
+    /// All areas by rising start, in one pass, as `/proc/vmallocinfo` lists them.
+    pub fn areas(&self) -> Result<AreaList, AllocError>
+        ensures all { IfOk result (λ areas. areas ≡ self.now.areas) }
     {
-        Ok(AreaList::of(self.areas.values().copied().collect(alloc)?))
+        Ok(AreaList::of(self.areas.values().copied().collect(self.alloc)?))
     }
 }
 
@@ -205,12 +207,13 @@ impl BusySide {
 mod tests {
     use super::*;
 
-    /// Whether a span may become an area: it has a page, and no area holds a page of it.
+    /// Whether a span may become an area: it has a page, no area holds a page of it, and a serial is left.
     fn is_open(side: &BusySide, span: Span) -> bool
         ensures page { IsTrue result → 0 < span.pages }
         ensures unused { IsTrue result → IsUnused side.now.areas span }
+        ensures serials { IsTrue result → side.now.next + 1 < 2 ^ 32 }
     {
-        if span.pages == 0 || span.pages > u32::MAX - span.start {
+        if span.pages == 0 || span.pages > u32::MAX - span.start || side.next == u32::MAX {
             return false;
         }
         for page in span.start..span.start + span.pages {
@@ -257,12 +260,12 @@ mod tests {
             area(8, 4, 1),
             area(40, 1, 3),
         ];
-        assert_eq!(rt; side.areas(rt.alloc())?.as_slice(), rows.as_slice());
+        assert_eq!(rt; side.areas()?.as_slice(), rows.as_slice());
         assert_eq!(rt; side.len(), 5);
         for index in 0..side.len() {
             assert_eq!(rt; side.area_at(index), rows[index as usize]);
         }
-        assert!(rt; !side.is_empty() && BusySide::new(rt.alloc()).is_empty());
+        assert_eq!(rt; BusySide::new(rt.alloc()).len(), 0);
         Ok(())
     }
 
@@ -301,10 +304,7 @@ mod tests {
         assert_eq!(rt; side.insert(again, AreaKind::Vmalloc, 7)?, 3);
         assert_eq!(rt; side.remove(4, 1), None);
         assert_eq!(rt; side.remove(6, 2), Some(area(6, 3, 2)));
-        assert_eq!(rt;
-            side.areas(rt.alloc())?.as_slice(),
-            [area(4, 2, 3)].as_slice()
-        );
+        assert_eq!(rt; side.areas()?.as_slice(), [area(4, 2, 3)].as_slice());
         Ok(())
     }
 
@@ -313,11 +313,11 @@ mod tests {
         let mut side = filled(rt.alloc(), &[(16, 8), (0, 8), (8, 8), (24, 1)])?;
         side.unlink(&[16, 0, 9]);
         let rows = [area(8, 8, 3), area(24, 1, 4)];
-        assert_eq!(rt; side.areas(rt.alloc())?.as_slice(), rows.as_slice());
+        assert_eq!(rt; side.areas()?.as_slice(), rows.as_slice());
         side.unlink(&[]);
         assert_eq!(rt; side.len(), 2);
         side.unlink(&[24, 8]);
-        assert!(rt; side.is_empty());
+        assert_eq!(rt; side.len(), 0);
         Ok(())
     }
 
@@ -332,10 +332,175 @@ mod tests {
         ];
         assert_eq!(rt; side.insert_all(&spans, 7)?, 1);
         let rows = [area(0, 2, 2), area(2, 1, 3), area(8, 4, 1)];
-        assert_eq!(rt; side.areas(rt.alloc())?.as_slice(), rows.as_slice());
+        assert_eq!(rt; side.areas()?.as_slice(), rows.as_slice());
         let next = Span { start: 4, pages: 4 };
         assert!(rt; is_open(&side, next));
         assert_eq!(rt; side.insert(next, AreaKind::Vmalloc, 7)?, 4);
+        Ok(())
+    }
+
+    /// Numbers that look drawn: a linear congruential generator.
+    #[derive(Drop)]
+    struct Draws {
+        state: u64,
+    }
+
+    impl Draws {
+        /// A number below a limit.
+        fn below(&mut self, limit: u32) -> u32
+            requires { 0 < limit }
+            ensures { result < limit }
+        {
+            self.state = self
+                .state
+                .wrapping_mul(6_364_136_223_846_793_005)
+                .wrapping_add(1_442_695_040_888_963_407);
+            ((self.state >> 33) % u64::from(limit)) as u32
+        }
+    }
+
+    /// What a side should keep: the areas in a plain list, and the serial of the next.
+    #[derive(Drop)]
+    struct Plain {
+        areas: Vec<Area>,
+        next: u32,
+    }
+
+    /// Whether two spans share no page.
+    fn are_apart(left: Span, right: Span) -> bool {
+        let left_end = u64::from(left.start) + u64::from(left.pages);
+        let right_end = u64::from(right.start) + u64::from(right.pages);
+        left_end <= u64::from(right.start) || right_end <= u64::from(left.start)
+    }
+
+    impl Plain {
+        fn is_open(&self, span: Span) -> bool {
+            span.pages > 0 && self.areas.iter().all(|area| are_apart(area.span, span))
+        }
+
+        fn put(&mut self, span: Span) -> Result<u32, AllocError> {
+            let serial = self.next;
+            self.areas.push(area(span.start, span.pages, serial))?;
+            self.next = serial.saturating_add(1);
+            Ok(serial)
+        }
+
+        fn at(&self, page: u32) -> Option<Area> {
+            let span = Span {
+                start: page,
+                pages: 1,
+            };
+            let mut areas = self.areas.iter().copied();
+            areas.find(|area| !are_apart(area.span, span))
+        }
+
+        fn remove(&mut self, start: u32, serial: u32) -> Option<Area> {
+            let mut areas = self.areas.iter().copied();
+            let found = areas.find(|area| area.span.start == start && area.serial == serial);
+            self.areas
+                .retain(|area| area.span.start != start || area.serial != serial);
+            found
+        }
+    }
+
+    /// Puts a span into both where it is open.
+    fn insert_both(side: &mut BusySide, plain: &mut Plain, span: Span) -> Result<bool, AllocError> {
+        if !is_open(side, span) {
+            return Ok(!plain.is_open(span));
+        }
+        let is_open = plain.is_open(span);
+        let serial = side.insert(span, AreaKind::Vmalloc, 7)?;
+        Ok(is_open && serial == plain.put(span)?)
+    }
+
+    /// Puts two spans into both at once where they are open and the first ends before the second.
+    fn insert_two(
+        side: &mut BusySide,
+        plain: &mut Plain,
+        low: Span,
+        high: Span,
+    ) -> Result<bool, AllocError> {
+        if !is_open(side, low) || !is_open(side, high) {
+            return Ok(!plain.is_open(low) || !plain.is_open(high));
+        }
+        if low.pages > high.start || low.start > high.start - low.pages || side.next > 1_000_000 {
+            return Ok(true);
+        }
+        let are_open = plain.is_open(low) && plain.is_open(high);
+        let new = [(low, AreaKind::Vmalloc), (high, AreaKind::Vmalloc)];
+        let first = side.insert_all(&new, 7)?;
+        let serials = (plain.put(low)?, plain.put(high)?);
+        Ok(are_open && serials == (first, first.wrapping_add(1)))
+    }
+
+    /// Takes the area that holds a page out of both, or asks for another serial at its start.
+    fn remove_both(side: &mut BusySide, plain: &mut Plain, page: u32, wrong: u32) -> bool {
+        let (start, serial) = match plain.at(page) {
+            Some(area) => (area.span.start, area.serial.wrapping_add(wrong)),
+            None => (page, wrong),
+        };
+        side.remove(start, serial) == plain.remove(start, serial)
+    }
+
+    /// Makes a drawn call on both, and tells whether they answer alike.
+    fn step(draws: &mut Draws, side: &mut BusySide, plain: &mut Plain) -> Result<bool, AllocError> {
+        let span = Span {
+            start: draws.below(64),
+            pages: draws.below(5),
+        };
+        match draws.below(6) {
+            0 | 1 => insert_both(side, plain, span),
+            2 => {
+                let high = Span {
+                    start: span.start + 4 + draws.below(4),
+                    pages: 1 + draws.below(3),
+                };
+                insert_two(side, plain, span, high)
+            }
+            3 | 4 => Ok(remove_both(side, plain, span.start, draws.below(3) / 2)),
+            _ => {
+                let starts = [span.start, draws.below(64)];
+                side.unlink(&starts);
+                plain
+                    .areas
+                    .retain(|area| !starts.contains(&area.span.start));
+                Ok(true)
+            }
+        }
+    }
+
+    /// Whether a side has the areas of the list, and finds each of them.
+    fn are_alike(side: &BusySide, plain: &mut Plain) -> Result<bool, AllocError> {
+        plain.areas.sort_by_key(|area| area.span.start)?;
+        if side.areas()?.as_slice() != plain.areas.as_slice() {
+            return Ok(false);
+        }
+        for index in 0..side.len() {
+            if Some(&side.area_at(index)) != plain.areas.get(index as usize) {
+                return Ok(false);
+            }
+        }
+        for page in 0..80 {
+            if side.find(page) != plain.at(page) {
+                return Ok(false);
+            }
+        }
+        Ok(true)
+    }
+
+    #[test]
+    fn keeps_the_areas_of_a_plain_list(rt: HostRuntime) -> Result<(), AllocError> {
+        let mut draws = Draws { state: 1 };
+        let mut side = BusySide::new(rt.alloc());
+        let mut plain = Plain {
+            areas: Vec::new(rt.alloc()),
+            next: 1,
+        };
+        for count in 0..200 {
+            assert!(rt; step(&mut draws, &mut side, &mut plain)?, "{count}");
+            assert!(rt; are_alike(&side, &mut plain)?, "{count}");
+        }
+        assert!(rt; plain.next > 40, "{}", plain.next);
         Ok(())
     }
 }

@@ -11,7 +11,8 @@ use Rattle.vm_model.proofs.Runs.{holds-in, covers-runs}
 use Rattle.augmented_tree.proofs.FirstStart.{first_of, one_longer-first}
 use Rattle.augmented_tree.proofs.Finds.{last_of-kept}
 use Rattle.unit_layout.specs.declared.layout.Group.{Group}
-use Rattle.congruent_areas.specs.Groups.{IsFree, AreFreeAt, HasGroups, spans_of, span_at}
+use Rattle.augmented_tree.specs.FreeBlocks.{IsFree}
+use Rattle.congruent_areas.specs.Groups.{IsBase, HasGroups, spans_of, span_at}
 use Rattle.congruent_areas.proofs.Lowering.{first_free, holds-from, holds-to}
 
 -- How many places are free from one on.
@@ -122,7 +123,7 @@ free_within (b ∷ taken) (suc k) e = let rest : k < length taken = free_within 
 -- The base of a machine's groups.
 
 module _ (c : Setup) (laid : List Group) (align : ℕ) (blocks : List Span) (taken : List Bool) (has : HasGroups c laid align) (same : blocks ≡ runs taken) where
-  fit : (base : ℕ) → AreFreeAt blocks laid align base → groups_fit c (free_from taken) base ≡ true
+  fit : (base : ℕ) → IsBase blocks laid align base → groups_fit c (free_from taken) base ≡ true
   fit base free =
       let aligned : (base % c.atom == 0) ≡ true = subst (λ k. (base % k == 0) ≡ true) (sym has.atom) (zero_test (base % align) free.aligned) in
       let room : list_all (has_room taken) (groups_at c base) ≡ true =
@@ -133,7 +134,7 @@ module _ (c : Setup) (laid : List Group) (align : ℕ) (blocks : List Span) (tak
       zero_test : (n : ℕ) → n ≡ 0 → (n == 0) ≡ true
       zero_test n e = grind (arith, nat_tests)
 
-  free_where_fit : (base : ℕ) → groups_fit c (free_from taken) base ≡ true → AreFreeAt blocks laid align base
+  free_where_fit : (base : ℕ) → groups_fit c (free_from taken) base ≡ true → IsBase blocks laid align base
   free_where_fit base e =
       let parts = and_parts (base % c.atom == 0) (list_all (has_room taken) (groups_at c base)) e in
       record {
@@ -146,10 +147,10 @@ module _ (c : Setup) (laid : List Group) (align : ℕ) (blocks : List Span) (tak
       test_zero n e = grind (arith, nat_tests)
 
   -- what is found where no base will do, and where one will do and none above it
-  pub no_base : ((b : ℕ) → AreFreeAt blocks laid align b → ⊥) → None ≡ highest c taken
+  pub no_base : ((b : ℕ) → IsBase blocks laid align b → ⊥) → None ≡ highest c taken
   no_base none = sym (ap last_of (none_in_count (groups_fit c (free_from taken)) (length taken) 0 (λ q low high. false_from_ne_true _ (λ e. none q (free_where_fit q e)))))
 
-  pub the_base : (base : ℕ) → 1 ≤ length laid → All (λ (g : Group). 1 ≤ g.pages) laid → AreFreeAt blocks laid align base → ((b : ℕ) → AreFreeAt blocks laid align b → b ≤ base) → Some base ≡ highest c taken
+  pub the_base : (base : ℕ) → 1 ≤ length laid → All (λ (g : Group). 1 ≤ g.pages) laid → IsBase blocks laid align base → ((b : ℕ) → IsBase blocks laid align b → b ≤ base) → Some base ≡ highest c taken
   the_base base some pages free greatest =
       sym (last_in_count (groups_fit c (free_from taken)) (length taken) 0 base (omega arith) (omega (arith, within laid some pages free.free)) (fit base free)
       (λ q low high. false_from_ne_true _ (λ e. let le : q ≤ base = greatest q (free_where_fit q e) in absurd (omega arith))))

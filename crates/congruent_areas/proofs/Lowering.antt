@@ -8,7 +8,8 @@ use Rattle.vm_model.specs.declared.areas.Span.{Span}
 use Rattle.vm_model.specs.Space.{end_of, holds, covers}
 use Rattle.vm_model.proofs.Runs.{holds-in}
 use Rattle.unit_layout.specs.declared.layout.Group.{Group}
-use Rattle.congruent_areas.specs.Groups.{IsFree, AreFreeAt, IsLastUpTo, span_at}
+use Rattle.augmented_tree.specs.FreeBlocks.{IsFree}
+use Rattle.congruent_areas.specs.Groups.{IsBase, IsLastUpTo, span_at}
 
 -- between a span's first page and its end
 pub holds-from : (s : Span) (page : ℕ) → holds s page ≡ true → s.start ≤ page
@@ -21,7 +22,7 @@ holds-to s page h = grind (arith, nat_tests)
 pub first_free : (blocks : List Span) (g : Group) (b : ℕ) → 1 ≤ g.pages → IsFree blocks (span_at b g) → covers blocks (b + g.offset) ≡ true
 first_free blocks g b some free = free (b + g.offset) (holds-in (span_at b g) (b + g.offset) (omega arith) (omega arith))
 
-pub first_page : (blocks : List Span) (groups : List Group) (align b : ℕ) → 1 ≤ length groups → All (λ (g : Group). 1 ≤ g.pages) groups → AreFreeAt blocks groups align b
+pub first_page : (blocks : List Span) (groups : List Group) (align b : ℕ) → 1 ≤ length groups → All (λ (g : Group). 1 ≤ g.pages) groups → IsBase blocks groups align b
     → covers blocks (b + (get_or groups 0 (record { offset = 0; pages = 0 })).offset) ≡ true
 first_page blocks groups align b some pages free =
     first_free blocks (get_or groups 0 (record { offset = 0; pages = 0 })) b

@@ -9,7 +9,8 @@ use Rattle.vm_model.specs.Setup.{last_of}
 use Rattle.vm_model.proofs.Runs.{covers-below, holds-above}
 use Rattle.augmented_tree.specs.Blocks.{AreBlocks}
 use Rattle.augmented_tree.proofs.SeparateBlocks.{covers-append, covers-before, separate-tail, cover_from_ends}
-use Rattle.congruent_areas.specs.Groups.{IsFree, IsLastUpTo}
+use Rattle.augmented_tree.specs.FreeBlocks.{IsFree}
+use Rattle.congruent_areas.specs.Groups.{IsLastUpTo}
 
 -- Where an element stands in a list.
 

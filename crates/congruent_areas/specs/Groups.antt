@@ -1,9 +1,10 @@
 -- The groups of a layout at a base, over free blocks.
-use Rattle.std.specs.Prelude.{◌≡◌, ℕ, ◌+◌, ◌%◌, ◌≤◌, true, false, max, List, length, map, All}
+use Rattle.std.specs.Prelude.{◌≡◌, ℕ, ◌+◌, ◌%◌, ◌≤◌, Bool, false, max, List, length, map, All, Option}
 use Rattle.vm_model.specs.declared.areas.Span.{Span}
-use Rattle.vm_model.specs.Space.{span, end_of, holds, covers}
-use Rattle.vm_model.specs.Setup.{Setup}
+use Rattle.vm_model.specs.Space.{span, end_of, covers}
+use Rattle.vm_model.specs.Setup.{Setup, highest}
 use Rattle.vm_model.specs.Rules.{AreDisjoint}
+use Rattle.augmented_tree.specs.FreeBlocks.{FreeBlocks, AreFreeRuns, IsFree}
 use Rattle.unit_layout.specs.declared.layout.Group.{Group}
 
 -- where the groups lie in a chunk, and at a base
@@ -29,14 +30,23 @@ pub record HasGroups (c : Setup) (laid : List Group) (align : ℕ) : Type 0 wher
   pub groups : c.groups ≡ spans_of laid
   pub atom : c.atom ≡ align
 
--- the pages of a span are in the blocks
-abbrev pub IsFree : List Span → Span → Type 0
-IsFree blocks s = (page : ℕ) → holds s page ≡ true → covers blocks page ≡ true
-
 -- the base is a multiple of the alignment, and each group's span there is free
-pub record AreFreeAt (blocks : List Span) (groups : List Group) (align base : ℕ) : Type 0 where
+pub record IsBase (blocks : List Span) (groups : List Group) (align base : ℕ) : Type 0 where
   pub aligned : base % align ≡ 0
   pub free : All (λ (g : Group). IsFree blocks (span_at base g)) groups
+
+-- there is a base
+abbrev pub HasBase : List Span → List Group → (align : ℕ) → Type 0
+HasBase blocks groups align = (base : ℕ) × IsBase blocks groups align base
+
+-- the number is a base, and no greater one is
+pub record IsGreatestBase (blocks : List Span) (groups : List Group) (align base : ℕ) : Type 0 where
+  pub is_base : IsBase blocks groups align base
+  pub greatest : (b : ℕ) → IsBase blocks groups align b → b ≤ base
+
+-- what the plain map finds for each machine with these groups
+abbrev pub IsBaseOfTheMap : FreeBlocks → List Group → (align : ℕ) → Option ℕ → Type 0
+IsBaseOfTheMap side groups align found = (c : Setup) (taken : List Bool) → HasGroups c groups align → AreFreeRuns side taken → found ≡ highest c taken
 
 -- the pages of a block are free, it begins at a page or before, and from its end up to that page nothing is free
 pub record IsLastUpTo (blocks : List Span) (page : ℕ) (block : Span) : Type 0 where

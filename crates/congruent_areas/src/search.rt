@@ -1,16 +1,14 @@
 //! The search for the highest base. Functions of mm/vmalloc.c of Linux 6.1 that these follow are named with them.
-ghost use Rattle.std.specs.Prelude.{◌≡◌, ◌+◌, ◌-◌, ◌%◌, ◌<◌, ◌≤◌, ℕ, true, false, List, Bool, length, option_map, All, IfSome, IfNone, IfOk, OnErr};
-ghost use Rattle.vm_model.specs.Space.{covers, paint};
-ghost use Rattle.vm_model.specs.Setup as model;
-ghost use Rattle.vm_model.specs.Setup.{Setup};
-ghost use Rattle.augmented_tree.specs.FreeBlocks.{AreFreeRuns};
+ghost use Rattle.std.specs.Prelude.{◌≡◌, ◌+◌, ◌-◌, ◌%◌, ◌<◌, ◌≤◌, ℕ, true, false, length, option_map, All, IfSome, IfNone, IfOk, OnErr};
+ghost use Rattle.vm_model.specs.Space.{covers};
+ghost use Rattle.augmented_tree.specs.FreeBlocks.{AreFreeRuns, IsFree, LeavesRunsWithout};
 ghost use Rattle.unit_layout.specs.declared.layout.Group.{Group};
-ghost use Rattle.congruent_areas.specs.Groups.{AreLaidOut, HasGroups, IsFree, AreFreeAt, IsLastUpTo, span_at, spans_at};
+ghost use Rattle.congruent_areas.specs.Groups.{AreLaidOut, IsBase, HasBase, IsGreatestBase, IsBaseOfTheMap, IsLastUpTo, span_at, spans_at};
 ghost use Rattle.congruent_areas.specs.declared.bundle.Bundle.{Bundle};
 
 use crate::bundle::{Bundle, GroupSpans};
 use augmented_tree::FreeSide;
-use std::alloc::AllocError;
+use std::alloc::{AllocError, Global};
 use unit_layout::Group;
 use vm_model::Span;
 
@@ -56,9 +54,9 @@ fn lowered_by_all(free: &FreeSide, groups: &[Group], align: u32, from: u32) -> O
     requires aligned { from % align ≡ 0 }
     ensures lower { IfSome result (λ base. base ≤ from) }
     ensures aligned { IfSome result (λ base. base % align ≡ 0) }
-    ensures fit { IfSome result (λ base. base ≡ from → AreFreeAt free.now.blocks groups.now align from) }
-    ensures above { IfSome result (λ base. (b : ℕ) → b ≤ from → AreFreeAt free.now.blocks groups.now align b → b ≤ base) }
-    ensures none { IfNone result ((b : ℕ) → b ≤ from → AreFreeAt free.now.blocks groups.now align b → ⊥) }
+    ensures fit { IfSome result (λ base. base ≡ from → IsBase free.now.blocks groups.now align from) }
+    ensures above { IfSome result (λ base. (b : ℕ) → b ≤ from → IsBase free.now.blocks groups.now align b → b ≤ base) }
+    ensures none { IfNone result ((b : ℕ) → b ≤ from → IsBase free.now.blocks groups.now align b → ⊥) }
 {
     let mut base = from;
     for group in groups {
@@ -74,8 +72,9 @@ fn lowered_by_all(free: &FreeSide, groups: &[Group], align: u32, from: u32) -> O
 pub fn highest(free: &FreeSide, groups: &[Group], align: u32) -> Option<u32>
     requires groups { AreLaidOut groups.now }
     requires align { 1 ≤ align }
-    ensures base { (c : Setup) (taken : List Bool) → HasGroups c groups.now align → AreFreeRuns free.now taken → result ≡ model.highest c taken }
-    ensures free { IfSome result (AreFreeAt free.now.blocks groups.now align) }
+    ensures base { IsBaseOfTheMap free.now groups.now align result }
+    ensures greatest { IfSome result (IsGreatestBase free.now.blocks groups.now align) }
+    ensures none { IfNone result (HasBase free.now.blocks groups.now align → ⊥) }
     ensures within { IfSome result (λ base. base ≤ 1048576) }
 {
     let top = block_up_to(free, LARGEST_SPACE)?;
@@ -91,16 +90,16 @@ pub fn highest(free: &FreeSide, groups: &[Group], align: u32) -> Option<u32>
 }
 
 /// Takes the groups' spans at a base out, where they are free and there is a spare node for each. It takes no memory.
-fn carve_spans(free: &mut FreeSide, groups: &[Group], base: u32) -> GroupSpans
+fn carve_spans(alloc: Global, free: &mut FreeSide, groups: &[Group], base: u32) -> GroupSpans
     requires groups { AreLaidOut groups.now }
     requires base { base ≤ 1048576 }
     requires free { All (λ (g : Group). IsFree free.old.blocks (span_at base g)) groups.now }
     requires spare { length groups.now ≤ free.old.spare }
     ensures spans { result ≡ spans_at base groups.now }
-    ensures carved { (taken : List Bool) → AreFreeRuns free.old taken → AreFreeRuns free.new (paint (covers (spans_at base groups.now)) true taken) }
+    ensures carved { LeavesRunsWithout free.old free.new (covers (spans_at base groups.now)) }
     ensures spare { free.new.spare + length groups.now ≡ free.old.spare }
 {
-    let mut spans = GroupSpans::new(*free.allocator());
+    let mut spans = GroupSpans::new(alloc);
     for group in groups {
         let span = Span {
             start: base + group.offset,
@@ -112,27 +111,31 @@ fn carve_spans(free: &mut FreeSide, groups: &[Group], base: u32) -> GroupSpans
     spans
 }
 
-/// Takes the groups' spans at the greatest base out, as `pcpu_get_vm_areas` does, or none where there is no base. Room
-/// for all cuts is taken first, by spare nodes, of which each group uses one up. An error leaves the free pages as they
-/// were.
+/// Takes the groups' spans at the greatest base out, as `pcpu_get_vm_areas` does, or none where there is no base. The
+/// alignment is in pages. Room for all cuts is taken first, by spare nodes, of which each group uses one up. An error
+/// comes only for want of this room, which is taken only where there is a base, and leaves the free pages as they were.
 pub fn carve_groups(
+    alloc: Global,
     free: &mut FreeSide,
     groups: &[Group],
     align: u32,
 ) -> Result<Option<Bundle>, AllocError>
     requires groups { AreLaidOut groups.now }
     requires align { 1 ≤ align }
-    ensures base { IfOk result (λ found. (c : Setup) (taken : List Bool) → HasGroups c groups.now align → AreFreeRuns free.old taken → option_map (λ (bundle : Bundle). bundle.base) found ≡ model.highest c taken) }
+    ensures base { IfOk result (λ found. IsBaseOfTheMap free.old groups.now align (option_map (λ (bundle : Bundle). bundle.base) found)) }
+    ensures greatest { IfOk result (λ found. IfSome found (λ bundle. IsGreatestBase free.old.blocks groups.now align bundle.base)) }
     ensures spans { IfOk result (λ found. IfSome found (λ bundle. bundle.spans ≡ spans_at bundle.base groups.now)) }
-    ensures carved { IfOk result (λ found. IfSome found (λ bundle. (taken : List Bool) → AreFreeRuns free.old taken → AreFreeRuns free.new (paint (covers bundle.spans) true taken))) }
+    ensures carved { IfOk result (λ found. IfSome found (λ bundle. LeavesRunsWithout free.old free.new (covers bundle.spans))) }
     ensures spare { IfOk result (λ found. IfSome found (λ bundle. free.new.spare ≡ free.old.spare - length groups.now)) }
-    ensures none { IfOk result (λ found. IfNone found (free.new ≡ free.old)) }
+    ensures none { IfOk result (λ found. IfNone found (HasBase free.old.blocks groups.now align → ⊥)) }
+    ensures unchanged { IfOk result (λ found. IfNone found (free.new ≡ free.old)) }
+    ensures memory { OnErr result (HasBase free.old.blocks groups.now align) }
     ensures err { OnErr result (free.new ≡ free.old) }
 {
     let Some(base) = highest(free, groups, align) else {
         return Ok(None);
     };
     free.reserve(groups.len() as u32)?;
-    let spans = carve_spans(free, groups, base);
+    let spans = carve_spans(alloc, free, groups, base);
     Ok(Some(Bundle { base, spans }))
 }

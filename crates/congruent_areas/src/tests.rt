@@ -1,5 +1,5 @@
 //! Bases that are known, and bases against a plain search that looks at each of them.
-ghost use Rattle.std.specs.Prelude.{IsTrue, ◌≡◌, ◌+◌, ◌≤◌, ◌⊎◌, All};
+ghost use Rattle.std.specs.Prelude.{IsTrue, ◌≡◌, ◌+◌, ◌<◌, ◌≤◌, ◌⊎◌, All};
 ghost use Rattle.unit_layout.specs.declared.layout.Group.{Group};
 ghost use Rattle.congruent_areas.specs.Groups.{AreLaidOut};
 
@@ -109,6 +109,7 @@ fn are_laid_out(groups: &[Group]) -> bool
 /// Carves groups where the plain search says, or not at all where it finds no base. Whether it found one.
 fn carves_as_plain(
     rt: &impl Abort,
+    alloc: Global,
     space: &mut Space,
     groups: &[Group],
     align: u32,
@@ -118,7 +119,7 @@ fn carves_as_plain(
 {
     let wanted = plain_highest(&space.taken, groups, align);
     assert_eq!(rt; highest(&space.free, groups, align), wanted);
-    let Some(bundle) = carve_groups(&mut space.free, groups, align)? else {
+    let Some(bundle) = carve_groups(alloc, &mut space.free, groups, align)? else {
         assert_eq!(rt; wanted, None);
         return Ok(false);
     };
@@ -135,6 +136,7 @@ fn carves_as_plain(
 /// Carves groups as often as there is a base for them, and tells how often that was.
 fn carve_all(
     rt: &impl Abort,
+    alloc: Global,
     space: &mut Space,
     groups: &[Group],
     align: u32,
@@ -143,7 +145,7 @@ fn carve_all(
     requires align { 1 ≤ align }
 {
     for times in 0..64 {
-        if !carves_as_plain(rt, space, groups, align)? {
+        if !carves_as_plain(rt, alloc, space, groups, align)? {
             return Ok(times);
         }
     }
@@ -211,9 +213,69 @@ fn bases_of_a_plain_search(rt: HostRuntime) -> Result<(), AllocError> {
         let mut space = Space::with_holes(rt.alloc(), holes)?;
         assert!(rt; space.is_exact());
         assert!(rt; align > 0 && are_laid_out(&groups));
-        found = found.saturating_add(carve_all(&rt, &mut space, &groups, align)?);
+        found = found.saturating_add(carve_all(&rt, rt.alloc(), &mut space, &groups, align)?);
     }
     assert!(rt; found > 100, "{found} bases");
+    Ok(())
+}
+
+/// Numbers as by dice, the same ones each time.
+#[derive(Drop)]
+struct Dice {
+    state: u32,
+}
+
+impl Dice {
+    /// A number below a limit.
+    fn below(&mut self, limit: u32) -> u32
+        requires { 1 ≤ limit }
+        ensures { result < limit }
+    {
+        self.state = self
+            .state
+            .wrapping_mul(1_664_525)
+            .wrapping_add(1_013_904_223);
+        (self.state / 65_536) % limit
+    }
+}
+
+/// Groups of a few pages, one behind the other, with gaps between some of them.
+fn drawn_groups(alloc: Global, dice: &mut Dice) -> Result<Vec<Group>, AllocError> {
+    let mut groups = Vec::new(alloc);
+    let mut offset = 0u32;
+    for _ in 0..1 + dice.below(6) {
+        let pages = 1 + dice.below(3);
+        groups.push(Group { offset, pages })?;
+        offset = offset.saturating_add(pages + dice.below(5));
+    }
+    Ok(groups)
+}
+
+/// Holes of a few pages.
+fn drawn_holes(alloc: Global, dice: &mut Dice) -> Result<Vec<(u32, u32)>, AllocError> {
+    let mut holes = Vec::new(alloc);
+    for _ in 0..dice.below(16) {
+        let pages = 1 + dice.below(3);
+        let align = 1 + dice.below(40);
+        holes.push((pages, align))?;
+    }
+    Ok(holes)
+}
+
+#[test]
+fn drawn_groups_over_drawn_pages(rt: HostRuntime) -> Result<(), AllocError> {
+    let mut dice = Dice { state: 1 };
+    let mut found = 0u32;
+    for _ in 0..60 {
+        let align = 1 + dice.below(4);
+        let groups = drawn_groups(rt.alloc(), &mut dice)?;
+        let holes = drawn_holes(rt.alloc(), &mut dice)?;
+        let mut space = Space::with_holes(rt.alloc(), &holes)?;
+        assert!(rt; space.is_exact());
+        assert!(rt; are_laid_out(&groups));
+        found = found.saturating_add(carve_all(&rt, rt.alloc(), &mut space, &groups, align)?);
+    }
+    assert!(rt; found > 60, "{found} bases");
     Ok(())
 }
 
@@ -243,7 +305,7 @@ fn two_groups_in_64_pages(rt: HostRuntime) -> Result<(), Fail> {
     let mut free = FreeSide::whole(rt.alloc(), 64)?;
     for base in [40, 32, 8, 0] {
         assert_eq!(rt; highest(&free, groups, atom), Some(base));
-        let bundle = carve_groups(&mut free, groups, atom)?.expect(&rt, "a base");
+        let bundle = carve_groups(rt.alloc(), &mut free, groups, atom)?.expect(&rt, "a base");
         assert_eq!(rt; bundle.base, base);
         let spans = [
             Span {
@@ -257,7 +319,7 @@ fn two_groups_in_64_pages(rt: HostRuntime) -> Result<(), Fail> {
         ];
         assert_eq!(rt; bundle.spans.as_slice(), spans.as_slice());
     }
-    assert!(rt; carve_groups(&mut free, groups, atom)?.is_none());
+    assert!(rt; carve_groups(rt.alloc(), &mut free, groups, atom)?.is_none());
     assert_eq!(rt; free.len(), 0);
     Ok(())
 }

@@ -64,7 +64,8 @@ sum-total space (s ∷ spans) ends =
     let EndsBy : Span → Type 0 = λ s. end_of s ≤ space in
     omega (arith, sum_by-cons (λ (s : Span). s.pages) s spans, total-cons space s spans, inside-behind space s (All-head EndsBy s spans ends), sum-total space spans (All-tail EndsBy s spans ends))
 
-pub disjoint_spans_fit : (space : ℕ) (spans : List Span) → All (λ (s : Span). end_of s ≤ space) spans → ((page : ℕ) → times page spans ≤ 1) → sum_of_pages spans ≤ space
+-- spans of a space that share no page have no more pages than the space
+disjoint_spans_fit : (space : ℕ) (spans : List Span) → All (λ (s : Span). end_of s ≤ space) spans → ((page : ℕ) → times page spans ≤ 1) → sum_of_pages spans ≤ space
 disjoint_spans_fit space spans ends once = omega (arith, sum-total space spans ends, total-le space spans once)
 
 -- what waits and what is added

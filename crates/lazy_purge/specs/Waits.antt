@@ -1,7 +1,7 @@
 -- Spans that wait, as a set keeps them.
 use Rattle.std.specs.Prelude.{◌≡◌, ℕ, ◌≤◌, List, All}
 use Rattle.vm_model.specs.declared.areas.Span.{Span}
-use Rattle.vm_model.specs.Space.{HasEnd, end_of, times, sum_of_pages}
+use Rattle.vm_model.specs.Space.{HasEnd, sum_of_pages}
 
 abbrev pub HasPage : Span → Type 0
 HasPage s = 1 ≤ s.pages
@@ -17,7 +17,3 @@ pub record AreCounted (spans : List Span) (pages : ℕ) : Type 0 where
   pub fits : pages ≤ 1048576
   pub some : All HasPage spans
   pub ends : All HasEnd spans
-
--- spans of a space that share no page have no more pages than the space
-abbrev pub DisjointSpansFit : Type 0
-DisjointSpansFit = (space : ℕ) (spans : List Span) → All (λ (s : Span). end_of s ≤ space) spans → ((page : ℕ) → times page spans ≤ 1) → sum_of_pages spans ≤ space

@@ -33,14 +33,15 @@ impl Batch {
         Batch { spans }
     }
 
-    /// From the lowest start to the highest end: what one flush goes over.
+    /// From the lowest start to the highest end, where there is a span: what `__purge_vmap_area_lazy` gives to one
+    /// `flush_tlb_kernel_range`. It takes time for each span, and no memory.
     pub fn hull(&self) -> Option<Span>
-        ensures { result ≡ hull self.now }
+        ensures hull { result ≡ hull self.now }
     {
         hull(&self.spans)
     }
 
-    /// The spans, as they were added.
+    /// The spans, in the order in which they were added. It takes no memory.
     pub fn spans(&self) -> &[Span]
         ensures spans { result.now ≡ self.now }
         ensures some { All HasPage result.now }

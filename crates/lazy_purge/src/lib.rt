@@ -2,7 +2,6 @@
 #![tactic(auto)]
 
 mod batch;
-pub mod laws;
 mod lazy_side;
 
 pub use batch::Batch;

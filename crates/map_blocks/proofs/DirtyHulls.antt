@@ -55,11 +55,11 @@ sort_hull [] = refl
 sort_hull (x ∷ xs) = put_hull x (by_number xs) ∙ ap (with_range (dirty_range x.block)) (sort_hull xs)
 
 -- the model's
-pick : {X Y : Type 0} (f : X → Option Y) (x : X) (xs : List X) (o : Option Y) → f x ≡ o → filter_map f (x ∷ xs) ≡ filter_map (λ (p : Option Y). p) (o ∷ []) ++ filter_map f xs
+pub pick : {X Y : Type 0} (f : X → Option Y) (x : X) (xs : List X) (o : Option Y) → f x ≡ o → filter_map f (x ∷ xs) ≡ filter_map (λ (p : Option Y). p) (o ∷ []) ++ filter_map f xs
 pick f x xs None e = rw e refl
 pick f x xs (Some y) e = rw e refl
 
-listed_hull : (o : Option Span) (spans : List Span) → hull (filter_map (λ (p : Option Span). p) (o ∷ []) ++ spans) ≡ with_range o (hull spans)
+pub listed_hull : (o : Option Span) (spans : List Span) → hull (filter_map (λ (p : Option Span). p) (o ∷ []) ++ spans) ≡ with_range o (hull spans)
 listed_hull None spans = refl
 listed_hull (Some s) spans = refl
 

@@ -1,5 +1,5 @@
 -- A side without its fragmented blocks.
-use Rattle.std.proofs.Common.{◌≡◌, ℕ, ◌+◌, ◌<◌, Bool, true, false, not, ◌&&◌, ◌||◌, ◌==◌, nat_lt, cond, List, [], ◌∷◌, ◌++◌, length, map, filter, take, drop, get_or, Some, refl, sym, ap, subst, ◌∙◌, arith}
+use Rattle.std.proofs.Common.{◌≡◌, ◌≢◌, ℕ, zero, suc, ◌+◌, ◌<◌, Bool, true, false, not, ◌&&◌, ◌||◌, ◌==◌, nat_lt, cond, List, [], ◌∷◌, ◌++◌, length, map, filter, take, drop, get_or, Some, Result, Ok, Err, OnErr, refl, sym, ap, subst, ◌∙◌, arith}
 use Rattle.std.proofs.lemmas.Bool.Decides.{nat_tests}
 use Rattle.std.proofs.lemmas.List.{take_more, append-nil, drop_more}
 use Rattle.std.proofs.lemmas.List.Elements.{filter-append}
@@ -30,25 +30,27 @@ module _ (p : ℕ → Bool) (xs : List ℕ) (i : ℕ) (inside : i < length xs) w
   pub taken_no : p (get_or xs i 0) ≡ false → filter p (take (i + 1) xs) ≡ filter p (take i xs)
   taken_no e = taken ∙ ap (λ t. filter p (take i xs) ++ cond t (get_or xs i 0 ∷ []) []) e ∙ append-nil (filter p (take i xs))
 
+-- where one passes, some do
+some_by : (p : ℕ → Bool) (x : ℕ) (xs : List ℕ) (t : Bool) → filter p xs ≢ [] → cond t (x ∷ filter p xs) (filter p xs) ≢ []
+some_by p x xs true more = λ e. cc
+some_by p x xs false more = more
+
+pub some_taken : (p : ℕ → Bool) (xs : List ℕ) (i : ℕ) → i < length xs → p (get_or xs i 0) ≡ true → filter p xs ≢ []
+some_taken p [] i inside e = absurd (omega arith)
+some_taken p (x ∷ xs) zero inside e = λ none. (let first : cond true (x ∷ filter p xs) (filter p xs) ≡ [] = ap (λ t. cond t (x ∷ filter p xs) (filter p xs)) (sym e) ∙ none in cc)
+some_taken p (x ∷ xs) (suc i) inside e = some_by p x xs (p x) (some_taken p xs i (omega arith) e)
+
+-- what is said of errors
+pub on_err : {A E : Type 0} (P : Type 0) (r : Result A E) → P → OnErr r P
+on_err P (Ok x) holds = tt
+on_err P (Err e) holds = holds
+
+pub err_says : {A E : Type 0} (P : Type 0) (r : Result A E) (e : E) → r ≡ Err e → OnErr r P → P
+err_says {A = A} {E = E} P r e is says = subst (λ (q : Result A E). OnErr q P) is says
+
 -- one more is taken away
 pub without_more : (starts : List ℕ) (i : ℕ) (es : List (ℕ × KeptRow)) → i < length starts → without_all (drop (i + 1) starts) (remove_entry (at_key (get_or starts i 0)) es) ≡ without_all (drop i starts) es
 without_more starts i es inside = sym (ap (λ ks. without_all ks es) (drop_more starts i 0 inside))
-
-pub record IsSplit (es : List (ℕ × KeptRow)) (queue : List ℕ) (i : ℕ) (gone kept : List ℕ) : Type 0 where
-  pub broken : gone ≡ filter (is_broken es) (take i queue)
-  pub whole : kept ≡ filter (λ start. not (is_broken es start)) (take i queue)
-
-pub split_gone : (es : List (ℕ × KeptRow)) (queue : List ℕ) (i : ℕ) (gone kept : List ℕ) → i < length queue → IsSplit es queue i gone kept → is_broken es (get_or queue i 0) ≡ true → IsSplit es queue (i + 1) (gone ++ get_or queue i 0 ∷ []) kept
-split_gone es queue i gone kept inside split e = record {
-  broken = ap (λ xs. xs ++ get_or queue i 0 ∷ []) split.broken ∙ sym (taken_yes (is_broken es) queue i inside e);
-  whole = split.whole ∙ sym (taken_no (λ start. not (is_broken es start)) queue i inside (ap not e));
-}
-
-pub split_kept : (es : List (ℕ × KeptRow)) (queue : List ℕ) (i : ℕ) (gone kept : List ℕ) → i < length queue → IsSplit es queue i gone kept → is_broken es (get_or queue i 0) ≡ false → IsSplit es queue (i + 1) gone (kept ++ get_or queue i 0 ∷ [])
-split_kept es queue i gone kept inside split e = record {
-  broken = split.broken ∙ sym (taken_no (is_broken es) queue i inside e);
-  whole = ap (λ xs. xs ++ get_or queue i 0 ∷ []) split.whole ∙ sym (taken_yes (λ start. not (is_broken es start)) queue i inside (ap not e));
-}
 
 abbrev pub broken : ℕ → KeptRow → Bool
 broken pages r = is_fragmented (sized pages) r.block

@@ -17,5 +17,8 @@ mod Added
 mod Named
 mod Fragments
 mod DirtyHulls
+mod Clean
+mod Disjoint
+mod Checks
 mod TableRows
 mod Lists

@@ -1,24 +1,15 @@
 -- Reading the rows of blocks one block after another.
-use Rattle.std.proofs.Common.{◌≡◌, ◌≢◌, ℕ, zero, suc, ◌+◌, ◌-◌, ◌<◌, ◌≤◌, Bool, true, false, List, [], ◌∷◌, ◌++◌, length, map, flat_map, slice_get, All, Some, refl, sym, ap, ◌∙◌, arith}
-use Rattle.std.proofs.lemmas.Bool.Decides.{nat_tests}
+use Rattle.std.proofs.Common.{◌≡◌, ◌≢◌, ℕ, zero, suc, ◌+◌, ◌-◌, ◌<◌, ◌≤◌, List, [], ◌∷◌, ◌++◌, length, map, flat_map, slice_get, Some, refl, sym, ap, ◌∙◌, arith}
 use Rattle.std.proofs.lemmas.List.{append_assoc, length-append}
-use Rattle.std.proofs.lemmas.List.Sums.{sum_by-cons}
 use Rattle.std.specs.Map.{values_of}
-use Rattle.vm_model.specs.declared.areas.Span.{Span}
 use Rattle.vm_model.specs.declared.rows.BlockRow.{BlockRow}
 use Rattle.vm_model.specs.declared.rows.PartRow.{PartRow}
-use Rattle.vm_model.specs.Space.{span, end_of, holds, times, one_if}
-use Rattle.vm_model.specs.PlainMap.{Part}
-use Rattle.vm_model.specs.Blocks.{size_of}
 use Rattle.vm_model.specs.Tables.{block_row, part_rows}
-use Rattle.vm_model.specs.Laws.{ArePartsApart}
 use Rattle.map_blocks.specs.BlockRows.{sized}
-use Rattle.map_blocks.specs.KeptBlocks.{KeptRow, ArePacked}
-use Rattle.map_blocks.specs.KeptSides.{IsOwn, AreApartFrom, by_number, blocks_in}
+use Rattle.map_blocks.specs.KeptBlocks.{KeptRow}
+use Rattle.map_blocks.specs.KeptSides.{AreApartFrom}
 use Rattle.map_blocks.proofs.Parts.{length_le_size}
 use Rattle.map_blocks.proofs.Rows.{rows_few, get_behind}
-use Rattle.map_blocks.proofs.Sorted.{Holds}
-use Rattle.map_blocks.proofs.Chosen.{block_of, sorted_own}
 
 -- the row of a block, and the rows of its live parts
 abbrev pub own_row : KeptRow → BlockRow
@@ -96,30 +87,3 @@ module _ (rows rest : List KeptRow) (left index : ℕ) (all : List BlockRow) (r 
 
 pub row_none : (rows : List KeptRow) (left index : ℕ) (all : List BlockRow) → IsRowLeft rows left all index → rows ≡ [] → ⊥
 row_none rows left index all is none = (let some = is.some in omega (arith, ap (λ xs. length (map own_row xs)) none))
-
--- Parts of a block share no page.
-
-none_before : (page off : ℕ) (ps : List Part) → ArePacked off ps → page < off → times page (map (λ (p : Part). span p.offset (size_of p)) ps) ≡ 0
-none_before page off [] packed l = refl
-none_before page off (p ∷ ps) packed l =
-    let out : holds (span p.offset (size_of p)) page ≡ false = (let o = packed.0 in grind (arith, nat_tests)) in
-    let rest = none_before page (off + size_of p) ps packed.3 (omega arith) in
-    omega (arith, sum_by-cons (λ (s : Span). one_if (holds s page)) (span p.offset (size_of p)) (map (λ (p : Part). span p.offset (size_of p)) ps), ap one_if out)
-
-once_by : (page : ℕ) (p : Part) (ps : List Part) (t : Bool) → holds (span p.offset (size_of p)) page ≡ t → (t ≡ true → times page (map (λ (p : Part). span p.offset (size_of p)) ps) ≡ 0) → times page (map (λ (p : Part). span p.offset (size_of p)) ps) ≤ 1
-    → times page (map (λ (p : Part). span p.offset (size_of p)) (p ∷ ps)) ≤ 1
-once_by page p ps true e none more = omega (arith, sum_by-cons (λ (s : Span). one_if (holds s page)) (span p.offset (size_of p)) (map (λ (p : Part). span p.offset (size_of p)) ps), ap one_if e, none refl)
-once_by page p ps false e none more = omega (arith, sum_by-cons (λ (s : Span). one_if (holds s page)) (span p.offset (size_of p)) (map (λ (p : Part). span p.offset (size_of p)) ps), ap one_if e)
-
-once_in : (page off : ℕ) (ps : List Part) → ArePacked off ps → times page (map (λ (p : Part). span p.offset (size_of p)) ps) ≤ 1
-once_in page off [] packed = omega arith
-once_in page off (p ∷ ps) packed = once_by page p ps (holds (span p.offset (size_of p)) page) refl
-    (λ e. none_before page (off + size_of p) ps packed.3 (let o = packed.0 in let below : page < end_of (span p.offset (size_of p)) = grind (arith, nat_tests) in omega arith)) (once_in page (off + size_of p) ps packed.3)
-
-all_apart : (cpu pages added : ℕ) (rows : List KeptRow) → Holds (IsOwn cpu pages added) rows → All (ArePartsApart (sized pages)) (map block_of rows)
-all_apart cpu pages added [] own k d l = absurd (omega arith)
-all_apart cpu pages added (r ∷ rows) own zero d l = record { once = λ page. once_in page 0 r.block.parts own.0.packed; within = own.0.within }
-all_apart cpu pages added (r ∷ rows) own (suc k) d l = all_apart cpu pages added rows own.1 k d (omega arith)
-
-pub parts_apart : (cpu pages added : ℕ) (es : List (ℕ × KeptRow)) → AreApartFrom cpu pages added 0 es → All (ArePartsApart (sized pages)) (blocks_in (values_of es))
-parts_apart cpu pages added es apart = all_apart cpu pages added (by_number (values_of es)) (sorted_own cpu pages added 0 es apart)

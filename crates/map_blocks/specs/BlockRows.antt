@@ -1,14 +1,15 @@
 -- What the side of one processor's blocks keeps, and how it changes.
-use Rattle.std.specs.Prelude.{ℕ, ◌+◌, ◌≡◌, true, false, not, ◌&&◌, ◌==◌, if◌then◌else◌, List, [], ◌∷◌, ◌++◌, map, filter, flat_map, Option, Some, None}
+use Rattle.std.specs.Prelude.{ℕ, ◌+◌, ◌≡◌, Bool, true, false, not, ◌&&◌, ◌==◌, List, [], ◌∷◌, ◌++◌, map, filter, flat_map, Option, Some}
 use Rattle.vm_model.specs.declared.rows.BlockRow.{BlockRow}
 use Rattle.vm_model.specs.declared.rows.PartRow.{PartRow}
-use Rattle.vm_model.specs.Space.{span, holds, covers, is_among, sort_by}
+use Rattle.vm_model.specs.Space.{holds, covers, is_among, sort_by}
 use Rattle.vm_model.specs.declared.areas.Span.{Span}
 use Rattle.vm_model.specs.Setup.{Setup}
 use Rattle.vm_model.specs.PlainMap.{Block, InHand, Lives, Ended}
 use Rattle.vm_model.specs.Blocks as model
 use Rattle.vm_model.specs.Blocks.{PartAt}
 use Rattle.vm_model.specs.Tables.{block_row, part_rows}
+use Rattle.map_blocks.specs.BlockSpans.{block_span}
 use Rattle.map_blocks.specs.declared.part.Part.{Part}
 
 -- one processor's blocks of so many pages each, in the order in which they were added, and the serial of its next part
@@ -62,9 +63,9 @@ with_held caller at rows = record rows { blocks = model.set_life at (InHand call
 abbrev pub with_ended : PartAt → BlockRows → BlockRows
 with_ended at rows = record rows { blocks = model.without_spent (sized rows.pages) (model.set_life at Ended rows.blocks) }
 
--- the part's block, where the end of the part spends it
-abbrev pub spent_start : PartAt → BlockRows → Option ℕ
-spent_start at rows = if model.spends (sized rows.pages) at (model.set_life at Ended rows.blocks) then Some at.block else None
+-- whether the end of a part spends its block
+abbrev pub spends : PartAt → BlockRows → Bool
+spends at rows = model.spends (sized rows.pages) at (model.set_life at Ended rows.blocks)
 
 -- without the blocks with these starts
 abbrev pub without_blocks : List ℕ → BlockRows → BlockRows
@@ -77,6 +78,10 @@ block_table rows = sort_by (λ (b : BlockRow). b.start) (map (block_row (sized r
 abbrev pub part_table : BlockRows → List PartRow
 part_table rows = sort_by (λ (p : PartRow). p.span.start) (flat_map part_rows rows.blocks)
 
+-- no page of a block is in an ended part
+abbrev pub IsClean : Block → Type 0
+IsClean b = model.dirty_of b ≡ 0
+
 -- no block has a page of the span
 abbrev pub IsUnused : BlockRows → Span → Type 0
-IsUnused rows s = (page : ℕ) → holds s page ≡ true → covers (map (λ (b : Block). span b.start rows.pages) rows.blocks) page ≡ false
+IsUnused rows s = (page : ℕ) → holds s page ≡ true → covers (map (block_span rows.pages) rows.blocks) page ≡ false

@@ -1,4 +1,5 @@
 pub mod KeptLives
 pub mod KeptBlocks
 pub mod KeptSides
+pub mod BlockSpans
 pub mod BlockRows

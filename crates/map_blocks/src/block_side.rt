@@ -1,16 +1,19 @@
 //! One processor's blocks.
-ghost use Rattle.std.specs.Prelude.{All, ◌≡◌, ◌≤◌, ◌<◌, ◌+◌, ◌-◌, ◌^◌, ◌∷◌, ◌++◌, [], ℕ, true, false, not, ◌==◌, Some, None, length, map, filter, find, slice_get, IfOk, IfSome, IfNone, OnSome, OnOk, OnErr};
+ghost use Rattle.std.specs.Prelude.{All, ◌≡◌, ◌≢◌, ◌≤◌, ◌<◌, ◌+◌, ◌-◌, ◌^◌, ◌∷◌, ◌++◌, [], ℕ, true, false, not, ◌==◌, Some, None, length, map, filter, find, slice_get, IsTrue, IsNone, ◌↔◌, IfOk, IfSome, IfNone, OnSome, OnOk, OnErr};
 ghost use Rattle.std.specs.Ordering.{nat_cmp};
 ghost use Rattle.std.specs.BTreeMap.{insert_entry};
 ghost use Rattle.vm_model.specs.Space.{holds, span};
 ghost use Rattle.vm_model.specs.Bits.{binary_digits};
 ghost use Rattle.vm_model.specs.PlainMap.{Block};
 ghost use Rattle.vm_model.specs.Rules.{IsPower};
-ghost use Rattle.vm_model.specs.Laws.{ArePartsApart};
 ghost use Rattle.vm_model.specs.Blocks as model;
 ghost use Rattle.map_blocks.specs.KeptSides.{AreKnown, has_room, is_broken, without_all};
+ghost use Rattle.map_blocks.specs.BlockSpans.{block_span, part_spans, LiesIn, ShareNoPage};
 ghost use Rattle.map_blocks.specs.BlockRows as rows;
-ghost use Rattle.map_blocks.specs.BlockRows.{BlockRows, IsHeld, IsUnused, at_of};
+ghost use Rattle.map_blocks.specs.BlockRows.{BlockRows, IsHeld, IsUnused, IsClean, at_of};
+
+#[cfg(test)]
+pub mod checks;
 
 use crate::kept_block::KeptBlock;
 use crate::part::Part;
@@ -68,29 +71,39 @@ fn unqueue(queue: &mut Vec<u32>, start: u32)
     queue.retain(|queued| *queued != start);
 }
 
-/// The starts of the fragmented blocks of a queue, and those of the others.
-fn split_fragmented(
+/// Whether there is a fragmented block at a start.
+fn is_fragmented_at(blocks: &BTreeMap<u32, KeptBlock>, start: u32) -> bool
+    ensures { result ≡ is_broken blocks.now.entries start }
+{
+    match blocks.get(&start) {
+        Some(block) => block.is_fragmented(),
+        None => false,
+    }
+}
+
+/// The starts of the fragmented blocks of a queue. It takes no memory where there is none.
+fn fragmented_starts(
     alloc: Global,
     blocks: &BTreeMap<u32, KeptBlock>,
     queue: &[u32],
-) -> Result<(Vec<u32>, Vec<u32>), AllocError>
-    requires { AreKnown blocks.now.entries queue.now }
-    ensures gone { IfOk result (λ both. both.0.items ≡ filter (is_broken blocks.now.entries) queue.now) }
-    ensures kept { IfOk result (λ both. both.1.items ≡ filter (λ start. not (is_broken blocks.now.entries start)) queue.now) }
+) -> Result<Vec<u32>, AllocError>
+    ensures starts { IfOk result (λ starts. starts.items ≡ filter (is_broken blocks.now.entries) queue.now) }
+    ensures memory { OnErr result (filter (is_broken blocks.now.entries) queue.now ≢ []) }
 {
-    let mut gone = Vec::new(alloc);
-    let mut kept = Vec::new(alloc);
+    let mut starts = Vec::new(alloc);
     for start in queue {
-        let Some(block) = blocks.get(start) else {
-            unreachable!();
-        };
-        if block.is_fragmented() {
-            gone.push(*start)?;
-        } else {
-            kept.push(*start)?;
+        if is_fragmented_at(blocks, *start) {
+            starts.push(*start)?;
         }
     }
-    Ok((gone, kept))
+    Ok(starts)
+}
+
+/// Takes the starts of the fragmented blocks out of a queue.
+fn unqueue_fragmented(queue: &mut Vec<u32>, blocks: &BTreeMap<u32, KeptBlock>)
+    ensures { queue.new.items ≡ filter (λ start. not (is_broken blocks.now.entries start)) queue.old.items }
+{
+    queue.retain(|start| !is_fragmented_at(blocks, *start));
 }
 
 /// Takes the blocks at these starts away.
@@ -175,8 +188,8 @@ impl BlockSide {
         requires end { start + self.old.pages ≤ 1048576 }
         requires unused { IsUnused self.old (span start self.old.pages) }
         ensures part { IfOk result (λ part. part ≡ record { block = start; offset = 0; order = binary_digits (pages - 1); pages = pages; caller = caller }) }
-        ensures ok { IfOk result (λ part. self.new ≡ rows.with_block caller (at_of self.old.cpu part) self.old) }
-        ensures err { OnErr result (self.new ≡ self.old) }
+        ensures added { IfOk result (λ part. self.new ≡ rows.with_block caller (at_of self.old.cpu part) self.old) }
+        ensures unchanged { OnErr result (self.new ≡ self.old) }
     {
         let number = self.added;
         let added = number.checked_add(1).ok_or(AllocError)?;
@@ -240,11 +253,14 @@ impl BlockSide {
         })
     }
 
-    /// A part that is in hand has ended, as `vb_free` of the kernel ends. The start of its block where all pages of that
-    /// are in ended parts then: the block is gone. It takes no memory.
+    /// A part that is in hand has ended, as at the end of `vb_free`: its block's dirty range is as wide as all pages take
+    /// that it has of the block, also where it was never mapped. Where all pages of the block are in ended parts then, the
+    /// block is gone, as by `free_vmap_block`, and this gives its start. It takes no memory.
     pub fn retire(&mut self, part: &Part) -> Option<u32>
-        requires { IsHeld (at_of self.old.cpu part.now) self.old.blocks }
-        ensures spent { result ≡ rows.spent_start (at_of self.old.cpu part.now) self.old }
+        requires held { IsHeld (at_of self.old.cpu part.now) self.old.blocks }
+        ensures start { IfSome result (λ start. start ≡ part.now.block) }
+        ensures some { OnSome result (rows.spends (at_of self.old.cpu part.now) self.old ≡ true) }
+        ensures none { IfNone result (rows.spends (at_of self.old.cpu part.now) self.old ≡ false) }
         ensures ended { self.new ≡ rows.with_ended (at_of self.old.cpu part.now) self.old }
     {
         let Some(block) = self.blocks.get_mut(&part.block) else {
@@ -259,23 +275,25 @@ impl BlockSide {
     }
 
     /// Takes the blocks away of which each part has ended and some page was never in one, as the kernel's
-    /// `purge_fragmented_blocks`, and gives their starts in the order in which they were added. An error leaves all as it
-    /// was.
+    /// `purge_fragmented_blocks`, and gives their starts in the order in which they were added. It takes memory for these
+    /// starts alone, and an error leaves all as it was.
     pub fn take_fragmented(&mut self) -> Result<StartList, AllocError>
         ensures starts { IfOk result (λ starts. starts ≡ rows.fragmented self.old) }
         ensures gone { OnOk result (self.new ≡ rows.without_blocks (rows.fragmented self.old) self.old) }
-        ensures err { OnErr result (self.new ≡ self.old) }
+        ensures memory { OnErr result (rows.fragmented self.old ≢ []) }
+        ensures unchanged { OnErr result (self.new ≡ self.old) }
     {
-        let (gone, kept) = split_fragmented(self.alloc, &self.blocks, &self.queue)?;
+        let gone = fragmented_starts(self.alloc, &self.blocks, &self.queue)?;
+        unqueue_fragmented(&mut self.queue, &self.blocks);
         remove_all(&mut self.blocks, &gone);
-        self.queue = kept;
         Ok(StartList::of(gone))
     }
 
     /// From the first to the last page that is in an ended part of a block in use: what `_vm_unmap_aliases` of the kernel
     /// flushes for a processor. It takes no memory.
     pub fn dirty_hull(&self) -> Option<Span>
-        ensures { result ≡ model.dirty_hull self.now.cpu self.now.blocks }
+        ensures hull { result ≡ model.dirty_hull self.now.cpu self.now.blocks }
+        ensures none { IsNone result ↔ (All IsClean self.now.blocks) }
     {
         let mut hull = None;
         for block in self.blocks.values() {
@@ -286,9 +304,11 @@ impl BlockSide {
         hull
     }
 
-    /// What its fields keep of the parts of each block.
-    pub(crate) fn keeps_parts_apart(&self)
-        ensures { All (ArePartsApart (rows.sized self.now.pages)) self.now.blocks }
+    /// What its fields keep of the pages of blocks and parts.
+    pub(crate) fn keeps_apart(&self)
+        ensures apart { All (λ (b : Block). ShareNoPage (part_spans b)) self.now.blocks }
+        ensures inside { All (λ (b : Block). All (LiesIn (block_span self.now.pages b)) (part_spans b)) self.now.blocks }
+        ensures blocks { ShareNoPage (map (block_span self.now.pages) self.now.blocks) }
     {
         let _pages = self.pages;
     }
@@ -342,22 +362,22 @@ impl BlockSide {
         unreachable!()
     }
 
-    /// All blocks by rising start, in one pass.
-    pub fn block_rows(&self, alloc: Global) -> Result<BlockList, AllocError>
+    /// All blocks by rising start, in one pass. An error comes only for want of memory.
+    pub fn block_rows(&self) -> Result<BlockList, AllocError>
         ensures { IfOk result (λ list. list ≡ rows.block_table self.now) }
     {
-        let mut list = Vec::with_capacity(alloc, self.blocks.len())?;
+        let mut list = Vec::with_capacity(self.alloc, self.blocks.len())?;
         for block in self.blocks.values() {
             list.push(block.row())?;
         }
         Ok(BlockList::of(list))
     }
 
-    /// All live parts by rising start, in one pass.
-    pub fn part_rows(&self, alloc: Global) -> Result<PartList, AllocError>
+    /// All live parts by rising start, in one pass. An error comes only for want of memory.
+    pub fn part_rows(&self) -> Result<PartList, AllocError>
         ensures { IfOk result (λ list. list ≡ rows.part_table self.now) }
     {
-        let mut list = Vec::new(alloc);
+        let mut list = Vec::new(self.alloc);
         for block in self.blocks.values() {
             block.put_rows(&mut list)?;
         }

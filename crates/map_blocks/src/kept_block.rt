@@ -8,6 +8,9 @@ ghost use Rattle.map_blocks.specs.KeptBlocks.{KeptRow, IsInHand, part_in, parts_
 ghost use Rattle.vm_model.specs.Space.{HasEnd};
 ghost use Rattle.map_blocks.specs.BlockRows.{sized};
 
+#[cfg(test)]
+pub mod checks;
+
 use crate::kept_part::KeptPart;
 use crate::sizes::rounded;
 use std::alloc::{AllocError, Global};

@@ -1,6 +1,6 @@
 //! A part as its block keeps it.
 ghost use Rattle.std.specs.Prelude.{◌≡◌, ◌≤◌, IsTrue, ◌↔◌, true};
-ghost use Rattle.vm_model.specs.PlainMap.{InHand, Lives, Ended, is_ended, is_live, serial_of, lives_as};
+ghost use Rattle.vm_model.specs.PlainMap.{InHand, Lives, Ended, is_ended, is_in_hand, is_live, serial_of, lives_as};
 ghost use Rattle.vm_model.specs.Blocks.{size_of};
 
 use crate::sizes::rounded;
@@ -80,6 +80,14 @@ impl KeptPart {
         ensures { IsTrue result ↔ (is_live self.now.life ≡ true) }
     {
         matches!(self.life, KeptLife::Lives(_))
+    }
+
+    /// Whether a caller has it in hand.
+    #[cfg(test)]
+    pub fn is_in_hand(&self) -> bool
+        ensures { IsTrue result ↔ (is_in_hand self.now.life ≡ true) }
+    {
+        matches!(self.life, KeptLife::InHand(_))
     }
 
     /// Whether it lives under this serial.

@@ -4,7 +4,8 @@ ghost use Rattle.std.specs.Prelude.{◌≡◌, ◌*◌, IfOk, replicate, pos};
 use std::alloc::{AllocError, Global};
 use std::marker::Model;
 
-/// The cells of frames, 1,024 a frame. Those behind the last one that was ever written are 0, and take no time.
+/// The cells of frames, 1,024 of 4 bytes a frame. Those behind the last one that was ever written are 0, and take no
+/// time.
 #[derive(Drop)]
 pub(crate) struct Cells {
     written: Vec<i64>,

@@ -1,4 +1,4 @@
-//! The free frames of memory.
+//! The free frames of memory, which `alloc_page` and `__free_page` take and give back in the kernel.
 ghost use Rattle.std.specs.Prelude.{◌≡◌, ◌<◌, ◌∷◌, false, IfOk, length};
 ghost use Rattle.vm_model.specs.Space.{count_from, is_among, put_by};
 ghost use Rattle.page_pool.specs.FrameList.{FrameList};
@@ -56,7 +56,7 @@ impl FreeFrames {
         }
     }
 
-    /// Gives a frame back.
+    /// Gives a frame back, which was taken. The room for it was there from the start.
     pub(crate) fn put_back(&mut self, frame: u32)
         requires memory { frame < self.old.memory }
         requires taken { is_among self.old.numbers frame ≡ false }

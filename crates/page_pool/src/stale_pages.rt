@@ -1,4 +1,4 @@
-//! Which pages are stale.
+//! Which pages are stale: those whose old frames a TLB may still have, until `flush_tlb_kernel_range`.
 ghost use Rattle.std.specs.Prelude.{◌≡◌, ◌/◌, ◌<◌, ◌≤◌, ◌^◌, ℕ, true, false, IfOk, IsTrue, length, replicate, slice_get, slice_set};
 ghost use Rattle.vm_model.specs.Space.{holds, end_of, paint};
 ghost use Rattle.page_pool.specs.StaleList.{is_set, set_count};
@@ -110,7 +110,7 @@ impl StalePages {
         }
     }
 
-    /// No page of a span is stale any more, which lies in one group.
+    /// No page of a span, which lies in one group, is stale any more.
     fn flush_group(&mut self, span: Span)
         requires inside { end_of span ≤ length self.old }
         requires space { length self.old < 2 ^ 32 }
@@ -139,7 +139,7 @@ impl StalePages {
         }
     }
 
-    /// No page of a span is stale any more, which lies in one cluster.
+    /// No page of a span, which lies in one cluster, is stale any more.
     fn flush_cluster(&mut self, span: Span)
         requires inside { end_of span ≤ length self.old }
         requires space { length self.old < 2 ^ 32 }

@@ -29,10 +29,6 @@ use Rattle.section_core.proofs.Moved.{moved_as}
 region_by : (cpu pages : ℕ) (blocks blocks' : List Block) (next next' : ℕ) → blocks ≡ blocks' → next ≡ next' → CpuBlocks cpu pages blocks next ≡ CpuBlocks cpu pages blocks' next'
 region_by cpu pages blocks blocks' next next' b n = ap (λ bs. CpuBlocks cpu pages bs next) b ∙ ap (CpuBlocks cpu pages blocks') n
 
-abbrev pub unlinks_or : Reply → Option ℕ → Next
-unlinks_or r None = Answer r MadeNothing
-unlinks_or r (Some start) = Go (UnlinkingBlock start r)
-
 module _ (l : Local) (side : BlockRows) (own : AreOwn l.setup side) where
   abbrev numbers : List ℕ
   numbers = slice_set (replicate (cpus l.setup) 1) side.cpu side.next
@@ -134,10 +130,3 @@ module _ (l : Local) (side : BlockRows) (own : AreOwn l.setup side) where
       moved_as l (blocks_region side) (LookingAtDirty side.cpu ranges) (Dirty side.cpu (dirty_hull side.cpu side.blocks)) (next l.setup l.place (Dirty side.cpu (dirty_hull side.cpu side.blocks))) l' (blocks_region side) place
       refl (ap (λ p. next l.setup p (Dirty side.cpu (dirty_hull side.cpu side.blocks))) (sym place)) local
       (region_by side.cpu side.pages side.blocks _ side.next (slice_index numbers side.cpu) stays (sym next_is))
-
--- where a caller goes once its part has ended
-pub spent_way : (at : PartAt) (r : Reply) (b : Bool) (o : Option ℕ) → (if b then Some at.block else None) ≡ o → (if b then Go (UnlinkingBlock at.block r) else Answer r MadeNothing) ≡ unlinks_or r o
-spent_way at r true None e = cc
-spent_way at r true (Some start) e = let same : at.block ≡ start = cc in ap (λ n. Go (UnlinkingBlock n r)) same
-spent_way at r false None e = refl
-spent_way at r false (Some start) e = cc

@@ -1,5 +1,5 @@
 -- The sections over the free blocks, by the pages that are taken.
-use Rattle.std.proofs.Common.{zero, suc, All, arith, ◌+◌, ◌≤◌, option_map, ◌≡◌, ℕ, Bool, true, false, not, List, [], ◌∷◌, length, Option, Some, None, refl, ap, sym, ◌∙◌}
+use Rattle.std.proofs.Common.{zero, suc, All, arith, ◌+◌, ◌≤◌, option_map, ◌≡◌, ℕ, Bool, true, false, not, List, [], ◌∷◌, length, Option, Some, None, refl, ap, sym, subst, IsSome, IsSomeAnd, ◌∙◌}
 use Rattle.vm_model.specs.declared.areas.Span.{Span}
 use Rattle.vm_model.specs.Space.{end_of, span, holds, covers, paint, lowest, runs}
 use Rattle.vm_model.specs.PlainMap.{PlainMap, Mark, Free, Held, is_free, taken}
@@ -15,7 +15,7 @@ use Rattle.map_parts.proofs.TakenPages.{taken_of_runs, taken_in}
 use Rattle.section_core.specs.declared.place.Aim.{Aim}
 use Rattle.section_core.specs.declared.place.Aim.TheVariants as aim
 use Rattle.section_core.specs.Places.{aim_of}
-use Rattle.section_core.specs.Sections.{IsMoved}
+use Rattle.section_core.specs.Sections.{IsMoved, MayGrow, TakesMemory}
 use Rattle.section_core.proofs.Moved.{moved_as}
 
 module _ (l : Local) (bits : List Bool) (wide : length bits ≡ l.setup.space) where
@@ -41,6 +41,15 @@ module _ (l : Local) (bits : List Bool) (wide : length bits ≡ l.setup.space) w
     pub finds_none : lowest bits pages align ≡ None → next l.setup p (NoHole (ForPages pages align)) ≡ n → IsMoved l (FreeRuns (runs bits)) l' (FreeRuns (runs bits))
     finds_none e on =
         moved_as l (FreeRuns (runs bits)) p (NoHole (ForPages pages align)) n l' (FreeRuns (runs bits)) at (given_here None e) on local (ap (λ bits. FreeRuns (runs bits)) (sym same))
+
+  -- a search that finds a place may want memory
+  pub finds_with_memory : (pages align : ℕ) → ask l.setup l.place ≡ AskSearch (ForPages pages align) → IsSome (lowest bits pages align) → TakesMemory l (FreeRuns (runs bits))
+  finds_with_memory pages align asks some = by (lowest bits pages align) refl some
+    where
+      by : (o : Option ℕ) → lowest bits pages align ≡ o → IsSome o → TakesMemory l (FreeRuns (runs bits))
+      by None e some = let no : false ≡ true = some in cc
+      by (Some start) e some =
+          subst (λ s. IsSomeAnd s MayGrow) (sym (ap (given l.setup (map_with l.setup (FreeRuns (runs bits)))) asks ∙ ap (λ bits. Some (carving pages align (lowest bits pages align))) same ∙ ap (λ o. Some (carving pages align o)) e)) tt
 
   pub drops : (s : Span) (n : Next) (l' : Local) (blocks : List Span) → l.place ≡ Dropping s → next l.setup (Dropping s) (Drop s) ≡ n → l' ≡ moved_to l n → blocks ≡ runs (paint (holds s) false bits)
       → IsMoved l (FreeRuns (runs bits)) l' (FreeRuns blocks)

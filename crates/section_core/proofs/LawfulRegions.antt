@@ -33,6 +33,7 @@ use Rattle.std.proofs.lemmas.List.Elements.{All-nil, All-cons, All-weaker, All-a
 use Rattle.vm_model.specs.Areas.{mapped_part}
 use Rattle.vm_model.specs.declared.areas.AreaKind.{AreaKind}
 use Rattle.section_core.specs.Sections.{AreRunsOf, IsDroppable, IsDroppedWell, AreReturnable, AreReturnedWell, IsMappable, IsMappedWell, IsUnmappable, IsUnmappedWell, IsFlushedWell, CanWait, IsWaitingWell, IsSettledWell}
+use Rattle.section_core.proofs.NextAreas.{few_areas}
 use Rattle.section_core.proofs.Memory.{memory_reached, pages_reached}
 use Rattle.page_pool.specs.Pages as page_pool
 use Rattle.vm_model.specs.Legal as map_bare
@@ -311,6 +312,21 @@ areas_there c m n areas next h =
     let at : Some (LiveAreas m.areas m.next_area) ≡ Some (LiveAreas areas next) = sym (ap (slice_get (regions_of c m)) e) ∙ h in
     let same : LiveAreas m.areas m.next_area ≡ LiveAreas areas next = cc in
     ap areas_held same
+
+abbrev next_held : Region → ℕ
+next_held (LiveAreas areas next) = next
+next_held _ = 0
+
+-- there are serials left for the areas to come
+pub serials_there : (l : Local) (areas : List Area) (next : ℕ) → StandTogether wants IsLawful l (LiveAreas areas next) → next + 1 < 2 ^ 32
+serials_there l areas next st = let s = in_one_state l (LiveAreas areas next) st in
+    let e = region_number s.c s.w.map s.number (LiveAreas areas next) s.there in
+    let at : Some (LiveAreas s.w.map.areas s.w.map.next_area) ≡ Some (LiveAreas areas next) = sym (ap (slice_get (regions_of s.c s.w.map)) e) ∙ s.there in
+    let same : LiveAreas s.w.map.areas s.w.map.next_area ≡ LiveAreas areas next = cc in
+    let is : s.w.map.next_area ≡ next = ap next_held same in
+    let few = few_areas s.c s.opening s.calls s.w s.running.trace.setup s.running.reached in
+    let short : length s.w.events < most_events = histories_short s.c s.opening s.calls s.w s.running.trace s.running.reached in
+    omega arith
 
 pub settled_there : (l : Local) (areas : List Area) (next : ℕ) → StandTogether wants IsLawful l (LiveAreas areas next) → IsSettledWell l.place areas
 settled_there l areas next st = let s = in_one_state l (LiveAreas areas next) st in

@@ -6,6 +6,7 @@ pub mod Counted
 pub mod LawfulCallers
 pub mod Hulls
 pub mod CarriedLists
+pub mod NextAreas
 pub mod NextParts
 pub mod LawfulBlocks
 pub mod LawfulRegions

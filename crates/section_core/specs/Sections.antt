@@ -1,11 +1,12 @@
 -- What a section over one region answers and leaves.
-use Rattle.std.specs.Prelude.{◌+◌, ◌≤◌, ◌<◌, ◌^◌, ◌≡◌, ◌++◌, ℕ, Bool, true, false, All, List, length, Some}
+use Rattle.std.specs.Prelude.{◌+◌, ◌≤◌, ◌<◌, ◌^◌, ◌≡◌, ◌++◌, ℕ, Bool, true, false, All, List, length, Some, IsSomeAnd}
 use Rattle.vm_model.specs.declared.areas.Span.{Span}
 use Rattle.vm_model.specs.Space.{HasEnd, span, end_of, holds, covers, runs, times}
 use Rattle.vm_model.specs.Setup.{Setup}
-use Rattle.vm_model.specs.Places.{Place, MappingArea, SettlingArea, Dropping, UnmappingArea, Waiting, PurgeWaiting, PurgeFlushing, PurgeReturning, CuttingPart, SettlingBlock, AddingBlock, MappingPart, SettlingPart, UnmappingPart, Retiring, LookingAtDirty, block_spans, Ask, AskSearch, AskDrop, AskReturn, AskSettle, AskWait, AskAddChunk, AskAddBlock, AskFragment}
-use Rattle.vm_model.specs.History.{Local}
-use Rattle.vm_model.specs.Parts.{Region, moves, after}
+use Rattle.vm_model.specs.Places.{Place, MappingArea, SettlingArea, Dropping, UnmappingArea, Waiting, PurgeWaiting, PurgeFlushing, PurgeReturning, CuttingPart, SettlingBlock, AddingBlock, MappingPart, SettlingPart, UnmappingPart, Retiring, LookingAtDirty, block_spans}
+use Rattle.vm_model.specs.Events.{Section, Carve, CarveGroups, Drop, Return, Settle, Wait, AddBlock, Fragment, AddChunk}
+use Rattle.vm_model.specs.History.{Local, section_of}
+use Rattle.vm_model.specs.Parts.{Region, map_with, moves, after}
 use Rattle.vm_model.specs.declared.areas.Area.{Area}
 use Rattle.busy_areas.specs.Kept.{IsUnused}
 use Rattle.map_blocks.specs.BlockRows.{BlockRows, IsHeld}
@@ -34,16 +35,21 @@ Answers l r l' r' Stays = HasStayed l r l' r'
 Answers l r l' r' Ended = ⊥
 
 -- the sections that may find no memory
-abbrev pub TakesMemory : Ask → Type 0
-TakesMemory (AskSearch search) = Unit {0}
-TakesMemory (AskDrop s) = Unit {0}
-TakesMemory (AskReturn spans) = Unit {0}
-TakesMemory (AskSettle areas) = Unit {0}
-TakesMemory (AskWait spans) = Unit {0}
-TakesMemory (AskAddBlock at) = Unit {0}
-TakesMemory (AskFragment cpu) = Unit {0}
-TakesMemory (AskAddChunk chunk base bytes align) = Unit {0}
-TakesMemory _ = ⊥
+abbrev pub MayGrow : Section → Type 0
+MayGrow (Carve s align) = Unit {0}
+MayGrow (CarveGroups base) = Unit {0}
+MayGrow (Drop s) = Unit {0}
+MayGrow (Return spans) = Unit {0}
+MayGrow (Settle areas first) = Unit {0}
+MayGrow (Wait spans waiting) = Unit {0}
+MayGrow (AddBlock at) = Unit {0}
+MayGrow (Fragment cpu gone) = Unit {0}
+MayGrow (AddChunk chunk base at align missing) = Unit {0}
+MayGrow _ = ⊥
+
+-- the section that the caller makes over this region is one of these
+abbrev pub TakesMemory : Local → Region → Type 0
+TakesMemory l r = IsSomeAnd (section_of (map_with l.setup r) l) MayGrow
 
 -- the blocks are the free runs of the space
 abbrev pub AreRunsOf : Setup → List Span → Type 0

@@ -3,7 +3,6 @@ ghost use Rattle.std.specs.Prelude.{◌≡◌, ◌+◌, ◌<◌, ◌≤◌, ◌^
 ghost use Rattle.vm_model.specs.Space.{span, end_of};
 ghost use Rattle.vm_model.specs.Setup.{Setup};
 ghost use Rattle.vm_model.specs.Places as model;
-ghost use Rattle.vm_model.specs.Places.{ask};
 ghost use Rattle.vm_model.specs.Blocks.{dirty_hull};
 ghost use Rattle.vm_model.specs.declared.areas.Span.{Span};
 ghost use Rattle.vm_model.specs.Parts.{wants};
@@ -156,7 +155,7 @@ pub(crate) fn at_blocks(local: &mut Local, blocks: &mut BlockSide) -> Result<(),
     requires well { IsBlocksWell local.old.setup local.old.place blocks.old }
     requires events { local.old.events + 1 < 2 ^ 32 }
     ensures ok { OnOk result (IsMoved local.old (blocks_region blocks.old) local.new (blocks_region blocks.new)) }
-    ensures memory { OnErr result (TakesMemory (ask local.old.setup local.old.place)) }
+    ensures memory { OnErr result (TakesMemory local.old (blocks_region blocks.old)) }
     ensures err { OnErr result ((local.new ≡ local.old) × (blocks.new ≡ blocks.old)) }
 {
     match local.place() {

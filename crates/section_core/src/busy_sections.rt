@@ -2,7 +2,6 @@
 ghost use Rattle.std.specs.Prelude.{◌≡◌, ◌<◌, ◌+◌, ◌≤◌, ◌^◌, ℕ, length, Some, OnOk, OnErr};
 ghost use Rattle.vm_model.specs.Space.{end_of};
 ghost use Rattle.vm_model.specs.Places as model;
-ghost use Rattle.vm_model.specs.Places.{ask};
 ghost use Rattle.vm_model.specs.Parts.{LiveAreas, wants};
 ghost use Rattle.busy_areas.specs.Kept.{IsUnused};
 ghost use Rattle.section_core.specs.Places.{then_of, carried_at, IsSizedAfter};
@@ -26,6 +25,7 @@ fn settle(
     requires some { 1 ≤ span.pages }
     requires within { end_of span ≤ 1048576 }
     requires unused { IsUnused busy.old.areas span }
+    requires serials { busy.old.next + 1 < 2 ^ 32 }
     requires at_hand { length local.old.answers < length local.old.calls }
     requires events { local.old.events + 1 < 2 ^ 32 }
     ensures ok { OnOk result (IsMoved local.old (LiveAreas busy.old.areas busy.old.next) local.new (LiveAreas busy.new.areas busy.new.next)) }
@@ -52,6 +52,7 @@ fn settle_block(
     requires some { 1 ≤ span.pages }
     requires first { 1 ≤ pages }
     requires unused { IsUnused busy.old.areas span }
+    requires serials { busy.old.next + 1 < 2 ^ 32 }
     requires at_hand { length local.old.answers < length local.old.calls }
     requires events { local.old.events + 1 < 2 ^ 32 }
     ensures ok { OnOk result (IsMoved local.old (LiveAreas busy.old.areas busy.old.next) local.new (LiveAreas busy.new.areas busy.new.next)) }
@@ -111,9 +112,10 @@ fn remove(local: &mut Local, busy: &mut BusySide, start: u32, serial: u32)
 pub(crate) fn at_busy(local: &mut Local, busy: &mut BusySide) -> Result<(), AllocError>
     requires wants { wants local.old ≡ Some 4 }
     requires settled { IsSettledWell local.old.place busy.old.areas }
+    requires serials { busy.old.next + 1 < 2 ^ 32 }
     requires events { local.old.events + 1 < 2 ^ 32 }
     ensures ok { OnOk result (IsMoved local.old (LiveAreas busy.old.areas busy.old.next) local.new (LiveAreas busy.new.areas busy.new.next)) }
-    ensures memory { OnErr result (TakesMemory (ask local.old.setup local.old.place)) }
+    ensures memory { OnErr result (TakesMemory local.old (LiveAreas busy.old.areas busy.old.next)) }
     ensures err { OnErr result ((local.new ≡ local.old) × (busy.new ≡ busy.old)) }
 {
     match local.place() {

@@ -3,7 +3,6 @@ ghost use Rattle.std.specs.Prelude.{◌≡◌, ◌<◌, ◌+◌, ◌≤◌, ◌^
 ghost use Rattle.vm_model.specs.Space.{end_of};
 ghost use Rattle.vm_model.specs.Events.{ForPages};
 ghost use Rattle.vm_model.specs.Places as model;
-ghost use Rattle.vm_model.specs.Places.{ask};
 ghost use Rattle.vm_model.specs.Parts.{FreeRuns, wants};
 ghost use Rattle.vm_model.specs.Next.{Go, with_span};
 ghost use Rattle.vm_model.specs.Setup.{Setup};
@@ -44,6 +43,7 @@ fn find(local: &mut Local, free: &mut FreeSide, search: Search) -> Result<(), Al
     requires space { local.old.setup.space ≤ 1048576 }
     requires events { local.old.events + 1 < 2 ^ 32 }
     ensures ok { OnOk result (IsMoved local.old (FreeRuns free.old.blocks) local.new (FreeRuns free.new.blocks)) }
+    ensures memory { OnErr result (TakesMemory local.old (FreeRuns free.old.blocks)) }
     ensures err { OnErr result ((local.new ≡ local.old) × (free.new ≡ free.old)) }
 {
     match free.carve(search.pages, search.align)? {
@@ -65,6 +65,7 @@ fn find_again(local: &mut Local, free: &mut FreeSide, search: Search) -> Result<
     requires space { local.old.setup.space ≤ 1048576 }
     requires events { local.old.events + 1 < 2 ^ 32 }
     ensures ok { OnOk result (IsMoved local.old (FreeRuns free.old.blocks) local.new (FreeRuns free.new.blocks)) }
+    ensures memory { OnErr result (TakesMemory local.old (FreeRuns free.old.blocks)) }
     ensures err { OnErr result ((local.new ≡ local.old) × (free.new ≡ free.old)) }
 {
     match free.carve(search.pages, search.align)? {
@@ -116,7 +117,7 @@ pub(crate) fn at_free(local: &mut Local, free: &mut FreeSide) -> Result<(), Allo
     requires returned { AreReturnedWell local.old.setup local.old.place free.old.blocks }
     requires events { local.old.events + 1 < 2 ^ 32 }
     ensures ok { OnOk result (IsMoved local.old (FreeRuns free.old.blocks) local.new (FreeRuns free.new.blocks)) }
-    ensures memory { OnErr result (TakesMemory (ask local.old.setup local.old.place)) }
+    ensures memory { OnErr result (TakesMemory local.old (FreeRuns free.old.blocks)) }
     ensures err { OnErr result ((local.new ≡ local.old) × (free.new ≡ free.old)) }
 {
     match local.place() {

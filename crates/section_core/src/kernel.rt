@@ -41,6 +41,7 @@ const MOST_EVENTS: u32 = 100_000_000;
 /// An allocator and its callers: the opening is caller 0.
 #[derive(Drop)]
 pub struct Kernel {
+    alloc: Global,
     regions: Vec<Region>,
     locals: Vec<Local>,
     moved: Vec<u16>,
@@ -104,6 +105,7 @@ impl Kernel {
         let none = Arc::new(alloc, AnswerList::of(Vec::new(alloc)))?;
         let first = Local::start(alloc, Arc::try_clone(config)?, 0, none, opening)?;
         Ok(Kernel {
+            alloc,
             regions: first_regions(alloc, config)?,
             locals: vec![in alloc; first]?,
             moved: Vec::new(alloc),
@@ -195,10 +197,10 @@ impl Kernel {
     }
 
     /// The entry of each call that was answered, by caller and call.
-    fn entries(&self, alloc: Global) -> Result<Vec<Entry>, AllocError>
+    fn entries(&self) -> Result<Vec<Entry>, AllocError>
         ensures { IfOk result (λ entries. (c : Setup) (opening : List Call) (calls : List (List Call)) (w : World) → IsStanding c opening calls w self.now → entries.items ≡ entries_of w.events w.locals) }
     {
-        let mut entries = Vec::new(alloc);
+        let mut entries = Vec::new(self.alloc);
         for local in &self.locals {
             number(local.book(), &self.moved, &mut entries)?;
         }
@@ -206,20 +208,21 @@ impl Kernel {
     }
 
     /// The replies so far, and the tables of what there is now.
-    pub fn tables(&self, alloc: Global) -> Result<Tables, AllocError>
+    pub fn tables(&self) -> Result<Tables, AllocError>
         ensures { IfOk result (λ tables. (config : Config) (opening : List Call) (calls : List (List Call)) (w : World) → IsStanding (setup_of config) opening calls w self.now → tables ≡ tables_of (setup_of config) w) }
     {
+        let alloc = self.alloc;
         let free = self.regions[3].free();
         let pages = self.regions[6].pages();
         let largest = free.largest();
         Ok(Tables {
-            entries: EntryList::of(self.entries(alloc)?),
+            entries: EntryList::of(self.entries()?),
             events: self.moved.len() as u64,
             frames: pages.free_frames(),
             mapped: pages.mapped(),
             stale: pages.stale(),
             free: SpanList::of(free_blocks(alloc, free)?),
-            areas: self.regions[4].busy().areas(alloc)?,
+            areas: self.regions[4].busy().areas()?,
             waiting: SpanList::of(waiting_spans(alloc, self.regions[5].lazy())?),
             blocks: BlockList::of(block_rows(alloc, &self.regions[8..])?),
             parts: PartList::of(part_rows(alloc, &self.regions[8..])?),
@@ -275,7 +278,7 @@ fn block_rows(alloc: Global, regions: &[Region]) -> Result<Vec<BlockRow>, AllocE
 {
     let mut rows = Vec::new(alloc);
     for region in regions {
-        rows.append(&mut region.blocks().block_rows(alloc)?.into_vec())?;
+        rows.append(&mut region.blocks().block_rows()?.into_vec())?;
     }
     rows.sort_by_key(|row| row.start)?;
     Ok(rows)
@@ -288,7 +291,7 @@ fn part_rows(alloc: Global, regions: &[Region]) -> Result<Vec<PartRow>, AllocErr
 {
     let mut rows = Vec::new(alloc);
     for region in regions {
-        rows.append(&mut region.blocks().part_rows(alloc)?.into_vec())?;
+        rows.append(&mut region.blocks().part_rows()?.into_vec())?;
     }
     rows.sort_by_key(|row| row.span.start)?;
     Ok(rows)

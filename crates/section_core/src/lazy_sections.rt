@@ -1,7 +1,7 @@
 //! The sections over the spans that wait.
 ghost use Rattle.std.specs.Prelude.{◌≡◌, [], ◌∷◌, ◌<◌, ◌≤◌, ◌+◌, ◌^◌, ℕ, length, Some, OnOk, OnErr};
 ghost use Rattle.vm_model.specs.Places as model;
-ghost use Rattle.vm_model.specs.Places.{ReplyWith, ask};
+ghost use Rattle.vm_model.specs.Places.{ReplyWith};
 ghost use Rattle.vm_model.specs.Parts.{WaitingSpans, wants};
 ghost use Rattle.section_core.specs.Places.{then_of, carried_at, IsExtra, IsSizedAfter};
 ghost use Rattle.section_core.specs.Sections.{IsMoved, TakesMemory, CanWait, IsWaitingWell};
@@ -65,7 +65,7 @@ pub(crate) fn at_lazy(local: &mut Local, lazy: &mut LazySide) -> Result<(), Allo
     requires can_wait { IsWaitingWell local.old.setup local.old.place lazy.old }
     requires events { local.old.events + 1 < 2 ^ 32 }
     ensures ok { OnOk result (IsMoved local.old (WaitingSpans lazy.old) local.new (WaitingSpans lazy.new)) }
-    ensures memory { OnErr result (TakesMemory (ask local.old.setup local.old.place)) }
+    ensures memory { OnErr result (TakesMemory local.old (WaitingSpans lazy.old)) }
     ensures err { OnErr result ((local.new ≡ local.old) × (lazy.new ≡ lazy.old)) }
 {
     match local.place() {

@@ -1,6 +1,5 @@
 //! One section of one caller over the region that it wants.
 ghost use Rattle.std.specs.Prelude.{◌≡◌, IfOk, OnErr};
-ghost use Rattle.vm_model.specs.Places.{ask};
 ghost use Rattle.vm_model.specs.Run.{StandTogether};
 ghost use Rattle.vm_model.specs.Parts.{wants, moves};
 ghost use Rattle.section_core.specs.Lawful.{IsLawful};
@@ -22,7 +21,7 @@ use std::alloc::AllocError;
 pub fn section(local: &mut Local, region: &mut Region) -> Result<Stepped, AllocError>
     requires { StandTogether wants IsLawful local.old region.old }
     ensures answer { IfOk result (Answers local.old region.old local.new region.new) }
-    ensures memory { OnErr result (TakesMemory (ask local.old.setup local.old.place)) }
+    ensures memory { OnErr result (TakesMemory local.old region.old) }
     ensures err { OnErr result ((local.new ≡ local.old) × (region.new ≡ region.old)) }
 {
     let _place = local.place();

@@ -34,7 +34,7 @@ fn tables_of_trace(alloc: Global, trace: Trace) -> Result<Tables, AllocError>
     let mut kernel = Kernel::start(alloc, config, calls)?;
     kernel.run(picks.as_slice())?;
     kernel.finish()?;
-    kernel.tables(alloc)
+    kernel.tables()
 }
 
 /// The report of a trace.

@@ -1,5 +1,5 @@
 use Rattle.std.proofs.Common.{◌≡◌, ℕ, ◌%◌, ◌≤◌}
-use Rattle.congruent_areas.specs.Groups.{AreFreeAt}
+use Rattle.congruent_areas.specs.Groups.{IsBase}
 use Rattle.congruent_areas.proofs.search.highest.Given as goal
 
 -- no base above this one takes the groups
@@ -7,7 +7,7 @@ abbrev pub invariant-loop-lower : goal.invariant-loop-lower
 invariant-loop-lower l = record {
   within : l.base ≤ 1048576;
   aligned : l.base % l.align ≡ 0;
-  greatest : (b : ℕ) → AreFreeAt l.free.blocks l.groups l.align b → b ≤ l.base;
+  greatest : (b : ℕ) → IsBase l.free.blocks l.groups l.align b → b ≤ l.base;
 }
 
 abbrev pub decreases-loop-lower : goal.decreases-loop-lower

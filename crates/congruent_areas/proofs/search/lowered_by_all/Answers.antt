@@ -2,14 +2,15 @@ use Rattle.std.proofs.Common.{◌≡◌, ℕ, ◌≤◌, All, get_or, subst, ari
 use Rattle.std.proofs.lemmas.List.{take_all}
 use Rattle.std.proofs.lemmas.List.Elements.{All-more, All-get_or}
 use Rattle.unit_layout.specs.declared.layout.Group.{Group}
-use Rattle.congruent_areas.specs.Groups.{IsFree, AreFreeAt, span_at}
+use Rattle.augmented_tree.specs.FreeBlocks.{IsFree}
+use Rattle.congruent_areas.specs.Groups.{IsBase, span_at}
 use Rattle.congruent_areas.proofs.Lowering.{multiple_below, multiples_up_to, IfNone-anyway}
 use Rattle.congruent_areas.proofs.search.lowered_by_all.Goals as goal
 
 pub returns-in_err-high-clause-none : goal.returns-in_err-high-clause-none
 returns-in_err-high-clause-none c =
     let groups = c.args.groups.now in
-    IfNone-anyway c.from_residual.result ((b : ℕ) → b ≤ c.args.from → AreFreeAt c.args.free.now.blocks groups c.args.align b → ⊥)
+    IfNone-anyway c.from_residual.result ((b : ℕ) → b ≤ c.args.from → IsBase c.args.free.now.blocks groups c.args.align b → ⊥)
     (λ b le free. c.in_err-high.ensures.none b (c.loop-group.invariant.above b le free)
     (All-get_or (λ (g : Group). IsFree c.args.free.now.blocks (span_at b g)) groups c.loop-group.group-index (record { offset = 0; pages = 0 }) c.loop-group-test.true free.free))
 

@@ -16,6 +16,6 @@ pub returns-clause-ok : goal.returns-clause-ok
 returns-clause-ok c =
     let at : at_of c.args.blocks.now.cpu c.in_ok-part.part ≡ record { cpu = c.args.cpu; block = c.args.start; offset = 0; pages = c.args.pages }
     = ap (λ n. at_of n c.in_ok-part.part) (sym c.requires.cpu) ∙ ap (at_of c.args.cpu) c.in_ok-part.ensures.part in
-    subst (λ s. IsMoved c.args.local.now (blocks_region c.args.blocks.now) c.go.new.self (blocks_region s)) (sym (c.in_ok-part.ensures.ok ∙ ap (λ k. with_block k (at_of c.args.blocks.now.cpu c.in_ok-part.part) c.args.blocks.now) c.caller.ensures))
+    subst (λ s. IsMoved c.args.local.now (blocks_region c.args.blocks.now) c.go.new.self (blocks_region s)) (sym (c.in_ok-part.ensures.added ∙ ap (λ k. with_block k (at_of c.args.blocks.now.cpu c.in_ok-part.part) c.args.blocks.now) c.caller.ensures))
     (adds c.args.local.now c.args.blocks.now c.requires.own (at_of c.args.blocks.now.cpu c.in_ok-part.part) c.go.new.self refl (c.requires.place ∙ ap model.AddingBlock (sym at))
     (c.go.ensures ∙ ap (λ n. moved_to c.args.local.now (Go (model.MappingPart (at_of n c.in_ok-part.part)))) c.requires.cpu))

@@ -19,4 +19,4 @@ pub returns : goal.returns
 returns c =
     looks c.args.local.now c.args.blocks.now c.requires.own (carried_at c.args.local.now.place).ranges c.saw_dirty.new.self (c.requires.place ∙ ap (λ n. model.LookingAtDirty n (carried_at c.args.local.now.place).ranges) c.requires.cpu)
     (c.saw_dirty.ensures ∙ ap (λ n. moved_to c.args.local.now (next c.args.local.now.setup c.args.local.now.place (Dirty n c.dirty_hull.result))) c.requires.cpu
-    ∙ ap (λ o. moved_to c.args.local.now (next c.args.local.now.setup c.args.local.now.place (Dirty c.args.blocks.now.cpu o))) c.dirty_hull.ensures)
+    ∙ ap (λ o. moved_to c.args.local.now (next c.args.local.now.setup c.args.local.now.place (Dirty c.args.blocks.now.cpu o))) c.dirty_hull.ensures.hull)

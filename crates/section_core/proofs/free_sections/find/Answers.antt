@@ -1,15 +1,15 @@
-use Rattle.std.proofs.Common.{None, IfSome, IfNone, Bool, ◌≡◌, true, refl, sym, ◌∙◌, ap, subst, arith, List}
+use Rattle.std.proofs.Common.{None, IfSome, IfNone, OnErr, Ok, Err, Bool, ◌≡◌, true, refl, sym, ◌∙◌, ap, subst, arith, List}
 use Rattle.vm_model.specs.declared.areas.Span.{Span}
 use Rattle.vm_model.specs.Space.{holds, lowest, paint, runs}
 use Rattle.vm_model.specs.Events.{ForPages}
 use Rattle.vm_model.specs.Places as model
-use Rattle.vm_model.specs.Places.{SearchAgain, MadeNothing}
+use Rattle.vm_model.specs.Places.{SearchAgain, MadeNothing, ask}
 use Rattle.vm_model.specs.Next.{Go, with_span}
 use Rattle.vm_model.specs.Parts.{FreeRuns}
 use Rattle.augmented_tree.specs.FreeBlocks.{FreeBlocks, AreFreeRuns}
 use Rattle.section_core.specs.Places.{aim_of, place_of, nothing}
-use Rattle.section_core.specs.Sections.{IsMoved}
-use Rattle.section_core.proofs.FreeSections.{finds, finds_none, chosen, chosen_none, found_within}
+use Rattle.section_core.specs.Sections.{IsMoved, TakesMemory}
+use Rattle.section_core.proofs.FreeSections.{finds, finds_none, finds_with_memory, chosen, chosen_none, found_within}
 use Rattle.section_core.proofs.free_sections.find.Goals as goal
 
 pub place_for-requires-clause-carved : goal.place_for-requires-clause-carved
@@ -36,3 +36,11 @@ returns-in-None-clause-ok c =
     (subst (λ blocks. IsMoved c.args.local.now (FreeRuns blocks) c.go-in-None.new.self (FreeRuns blocks)) (sym c.requires.runs.2)
     (finds_none c.args.local.now c.requires.runs.0 c.requires.runs.1 c.args.search.pages c.args.search.align (model.Finding (ForPages c.args.search.pages c.args.search.align) (aim_of c.args.search.aim)) c.requires.place refl
     (Go (model.PurgeTaking None (SearchAgain (ForPages c.args.search.pages c.args.search.align) (aim_of c.args.search.aim)))) c.go-in-None.new.self c.go-in-None.ensures none refl))
+
+pub returns-in_err-span-clause-memory : goal.returns-in_err-span-clause-memory
+returns-in_err-span-clause-memory c =
+    elim c.from_residual.result as (λ r. OnErr r (TakesMemory c.args.local.now (FreeRuns c.args.free.now.blocks))) [
+      | Ok done ↦ tt
+      | Err e ↦ subst (λ blocks. TakesMemory c.args.local.now (FreeRuns blocks)) (sym c.requires.runs.2)
+          (finds_with_memory c.args.local.now c.requires.runs.0 c.requires.runs.1 c.args.search.pages c.args.search.align (ap (ask c.args.local.now.setup) c.requires.place) (c.in_err-span.ensures.fits c.requires.runs.0 c.requires.runs.2))
+    ]

@@ -7,7 +7,7 @@ use Rattle.section_core.specs.Regions.{region_of}
 use Rattle.section_core.specs.Lawful.{IsLawful}
 use Rattle.vm_model.specs.Parts.{Desk, PurgeTurn, AllocTurn, Percpu, FreeRuns, LiveAreas, WaitingSpans, Pages}
 use Rattle.section_core.proofs.LawfulCallers.{few_more, wanted_number, never_chunks}
-use Rattle.section_core.proofs.LawfulRegions.{runs_there, dropped_there, returned_there, mapped_there, unmapped_there, flushed_there, memory_there, pages_wide_there, settled_there, can_wait_there}
+use Rattle.section_core.proofs.LawfulRegions.{runs_there, dropped_there, returned_there, mapped_there, unmapped_there, flushed_there, memory_there, pages_wide_there, serials_there, settled_there, can_wait_there}
 use Rattle.section_core.proofs.LawfulBlocks.{own_there, wanted_blocks, blocks_well_there}
 use Rattle.section_core.proofs.sections.section.Goals as goal
 
@@ -56,6 +56,11 @@ pub at_busy-requires-clause-settled : goal.at_busy-requires-clause-settled
 at_busy-requires-clause-settled c =
     let is : region_of c.region.inside.side ≡ c.args.region.now = c.region.view_is in
     settled_there c.args.local.now c.in-Busy.busy.areas c.in-Busy.busy.next (subst (StandTogether wants IsLawful c.args.local.now) (sym is ∙ ap region_of c.in-Busy.is) c.requires)
+
+pub at_busy-requires-clause-serials : goal.at_busy-requires-clause-serials
+at_busy-requires-clause-serials c =
+    let is : region_of c.region.inside.side ≡ c.args.region.now = c.region.view_is in
+    serials_there c.args.local.now c.in-Busy.busy.areas c.in-Busy.busy.next (subst (StandTogether wants IsLawful c.args.local.now) (sym is ∙ ap region_of c.in-Busy.is) c.requires)
 
 pub at_free-requires-clause-returned : goal.at_free-requires-clause-returned
 at_free-requires-clause-returned c =

@@ -34,8 +34,8 @@ invariant_of-self-else-has_room c =
     let none : c.free-has_room.result ≤ 0 = c.if-has_room.false in
     rw next.1 (added_full _ _ _ c.args.start c.args.pages c.args.caller _ _ _ c.in_ok-block.block c.cut.new.self c.self.invariant c.requires.least most end unused c.in_ok-block.ensures c.cut.ensures.part new (omega arith) _ c.reserve.ensures.items)
 
-pub returns-then-has_room-clause-ok : goal.returns-then-has_room-clause-ok
-returns-then-has_room-clause-ok c =
+pub returns-then-has_room-clause-added : goal.returns-then-has_room-clause-added
+returns-then-has_room-clause-added c =
     let most = rw (← c.self.view_is) at c.requires.most in
     let end = rw (← c.self.view_is) at c.requires.end in
     let unused = subst (λ (r : BlockRows). IsUnused r (span c.args.start r.pages)) (sym c.self.view_is) c.requires.unused in
@@ -44,8 +44,8 @@ returns-then-has_room-clause-ok c =
     rw (← c.self.view_is) (ap (λ bs. record { cpu = c.self.inside.cpu; pages = c.self.inside.pages; blocks = bs; next = c.self.inside.next })
     (added_blocks _ _ _ c.args.start c.args.pages c.args.caller _ _ _ c.in_ok-block.block c.cut.new.self c.self.invariant c.requires.least most end unused c.in_ok-block.ensures c.cut.ensures.part new ∙ ap (λ n. blocks_in (values_of c.self.inside.blocks.entries) ++ with_part c.args.caller (record { cpu = c.self.inside.cpu; block = c.args.start; offset = n; pages = c.args.pages }) (record { start = c.args.start; cpu = c.self.inside.cpu; parts = [] }) ∷ []) (sym (c.cut.ensures.offset ∙ bare_offset _ _ _ _ c.in_ok-block.block c.in_ok-block.ensures))))
 
-pub returns-else-has_room-clause-ok : goal.returns-else-has_room-clause-ok
-returns-else-has_room-clause-ok c =
+pub returns-else-has_room-clause-added : goal.returns-else-has_room-clause-added
+returns-else-has_room-clause-added c =
     let most = rw (← c.self.view_is) at c.requires.most in
     let end = rw (← c.self.view_is) at c.requires.end in
     let unused = subst (λ (r : BlockRows). IsUnused r (span c.args.start r.pages)) (sym c.self.view_is) c.requires.unused in

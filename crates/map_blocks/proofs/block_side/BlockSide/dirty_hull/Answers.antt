@@ -1,5 +1,6 @@
 use Rattle.std.proofs.Common.{None, refl, sym, ap, ◌∙◌}
 use Rattle.map_blocks.proofs.DirtyHulls.{hull_onto, hulled_some, hulled_none, dirty_hull_is}
+use Rattle.map_blocks.proofs.Clean.{none_is_clean}
 use Rattle.map_blocks.proofs.block_side.BlockSide.dirty_hull.Goals as goal
 
 pub loop-block-init : goal.loop-block-init
@@ -17,7 +18,13 @@ loop-block-preserved-in-Some-dirty_range c = hulled_some _ _ c.dirty_range.resul
 pub loop-block-preserved : goal.loop-block-preserved
 loop-block-preserved c = hulled_none _ _ c.dirty_range.result c.in-Some.block.now _ _ c.loop-block.invariant c.in-Some.ensures.steps c.dirty_range.ensures.range c.in_default.is
 
-pub returns : goal.returns
-returns c =
+pub returns-clause-hull : goal.returns-clause-hull
+returns-clause-hull c =
     let all = c.into_iter-block-iterator.ensures.into_iter_gives ∙ c.values-block-items.ensures.rest in
     rw (← c.self.view_is) (ap (hull_onto c.loop-block.hull) (sym c.in-None.ensures.steps.0) ∙ c.loop-block.invariant.same ∙ ap (hull_onto None) all ∙ dirty_hull_is _ _ _ c.self.inside.blocks.entries c.self.invariant.apart)
+
+pub returns-clause-none : goal.returns-clause-none
+returns-clause-none c =
+    let all = c.into_iter-block-iterator.ensures.into_iter_gives ∙ c.values-block-items.ensures.rest in
+    rw (← c.self.view_is) (none_is_clean _ _ _ c.self.inside.blocks.entries c.loop-block.hull c.self.invariant.apart
+    (ap (hull_onto c.loop-block.hull) (sym c.in-None.ensures.steps.0) ∙ c.loop-block.invariant.same ∙ ap (hull_onto None) all ∙ dirty_hull_is _ _ _ c.self.inside.blocks.entries c.self.invariant.apart))

@@ -1,4 +1,4 @@
-use Rattle.std.proofs.Common.{◌≡◌, true, false, Some, None, if◌then◌else◌, refl, sym, ap, subst, ◌∙◌, arith}
+use Rattle.std.proofs.Common.{◌≡◌, true, false, refl, sym, ap, subst, ◌∙◌, arith}
 use Rattle.std.specs.Map.{values_of, remove_entry}
 use Rattle.vm_model.specs.PlainMap.{Ended}
 use Rattle.vm_model.specs.Blocks as model
@@ -15,7 +15,7 @@ use Rattle.map_blocks.proofs.block_side.BlockSide.retire.Goals as goal
 
 pub unreachable-requires : goal.unreachable-requires
 unreachable-requires c =
-    let held = rw (← c.self.view_is) at c.requires in
+    let held = rw (← c.self.view_is) at c.requires.held in
     let hand = hand_in _ _ _ c.args.part.now.block c.args.part.now.offset held.0 _ (omega (arith, c.self.invariant.least)) c.self.invariant.apart held.1 in
     let none = rw c.in_default.is at c.get_mut.ensures.value in
     let at = hand.at in
@@ -23,7 +23,7 @@ unreachable-requires c =
 
 pub end-requires : goal.end-requires
 end-requires c =
-    let held = rw (← c.self.view_is) at c.requires in
+    let held = rw (← c.self.view_is) at c.requires.held in
     let hand = hand_in _ _ _ c.args.part.now.block c.args.part.now.offset held.0 _ (omega (arith, c.self.invariant.least)) c.self.invariant.apart held.1 in
     let at = rw c.in-Some.is at c.get_mut.ensures.value in
     let is = hand.at in
@@ -40,14 +40,13 @@ invariant_of-self c =
     (sym (c.remove.ensures.entries ∙ ap (λ es. remove_entry (at_key c.args.part.now.block) es) (c.get_mut.follows.holds c.end.new.self).0 ∙ remove_set c.args.part.now.block c.self.inside.blocks.entries c.end.new.self))
     (removed_kept _ _ _ c.args.part.now.block _ c.in-Some.block.now _ c.self.invariant (sym at) (spent_full c.self.inside.pages c.args.part.now.offset Ended c.in-Some.block.now.block spent))
 
-pub returns-then-is_spent-clause-spent : goal.returns-then-is_spent-clause-spent
-returns-then-is_spent-clause-spent c =
+pub returns-then-is_spent-clause-some : goal.returns-then-is_spent-clause-some
+returns-then-is_spent-clause-some c =
     let at = rw c.in-Some.is at c.get_mut.ensures.value in
     let own = (found _ _ _ 0 c.args.part.now.block _ c.in-Some.block.now c.self.invariant.apart (sym at)).own in
     let spent : is_spent (sized c.self.inside.pages) (with_life_at c.args.part.now.offset Ended c.in-Some.block.now).block ≡ true =
     ap (λ n. is_spent (sized n) (with_life_at c.args.part.now.offset Ended c.in-Some.block.now).block) (sym own.size) ∙ ap (λ (r : KeptRow). is_spent (sized r.pages) r.block) (sym c.end.ensures) ∙ same_bits _ _ c.is_spent.ensures ∙ c.if-is_spent.true in
-    rw (← c.self.view_is) (sym (ap (λ t. if t then Some c.args.part.now.block else None)
-    (passes_changed _ _ _ c.args.part.now.block (model.with_life (at_of c.self.inside.cpu c.args.part.now) Ended) (is_spent (sized c.self.inside.pages)) c.self.inside.blocks.entries c.in-Some.block.now (omega (arith, c.self.invariant.least)) c.self.invariant.apart (sym at) (λ b. refl) ∙ spent)))
+    rw (← c.self.view_is) (passes_changed _ _ _ c.args.part.now.block (model.with_life (at_of c.self.inside.cpu c.args.part.now) Ended) (is_spent (sized c.self.inside.pages)) c.self.inside.blocks.entries c.in-Some.block.now (omega (arith, c.self.invariant.least)) c.self.invariant.apart (sym at) (λ b. refl) ∙ spent)
 
 pub returns-then-is_spent-clause-ended : goal.returns-then-is_spent-clause-ended
 returns-then-is_spent-clause-ended c =
@@ -67,14 +66,13 @@ invariant_of-self-else-is_spent c =
     ap (λ n. is_spent (sized n) (with_life_at c.args.part.now.offset Ended c.in-Some.block.now).block) (sym own.size) ∙ ap (λ (r : KeptRow). is_spent (sized r.pages) r.block) (sym c.end.ensures) ∙ same_bits _ _ c.is_spent.ensures ∙ c.if-is_spent.false in
     life_kept _ _ _ c.args.part.now.block c.args.part.now.offset Ended _ _ c.in-Some.block.now c.end.new.self _ c.self.invariant (sym at) c.end.ensures unspent (c.get_mut.follows.holds c.end.new.self).0
 
-pub returns-clause-spent : goal.returns-clause-spent
-returns-clause-spent c =
+pub returns-clause-none : goal.returns-clause-none
+returns-clause-none c =
     let at = rw c.in-Some.is at c.get_mut.ensures.value in
     let own = (found _ _ _ 0 c.args.part.now.block _ c.in-Some.block.now c.self.invariant.apart (sym at)).own in
     let unspent : is_spent (sized c.self.inside.pages) (with_life_at c.args.part.now.offset Ended c.in-Some.block.now).block ≡ false =
     ap (λ n. is_spent (sized n) (with_life_at c.args.part.now.offset Ended c.in-Some.block.now).block) (sym own.size) ∙ ap (λ (r : KeptRow). is_spent (sized r.pages) r.block) (sym c.end.ensures) ∙ same_bits _ _ c.is_spent.ensures ∙ c.if-is_spent.false in
-    rw (← c.self.view_is) (sym (ap (λ t. if t then Some c.args.part.now.block else None)
-    (passes_changed _ _ _ c.args.part.now.block (model.with_life (at_of c.self.inside.cpu c.args.part.now) Ended) (is_spent (sized c.self.inside.pages)) c.self.inside.blocks.entries c.in-Some.block.now (omega (arith, c.self.invariant.least)) c.self.invariant.apart (sym at) (λ b. refl) ∙ unspent)))
+    rw (← c.self.view_is) (passes_changed _ _ _ c.args.part.now.block (model.with_life (at_of c.self.inside.cpu c.args.part.now) Ended) (is_spent (sized c.self.inside.pages)) c.self.inside.blocks.entries c.in-Some.block.now (omega (arith, c.self.invariant.least)) c.self.invariant.apart (sym at) (λ b. refl) ∙ unspent)
 
 pub returns-clause-ended : goal.returns-clause-ended
 returns-clause-ended c =

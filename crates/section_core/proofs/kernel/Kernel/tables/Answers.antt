@@ -26,11 +26,11 @@ returns c = λ config opening calls w st.
     tables_told config opening calls w _ st.running
     (c.of.ensures ∙ c.in_ok-entries.ensures machine opening calls w st)
     (c.len.ensures ∙ c.self.inside.moved.ok.0 ∙ ap length (ap (λ (k : KernelState). k.moved) c.self.view_is ∙ st.moved) ∙ length-movers w.events)
-    (c.free_frames.ensures ∙ ap (λ (p : pool.Pages). length (pool.free_of p)) pages ∙ free_count machine opening calls w st.running)
-    (c.mapped.ensures ∙ ap (λ (p : pool.Pages). count_by is_some p.frames) pages)
-    (c.stale.ensures ∙ ap (λ (p : pool.Pages). count_by (λ b. b) p.stale) pages)
+    (c.free_frames.ensures.count ∙ ap (λ (p : pool.Pages). length (pool.free_of p)) pages ∙ free_count machine opening calls w st.running)
+    (c.mapped.ensures.count ∙ ap (λ (p : pool.Pages). count_by is_some p.frames) pages)
+    (c.stale.ensures.count ∙ ap (λ (p : pool.Pages). count_by (λ b. b) p.stale) pages)
     (c.of-2.ensures ∙ c.in_ok-free_blocks.ensures ∙ free)
-    (c.in_ok-areas.ensures ∙ areas)
+    (c.in_ok-areas.ensures.all ∙ areas)
     (c.of-3.ensures ∙ c.in_ok-waiting_spans.ensures ∙ ap (sort_by (λ (s : Span). s.start)) waiting) (c.of-4.ensures ∙ c.in_ok-block_rows.ensures machine opening calls w st.running (behind c.self.inside.regions.items (regions_of machine w.map) _ (held ∙ st.regions) (ap (λ (rs : List Region). take (length rs - 8) (drop 8 rs)) c.deref.ensures.value))) (c.of-5.ensures ∙ c.in_ok-part_rows.ensures machine opening calls w st.running (behind c.self.inside.regions.items (regions_of machine w.map) _ (held ∙ st.regions) (ap (λ (rs : List Region). take (length rs - 8) (drop 8 rs)) c.deref-2.ensures.value))) (c.of-6.ensures ∙ c.new.ensures.items) (c.of-7.ensures ∙ c.new-2.ensures.items)
     (c.len-2.ensures.count ∙ ap length free) largest largest (c.of-8.ensures ∙ c.new-3.ensures.items) (c.of-9.ensures ∙ c.new-4.ensures.items)
 
