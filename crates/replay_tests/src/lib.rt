@@ -1,10 +1,6 @@
-//! Traces through the public call that replays them, and what it writes.
+//! Traces through the public call that replays them, and the reports that are expected of them.
 #![tactic(auto)]
 
-#[cfg(test)]
-mod bad_texts;
-#[cfg(test)]
-mod drawn_traces;
 #[cfg(test)]
 mod freed_areas;
 #[cfg(test)]
@@ -13,3 +9,7 @@ mod groups_of_processors;
 mod mapped_blocks;
 #[cfg(test)]
 mod replayed;
+#[cfg(test)]
+mod steady_streams;
+#[cfg(test)]
+mod worked_traces;

@@ -8,11 +8,11 @@ use vm_model::Call;
 
 #[test]
 fn lays_units_out(rt: HostRuntime) -> Result<(), Fail> {
-    for (text, unit_pages, atom, units) in [
+    for (text, unit_pages, pages, units) in [
         (
             b"vmtrace 1\nspace 64\nend\n".as_slice(),
             8,
-            1,
+            8,
             [0].as_slice(),
         ),
         (
@@ -24,25 +24,44 @@ fn lays_units_out(rt: HostRuntime) -> Result<(), Fail> {
         (
             b"vmtrace 1\nspace 64\nunit 8 32\ngroup 6 0\nend\n".as_slice(),
             8,
-            32,
+            64,
             [0, 8, 16, 24, 32, 40].as_slice(),
+        ),
+        (
+            b"vmtrace 1\nspace 96\nunit 8 32\ngroup 5 0\nend\n".as_slice(),
+            16,
+            96,
+            [0, 16, 32, 48, 64].as_slice(),
         ),
         (
             b"vmtrace 1\nspace 64\nunit 8 1\ngroup 1 0\ngroup 1 16\nend\n".as_slice(),
             8,
-            1,
+            8,
             [0, 16].as_slice(),
         ),
         (
             b"vmtrace 1\nspace 96\nblock 8 4\nunit 8 2\ngroup 1 0\ngroup 2 16\nend\n".as_slice(),
             8,
-            2,
+            8,
             [0, 16, 24].as_slice(),
         ),
     ] {
         let layout = read_trace(rt.alloc(), text)?.config.layout;
-        assert_eq!(rt; (layout.unit_pages(), layout.atom()), (unit_pages, atom));
+        let first = layout.groups().first().map(|group| group.pages);
+        assert_eq!(rt; layout.unit_pages(), unit_pages);
+        assert_eq!(rt; first, Some(pages));
         assert_eq!(rt; layout.units(), units);
+    }
+    Ok(())
+}
+
+#[test]
+fn reads_atoms(rt: HostRuntime) -> Result<(), Fail> {
+    for (text, atom) in [
+        (b"vmtrace 1\nspace 64\nend\n".as_slice(), 1),
+        (b"vmtrace 1\nspace 64\nunit 64 64\nend\n".as_slice(), 64),
+    ] {
+        assert_eq!(rt; read_trace(rt.alloc(), text)?.config.layout.atom(), atom);
     }
     Ok(())
 }

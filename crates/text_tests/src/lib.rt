@@ -1,8 +1,6 @@
-//! Texts that are read as traces or refused, and the bytes of reports and faults.
+//! Texts that are read as traces, layouts that are refused, and the bytes of reports and faults.
 #![tactic(auto)]
 
-#[cfg(test)]
-mod bad_lines;
 #[cfg(test)]
 mod layouts;
 #[cfg(test)]

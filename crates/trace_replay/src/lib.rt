@@ -11,8 +11,6 @@ mod send;
 mod sink;
 mod source;
 mod status;
-#[cfg(test)]
-mod tests;
 mod worked;
 
 pub use commands::{Mode, replay, run};

@@ -1,6 +1,6 @@
 use Rattle.std.proofs.Common.{arith}
 use Rattle.trace_replay.proofs.ReplayTexts.{room_for_two_areas}
-use Rattle.trace_replay.proofs.worked.tests.two_areas_with_guards.Goals as goal
+use Rattle.replay_tests.proofs.steady_streams.two_areas_with_guards.Goals as goal
 
 pub run-status-requires : goal.run-status-requires
 run-status-requires g c = record {
