@@ -26,5 +26,5 @@ pub returns-in_err-reserve-clause-fits : goal.returns-in_err-reserve-clause-fits
 returns-in_err-reserve-clause-fits c =
     let fits : (taken : List Bool) → AreFreeRuns c.args.self.now taken → IsSome (lowest taken c.args.pages c.args.align)
     = λ taken is. subst IsSome (found-lowest c.args.self.now c.deref.result.now _ c.args.pages c.args.align taken c.in-Some.ensures.start
-        (c.deref.ensures.value ∙ ap (λ (s : FreeBlocks). s.blocks) c.self.view_is) is c.requires.pages c.requires.align) refl in
+    (c.deref.ensures.value ∙ ap (λ (s : FreeBlocks). s.blocks) c.self.view_is) is c.requires.pages c.requires.align) refl in
     elim c.from_residual.result as (λ r. OnErr r ((taken : List Bool) → AreFreeRuns c.args.self.now taken → IsSome (lowest taken c.args.pages c.args.align))) [ Ok found ↦ tt | Err e ↦ fits ]
