@@ -11,9 +11,13 @@ import shutil
 import subprocess
 import sys
 import tempfile
+import time
 
 BUILT = os.path.join(os.path.dirname(os.path.abspath(__file__)), "..", "crates", "vmreplay", "out", "vmreplay")
 RUNS = 25
+
+# the text that is compared with the next one
+FAR = "100,000 calls of vmalloc and vfree, `lazy 0`, hulls of 1,040,384 pages"
 
 
 def trace(space, call, count):
@@ -50,24 +54,57 @@ def callers(count):
 
 
 def freed(count, lazy):
-    """Areas that are made and freed again in a large range: a purge at each free without a limit, one with the largest."""
+    """Areas that are made and freed again in a large range: a purge at each free without a limit, none with the largest."""
     lines = ["vmtrace 1", "space 1048576", f"lazy {lazy}"]
     for number in range(count // 2):
         lines += [f"vmalloc a{number} {1 + number * 37 % 4999} 4096", f"vfree a{number}"]
     return "\n".join(lines + ["end", ""]).encode()
 
 
-def far_apart(count):
-    """Frees of two callers at both ends of half a large range, picked so that one purge takes both: its hull is that half."""
-    lines = ["vmtrace 1", "space 1048576", "lazy 0", "callers 2", "caller 1"]
+def spread(count):
+    """Areas that are made and freed again, none of which touches another: half as many gaps as calls, passed by each search."""
+    lines = ["vmtrace 1", "space 1048576", "lazy 1048576"]
+    for number in range(count // 2):
+        lines += [f"vmalloc a{number} 1 16384", f"vfree a{number}"]
+    return "\n".join(lines + ["end", ""]).encode()
+
+
+def far_apart(count, lazy, align):
+    """Frees of two callers, picked so that a purge takes one of each. The first caller's areas lie near page 0. The second's
+    do so too, or with an alignment of 8,192 pages behind all multiples that the opening has taken, near the end of the
+    range. The last call is a purge of what still waits."""
+    lines = ["vmtrace 1", "space 1048576", f"lazy {lazy}", "callers 2"]
+    lines += [f"vmalloc f{number} 1 {8192 * 4096}" for number in range(127)]
+    lines.append("caller 1")
     for number in range(count // 4):
         lines += [f"vmalloc a{number} 1 1", f"vfree a{number}"]
     lines.append("caller 2")
     for number in range(count // 4):
-        lines += [f"vmalloc b{number} 1 2147483648", f"vfree b{number}"]
+        lines += [f"vmalloc b{number} 1 {align}", f"vfree b{number}"]
+    lines.append("unmap_aliases")
     picks = "1 1 1 2 2 2 1 1 1 2 2 2 1 1 1 1 1 1 2 2 2 2".split() * (count // 4)
     for place in range(0, len(picks), 64):
         lines.append("order " + " ".join(picks[place : place + 64]))
+    return "\n".join(lines + ["end", ""]).encode()
+
+
+def blocks(count):
+    """Parts of 1 to 16 pages on four processors: 64 of them live at a time, and the oldest ends as the next one is made."""
+    lines = ["vmtrace 1", "space 1048576", "group 4 0"]
+    for number in range(count // 2):
+        lines.append(f"map_ram r{number} {number % 4} {1 + number * 7 % 16}")
+        if number >= 64:
+            lines.append(f"unmap_ram r{number - 64}")
+    return "\n".join(lines + ["end", ""]).encode()
+
+
+def aliases(count):
+    """Parts that are made and end, and a purge for what they leave after each 8 of them, over 16 processors."""
+    lines = ["vmtrace 1", "space 1048576", "group 16 0"]
+    for number in range(count * 8 // 17):
+        lines += [f"map_ram r{number} {number % 16} {1 + number * 7 % 16}", f"unmap_ram r{number}"]
+        if number % 8 == 7:
+            lines.append("unmap_aliases")
     return "\n".join(lines + ["end", ""]).encode()
 
 
@@ -87,12 +124,15 @@ def seconds(command, path):
 
 
 def least(runs):
-    """The least time of each of these commands, or None where there is no such command."""
+    """The least time of each of these commands, or None where there is no such command. It ends after a minute."""
     times = [[] for _ in runs]
+    begun = time.monotonic()
     for _ in range(RUNS):
         for (command, path), own in zip(runs, times):
             if shutil.which(command[0]):
                 own.append(seconds(command, path))
+        if time.monotonic() - begun > 60:
+            break
     return [min(own, default=None) for own in times]
 
 
@@ -112,20 +152,29 @@ def main():
         ("100,000 calls of 16 callers, 400,000 picks", callers(50_000), callers(100_000)),
         ("100,000 calls of vmalloc and vfree, `lazy 0`", freed(50_000, 0), freed(100_000, 0)),
         ("100,000 calls of vmalloc and vfree, `lazy 1048576`", freed(50_000, 1048576), freed(100_000, 1048576)),
-        ("100,000 calls of vmalloc and vfree, `lazy 0`, hulls of half the space", far_apart(50_000), far_apart(100_000)),
+        (FAR, far_apart(50_000, 0, 8192 * 4096), far_apart(100_000, 0, 8192 * 4096)),
+        ("the same calls near page 0, `lazy 1048576`, one purge", far_apart(50_000, 1048576, 1), far_apart(100_000, 1048576, 1)),
+        ("100,000 calls of vmalloc and vfree, 50,000 gaps", spread(50_000), spread(100_000)),
+        ("100,000 calls of map_ram and unmap_ram", blocks(50_000), blocks(100_000)),
+        ("100,000 calls of map_ram, unmap_ram and unmap_aliases", aliases(50_000), aliases(100_000)),
         ("16 MiB, the fault in the last line", late_fault(8 << 20), late_fault(16 << 20)),
     ]
-    print("| Text | seconds | to its half | to `wc -l` | to `sort` |")
-    print("|---|---|---|---|---|")
+    print("| Text | seconds | to its half | to the next text | to `wc -l` | to `sort` |")
+    print("|---|---|---|---|---|---|")
     with tempfile.TemporaryDirectory() as folder:
-        half_path, path = os.path.join(folder, "half"), os.path.join(folder, "whole")
-        for name, half, whole in texts:
-            for place, text in ((half_path, half), (path, whole)):
-                with open(place, "wb") as file:
+        half_path, path, next_path = (os.path.join(folder, name) for name in ("half", "whole", "next"))
+        for place, (name, half, whole) in enumerate(texts):
+            following = texts[place + 1][2] if name == FAR else b""
+            for file_path, text in ((half_path, half), (path, whole), (next_path, following)):
+                with open(file_path, "wb") as file:
                     file.write(text)
             replay = [program, "replay"]
-            time, halved, lines, sorting = least([(replay, path), (replay, half_path), (["wc", "-l"], path), (["sort"], path)])
-            print(f"| {name} | {time:.3f} | {ratio(time, halved)} | {ratio(time, lines)} | {ratio(time, sorting)} |")
+            runs = [(replay, path), (replay, half_path), (["wc", "-l"], path), (["sort"], path)]
+            if following:
+                runs.append((replay, next_path))
+            own, halved, lines, sorting, *other = least(runs)
+            after = ratio(own, other[0]) if other else ""
+            print(f"| {name} | {own:.3f} | {ratio(own, halved)} | {after} | {ratio(own, lines)} | {ratio(own, sorting)} |", flush=True)
 
 
 if __name__ == "__main__":
