@@ -6,46 +6,41 @@ use trace_text::{Fault, TraceError, read_trace, write_fault};
 use unit_layout::LayoutError;
 use vm_model::Call;
 
+/// A header, the pages of a unit, the pages of the first group, and the units of the processors.
+type LaidOut = (&'static [u8], u32, u32, &'static [u32]);
+
+const LAYOUTS: [LaidOut; 6] = [
+    (b"vmtrace 1\nspace 64\nend\n", 8, 8, &[0]),
+    (b"vmtrace 1\nspace 64\nunit 8 32\nend\n", 32, 32, &[0]),
+    (
+        b"vmtrace 1\nspace 64\nunit 8 32\ngroup 6 0\nend\n",
+        8,
+        64,
+        &[0, 8, 16, 24, 32, 40],
+    ),
+    (
+        b"vmtrace 1\nspace 96\nunit 8 32\ngroup 5 0\nend\n",
+        16,
+        96,
+        &[0, 16, 32, 48, 64],
+    ),
+    (
+        b"vmtrace 1\nspace 64\nunit 8 1\ngroup 1 0\ngroup 1 16\nend\n",
+        8,
+        8,
+        &[0, 16],
+    ),
+    (
+        b"vmtrace 1\nspace 96\nblock 8 4\nunit 8 2\ngroup 1 0\ngroup 2 16\nend\n",
+        8,
+        8,
+        &[0, 16, 24],
+    ),
+];
+
 #[test]
 fn lays_units_out(rt: HostRuntime) -> Result<(), Fail> {
-    for (text, unit_pages, pages, units) in [
-        (
-            b"vmtrace 1\nspace 64\nend\n".as_slice(),
-            8,
-            8,
-            [0].as_slice(),
-        ),
-        (
-            b"vmtrace 1\nspace 64\nunit 8 32\nend\n".as_slice(),
-            32,
-            32,
-            [0].as_slice(),
-        ),
-        (
-            b"vmtrace 1\nspace 64\nunit 8 32\ngroup 6 0\nend\n".as_slice(),
-            8,
-            64,
-            [0, 8, 16, 24, 32, 40].as_slice(),
-        ),
-        (
-            b"vmtrace 1\nspace 96\nunit 8 32\ngroup 5 0\nend\n".as_slice(),
-            16,
-            96,
-            [0, 16, 32, 48, 64].as_slice(),
-        ),
-        (
-            b"vmtrace 1\nspace 64\nunit 8 1\ngroup 1 0\ngroup 1 16\nend\n".as_slice(),
-            8,
-            8,
-            [0, 16].as_slice(),
-        ),
-        (
-            b"vmtrace 1\nspace 96\nblock 8 4\nunit 8 2\ngroup 1 0\ngroup 2 16\nend\n".as_slice(),
-            8,
-            8,
-            [0, 16, 24].as_slice(),
-        ),
-    ] {
+    for (text, unit_pages, pages, units) in LAYOUTS {
         let layout = read_trace(rt.alloc(), text)?.config.layout;
         let first = layout.groups().first().map(|group| group.pages);
         assert_eq!(rt; layout.unit_pages(), unit_pages);
