@@ -111,7 +111,6 @@ impl PlainBlock {
 }
 
 impl PlainSide {
-    /// No block; serials begin at 1.
     pub fn new(alloc: Global) -> PlainSide {
         PlainSide {
             alloc,
