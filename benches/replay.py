@@ -73,16 +73,17 @@ def far_apart(count, lazy, align):
     """Frees of two callers, picked so that a purge takes one of each. The first caller's areas lie near page 0. The second's
     do so too, or with an alignment of 8,192 pages behind all multiples that the opening has taken, near the end of the
     range. The last call is a purge of what still waits."""
+    rounds = (count - 128) // 4
     lines = ["vmtrace 1", "space 1048576", f"lazy {lazy}", "callers 2"]
     lines += [f"vmalloc f{number} 1 {8192 * 4096}" for number in range(127)]
     lines.append("caller 1")
-    for number in range(count // 4):
+    for number in range(rounds):
         lines += [f"vmalloc a{number} 1 1", f"vfree a{number}"]
     lines.append("caller 2")
-    for number in range(count // 4):
+    for number in range(rounds):
         lines += [f"vmalloc b{number} 1 {align}", f"vfree b{number}"]
     lines.append("unmap_aliases")
-    picks = "1 1 1 2 2 2 1 1 1 2 2 2 1 1 1 1 1 1 2 2 2 2".split() * (count // 4)
+    picks = "1 1 1 2 2 2 1 1 1 2 2 2 1 1 1 1 1 1 2 2 2 2".split() * rounds
     for place in range(0, len(picks), 64):
         lines.append("order " + " ".join(picks[place : place + 64]))
     return "\n".join(lines + ["end", ""]).encode()
