@@ -4,8 +4,6 @@
 #[cfg(test)]
 mod drawn_blocks;
 #[cfg(test)]
-mod drawn_callers;
-#[cfg(test)]
 mod drawn_frees;
 #[cfg(test)]
 mod drawn_searches;
