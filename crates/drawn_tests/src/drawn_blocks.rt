@@ -1,7 +1,7 @@
 //! Parts of one caller that are cut from blocks of one processor or two, end and are purged.
-use crate::drawn_trace::DrawnTrace;
 use crate::draws::Draws;
-use crate::plain_map::Machine;
+use crate::replayed::compare;
+use plain_kernel::{Machine, PlainTrace};
 use std::test::Fail;
 
 #[test]
@@ -16,7 +16,7 @@ fn drawn_blocks(rt: HostRuntime) -> Result<(), Fail> {
             part_limit: 4,
             cpus: draws.among(&[1, 2]),
         };
-        let mut trace = DrawnTrace::new(rt.alloc(), machine)?;
+        let mut trace = PlainTrace::new(rt.alloc(), machine)?;
         let mut parts = Vec::new(rt.alloc());
         for _ in 0..30 {
             let kind = draws.among(&[0, 0, 0, 1, 1, 2]);
@@ -30,7 +30,7 @@ fn drawn_blocks(rt: HostRuntime) -> Result<(), Fail> {
                 trace.unmap_aliases()?;
             }
         }
-        trace.compare(&rt, rt.alloc())?;
+        compare(&rt, rt.alloc(), trace)?;
     }
     Ok(())
 }

@@ -1,14 +1,14 @@
 //! Areas of one caller that are freed, wait and are purged.
-use crate::drawn_trace::DrawnTrace;
 use crate::draws::Draws;
-use crate::plain_map::Machine;
+use crate::replayed::compare;
+use plain_kernel::{Machine, PlainTrace};
 use std::test::Fail;
 
 #[test]
 fn drawn_frees(rt: HostRuntime) -> Result<(), Fail> {
     let mut draws = Draws::from(2);
     for _ in 0..12 {
-        let mut trace = DrawnTrace::new(
+        let mut trace = PlainTrace::new(
             rt.alloc(),
             Machine {
                 space: draws.among(&[8, 11, 12, 16, 20, 24]),
@@ -29,7 +29,7 @@ fn drawn_frees(rt: HostRuntime) -> Result<(), Fail> {
                 trace.vfree(draws.among(areas.as_slice()))?;
             }
         }
-        trace.compare(&rt, rt.alloc())?;
+        compare(&rt, rt.alloc(), trace)?;
     }
     Ok(())
 }

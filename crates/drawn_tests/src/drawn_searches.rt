@@ -1,14 +1,14 @@
 //! Searches of one caller, with and without a hole.
-use crate::drawn_trace::DrawnTrace;
 use crate::draws::Draws;
-use crate::plain_map::Machine;
+use crate::replayed::compare;
+use plain_kernel::{Machine, PlainTrace};
 use std::test::Fail;
 
 #[test]
 fn drawn_searches(rt: HostRuntime) -> Result<(), Fail> {
     let mut draws = Draws::from(1);
     for _ in 0..20 {
-        let mut trace = DrawnTrace::new(
+        let mut trace = PlainTrace::new(
             rt.alloc(),
             Machine {
                 space: draws.among(&[1, 2, 5, 9, 17, 30, 44, 63, 80]),
@@ -24,7 +24,7 @@ fn drawn_searches(rt: HostRuntime) -> Result<(), Fail> {
             let align = draws.among(&[0, 1, 1, 3, 4096, 8192, 16_384, 65_536, 8_589_934_592]);
             trace.vmalloc(bytes, align)?;
         }
-        trace.compare(&rt, rt.alloc())?;
+        compare(&rt, rt.alloc(), trace)?;
     }
     Ok(())
 }

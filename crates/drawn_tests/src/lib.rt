@@ -1,4 +1,4 @@
-//! Traces that are drawn at random, replayed and compared with what plain models of the kernel say of them.
+//! Traces that are drawn at random, replayed and compared with what a plain model of the kernel says of them.
 #![tactic(auto)]
 
 #[cfg(test)]
@@ -8,14 +8,6 @@ mod drawn_frees;
 #[cfg(test)]
 mod drawn_searches;
 #[cfg(test)]
-mod drawn_trace;
-#[cfg(test)]
 mod draws;
-#[cfg(test)]
-mod plain_blocks;
-#[cfg(test)]
-mod plain_map;
-#[cfg(test)]
-mod plain_report;
 #[cfg(test)]
 mod replayed;

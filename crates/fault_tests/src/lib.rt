@@ -1,8 +1,7 @@
-//! Commands that end before a report is written whole: bad texts and words, and reads and writes that fail.
+//! Commands that end before a report is written whole: texts that are cut off or too long, bad words, and reads and
+//! writes that fail.
 #![tactic(auto)]
 
-#[cfg(test)]
-mod bad_texts;
 #[cfg(test)]
 mod failing_streams;
 #[cfg(test)]

@@ -16,7 +16,7 @@ use Rattle.vm_model.specs.Blocks.{rounded, free_of, cut_from, with_part}
 use Rattle.map_blocks.specs.BlockRows.{sized}
 use Rattle.map_blocks.specs.KeptBlocks.{KeptRow}
 use Rattle.map_blocks.specs.KeptSides.{IsOwn, AreApartFrom, AreKept, by_number, blocks_in}
-use Rattle.map_blocks.proofs.Powers.{rounded_high}
+use Rattle.vm_model.proofs.RoundedPages.{rounded_high}
 use Rattle.map_blocks.proofs.Sorted.{Holds, holds_of, put_last, put_end, sort_holds}
 use Rattle.map_blocks.proofs.Entries.{all_own}
 use Rattle.map_blocks.proofs.Chosen.{number_of, block_of}
@@ -27,7 +27,7 @@ abbrev pub bare : (number pages cpu start : ℕ) → KeptRow
 bare number pages cpu start = record { number = number; pages = pages; block = record { start = start; cpu = cpu; parts = [] } }
 
 pub bare_room : (number pages cpu start asked : ℕ) (r : KeptRow) → r ≡ bare number pages cpu start → IsPower pages → 1 ≤ asked → asked ≤ pages → rounded asked ≤ free_of (sized r.pages) r.block
-bare_room number pages cpu start asked r is power some most = subst (λ (x : KeptRow). rounded asked ≤ free_of (sized x.pages) x.block) (sym is) (let h = rounded_high asked pages power some most in omega arith)
+bare_room number pages cpu start asked r is power some most = subst (λ (x : KeptRow). rounded asked ≤ free_of (sized x.pages) x.block) (sym is) (let h = rounded_high asked pages power most in omega arith)
 
 -- the block ends before the pages, or begins behind them
 abbrev pub IsBeside : (pages start : ℕ) → KeptRow → Type 0
@@ -135,7 +135,7 @@ module _ (cpu pages added start asked caller : ℕ) (es news : List (ℕ × Kept
   added_own : IsOwn cpu pages (added + 1) (with_cut pages asked caller (bare added pages cpu start))
   added_own = own_cut cpu pages (added + 1) asked caller (bare added pages cpu start)
       (record { size = refl; own = refl; early = omega arith; packed = tt; within = omega arith; unspent = (let l = kept.least in let t : (0 == pages) ≡ false = grind (arith, nat_tests) in t) }) some (omega (arith, kept.most))
-      (let h = rounded_high asked pages kept.power some most in omega arith)
+      (let h = rounded_high asked pages kept.power most in omega arith)
 
   added_put : ArePut cpu pages added start w (ap start_of added_is) (omega (arith, kept.least)) (ap number_of added_is) (subst (IsOwn cpu pages (added + 1)) (sym added_is) added_own) end 0 es (insert_entry nat_cmp es start w)
   added_put = put_all cpu pages added start w (ap start_of added_is) (omega (arith, kept.least)) (ap number_of added_is) (subst (IsOwn cpu pages (added + 1)) (sym added_is) added_own) end 0 es kept.apart (omega arith)

@@ -10,7 +10,7 @@ use Rattle.map_blocks.specs.BlockRows.{IsClean}
 use Rattle.map_blocks.specs.KeptBlocks.{KeptRow}
 use Rattle.map_blocks.specs.KeptSides.{AreApartFrom, blocks_in}
 use Rattle.map_blocks.proofs.Named.{own_blocks}
-use Rattle.map_blocks.proofs.Powers.{rounded_some}
+use Rattle.vm_model.proofs.RoundedPages.{rounded_some}
 use Rattle.map_blocks.proofs.Parts.{size_cons}
 use Rattle.map_blocks.proofs.Sorted.{Holds}
 use Rattle.map_blocks.proofs.DirtyHulls.{with_range, listed_hull, pick}

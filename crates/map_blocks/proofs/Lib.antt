@@ -1,5 +1,4 @@
 mod Halves
-mod Powers
 mod Parts
 mod Cuts
 mod Ranges

@@ -8,7 +8,7 @@ use Rattle.vm_model.specs.Blocks.{PartAt, rounded, size_of, parts_size, free_of,
 use Rattle.map_blocks.specs.BlockRows.{sized}
 use Rattle.map_blocks.specs.KeptBlocks.{KeptRow}
 use Rattle.map_blocks.specs.KeptSides.{IsOwn, AreApartFrom, AreKept, AreKnown, block_at, has_room, gives_room, by_number, blocks_in, queued}
-use Rattle.map_blocks.proofs.Powers.{rounded_low, rounded_some}
+use Rattle.vm_model.proofs.RoundedPages.{rounded_low, rounded_some}
 use Rattle.map_blocks.proofs.Parts.{packed_more, size_more, ended_more, same_test}
 use Rattle.map_blocks.proofs.Sorted.{Holds, holds_of, holds_filter, sort_holds}
 use Rattle.map_blocks.proofs.Entries.{at_key, starts_at, all_at, IsAt, found, apart_set}

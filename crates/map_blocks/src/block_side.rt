@@ -12,9 +12,6 @@ ghost use Rattle.map_blocks.specs.BlockSpans.{block_span, part_spans, LiesIn, Sh
 ghost use Rattle.map_blocks.specs.BlockRows as rows;
 ghost use Rattle.map_blocks.specs.BlockRows.{BlockRows, IsHeld, IsUnused, IsClean, at_of};
 
-#[cfg(test)]
-pub mod checks;
-
 use crate::kept_block::KeptBlock;
 use crate::part::Part;
 use crate::sizes::{order_of, rounded};
@@ -147,6 +144,48 @@ impl BlockSide {
             added: 0,
             next: 1,
         }
+    }
+
+    /// How many pages each block has.
+    pub fn pages(&self) -> u32
+        ensures { result ≡ self.now.pages }
+    {
+        self.pages
+    }
+
+    /// Whether a caller has the part in hand, as `settle` and `retire` want. It takes time for each part of its block, and
+    /// no memory.
+    pub fn is_held(&self, part: &Part) -> bool
+        ensures { IsTrue result ↔ IsHeld (at_of self.now.cpu part.now) self.now.blocks }
+    {
+        match self.blocks.get(&part.block) {
+            Some(block) => block.is_in_hand(part.offset),
+            None => false,
+        }
+    }
+
+    /// Whether a block can be added at a start, given in pages: it ends in the space of at most 2 ^ 20 pages, and no block
+    /// has one of its pages. It takes time for each block, and no memory.
+    pub fn is_unused(&self, start: u32) -> bool
+        ensures end { IsTrue result → start + self.now.pages ≤ 1048576 }
+        ensures unused { IsTrue result → IsUnused self.now (span start self.now.pages) }
+    {
+        if start > 1048576 - self.pages {
+            return false;
+        }
+        for block in self.blocks.values() {
+            if !block.is_apart_from(start) {
+                return false;
+            }
+        }
+        true
+    }
+
+    /// Whether there is a serial for one more part to live under: one below 2 ^ 32 - 1.
+    pub fn has_serial(&self) -> bool
+        ensures { IsTrue result ↔ (self.now.next < 4294967295) }
+    {
+        self.next < u32::MAX
     }
 
     /// A part for a caller, cut from the first queued block that has room for it, as `vb_alloc` of the kernel looks for

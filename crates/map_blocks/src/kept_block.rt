@@ -1,5 +1,5 @@
 //! A block with its parts, and the numbers that the kernel keeps of them.
-ghost use Rattle.std.specs.Prelude.{◌≡◌, ◌≤◌, ◌<◌, ◌+◌, ◌-◌, ◌++◌, ◌∷◌, [], ℕ, IsSome, slice_get, IfOk, IfSome, IfNone, OnSome, OnOk, OnErr, IsTrue, ◌↔◌, true, length, map, filter};
+ghost use Rattle.std.specs.Prelude.{◌≡◌, ◌≤◌, ◌<◌, ◌+◌, ◌-◌, ◌++◌, ◌∷◌, [], ℕ, ◌⊎◌, IsSome, slice_get, IfOk, IfSome, IfNone, OnSome, OnOk, OnErr, IsTrue, ◌↔◌, true, length, map, filter};
 ghost use Rattle.vm_model.specs.PlainMap.{InHand, Lives, Ended};
 ghost use Rattle.vm_model.specs.Setup.{Setup};
 ghost use Rattle.vm_model.specs.Blocks.{rounded, free_of, dirty_of, range_of, dirty_range, is_spent, is_fragmented, with_part, with_life, named_in, cut_from};
@@ -7,9 +7,6 @@ ghost use Rattle.vm_model.specs.Tables as tables;
 ghost use Rattle.map_blocks.specs.KeptBlocks.{KeptRow, IsInHand, part_in, parts_named, part_of, with_life_at};
 ghost use Rattle.vm_model.specs.Space.{HasEnd};
 ghost use Rattle.map_blocks.specs.BlockRows.{sized};
-
-#[cfg(test)]
-pub mod checks;
 
 use crate::kept_part::KeptPart;
 use crate::sizes::rounded;
@@ -100,6 +97,26 @@ impl KeptBlock {
             start: self.start + range.start,
             pages: range.pages,
         })
+    }
+
+    /// Whether a caller has the part at an offset in hand. It takes time for each part before it.
+    pub fn is_in_hand(&self, offset: u32) -> bool
+        ensures { IsTrue result ↔ IsInHand offset self.now.block }
+    {
+        for part in &self.parts {
+            if part.offset() == offset {
+                return part.is_in_hand();
+            }
+        }
+        false
+    }
+
+    /// Whether it shares no page with a block of as many pages at a start.
+    pub fn is_apart_from(&self, start: u32) -> bool
+        requires { start ≤ 1048576 }
+        ensures { IsTrue result ↔ ((self.now.block.start + self.now.pages ≤ start) ⊎ (start + self.now.pages ≤ self.now.block.start)) }
+    {
+        self.start + self.pages <= start || start + self.pages <= self.start
     }
 
     /// Cuts a part behind the others, and gives its offset. It takes no memory.

@@ -83,7 +83,6 @@ impl KeptPart {
     }
 
     /// Whether a caller has it in hand.
-    #[cfg(test)]
     pub fn is_in_hand(&self) -> bool
         ensures { IsTrue result ↔ (is_in_hand self.now.life ≡ true) }
     {

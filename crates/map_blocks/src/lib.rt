@@ -7,8 +7,6 @@ mod kept_part;
 pub mod laws;
 mod part;
 mod sizes;
-#[cfg(test)]
-mod tests;
 
 pub use block_side::BlockSide;
 pub use part::Part;

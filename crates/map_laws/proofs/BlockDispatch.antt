@@ -20,7 +20,7 @@ use Rattle.vm_model.specs.Carried.{count_of}
 use Rattle.vm_model.specs.LegalHistory.{Meets}
 use Rattle.map_laws.proofs.Chosen.{IsIn}
 use Rattle.map_laws.proofs.Places.{IsPlainKind, IsProper, either_next}
-use Rattle.map_laws.proofs.Powers.{rounded_high}
+use Rattle.vm_model.proofs.RoundedPages.{rounded_high}
 use Rattle.map_laws.proofs.Spans.{covers_one, holds_from}
 use Rattle.map_laws.proofs.Touched.{painted, unpainted, painted_still, ungiven, outside_row}
 use Rattle.map_laws.proofs.AreaFacts.{IsHolding, IsMapFine, own_uses, mapped_within}
@@ -156,7 +156,7 @@ module _ (c : Setup) (m : PlainMap) (k : ℕ) (fine : IsMapFine m) (has : HasPar
   block_by (SettlingBlock place cpu pages) s is proper own plain once named at w legal = as_b c m k fine has all (SettlingBlock place cpu pages) once named s (Settle ((place, kind.Block cpu) ∷ []) w.0) w.1 legal
       (λ l. block_settled c m k fine has all place cpu pages w.0 once named own proper.0)
   block_by (AddingBlock part) s is proper own plain once named at w legal = as_b c m k fine has all (AddingBlock part) once named s (AddBlock part) w legal
-      (λ l. (let high = rounded_high part.pages c.part_limit has.power proper.1 proper.2 in add_moved c m k all part at.0 at.2 proper.0 (let f = has.fits in omega arith) (let f = has.small in let g = proper.2 in omega arith)))
+      (λ l. (let high = rounded_high part.pages c.part_limit has.power proper.2 in add_moved c m k all part at.0 at.2 proper.0 (let f = has.fits in omega arith) (let f = has.small in let g = proper.2 in omega arith)))
   block_by (MappingPart part) s is proper own plain once named at (inl w) legal = as_b c m k fine has all (MappingPart part) once named s (MapPages (mapped_pages part)) w legal
       (λ l. map_part part at.0 (less_one (MappingPart part) once) named at.1 (size_low part at.0) l)
   block_by (MappingPart part) s is proper own plain once named at (inr w) legal = as_b c m k fine has all (MappingPart part) once named s (NoFrames part.pages) w legal

@@ -12,7 +12,7 @@ use Rattle.vm_model.specs.Legal.{IsUnmapped, IsMapped, IsBare}
 use Rattle.vm_model.specs.Places.{Place, PurgeFragmenting, PurgeUnlinking, UnlinkingBlock, AddingBlock, MappingPart, SettlingPart, UnmappingPart, Retiring}
 use Rattle.vm_model.specs.Carried.{count_of}
 use Rattle.map_laws.proofs.Chosen.{IsIn, in_more}
-use Rattle.map_laws.proofs.Powers.{rounded_some}
+use Rattle.vm_model.proofs.RoundedPages.{rounded_some}
 
 -- on each of so many pages from a first one on
 abbrev pub OnRow : (first n : ℕ) → (ℕ → Type 0) → Type 0

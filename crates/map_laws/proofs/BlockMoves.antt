@@ -19,7 +19,7 @@ use Rattle.map_laws.proofs.Chosen.{IsIn}
 use Rattle.map_laws.proofs.Places.{OnNext}
 use Rattle.map_laws.proofs.Spans.{holds_from}
 use Rattle.map_laws.proofs.OutMoves.{same_area}
-use Rattle.map_laws.proofs.Powers.{rounded_some}
+use Rattle.vm_model.proofs.RoundedPages.{rounded_some}
 use Rattle.map_laws.proofs.BlockFacts.{OnRow, IsStill, IsBlockArea, IsPartFine, IsBlockFine, IsPartIn, block_out, IsBlockAt, block_starts, block_count, same_block, stacked_at, stacked_apart, same_part, still_bare, part_stays, Stays, block_stays}
 
 -- how often the place behind a section has a block's start out

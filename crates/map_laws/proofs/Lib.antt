@@ -36,7 +36,6 @@ pub mod VmallocPlaces
 pub mod LegalRuns
 pub mod AreaStarts
 pub mod Serials
-pub mod Powers
 pub mod BlockFacts
 pub mod BlockMoves
 pub mod BlockChanges

@@ -32,7 +32,7 @@ use Rattle.map_laws.proofs.Lists.{there}
 use Rattle.map_laws.proofs.MapMoves.{times_both}
 use Rattle.map_laws.proofs.PartMoves.{own_is}
 use Rattle.map_laws.proofs.Places.{IsObjectSize, IsProper}
-use Rattle.map_laws.proofs.Powers.{rounded_some}
+use Rattle.vm_model.proofs.RoundedPages.{rounded_some}
 use Rattle.map_laws.proofs.Searched.{find_some, flat_has, length_flat, length_map, sum_le}
 use Rattle.map_laws.proofs.Spans.{InSpans, Inside, Outside, covers_one, holds_from, holds_to, in_spans, times-cons}
 use Rattle.map_laws.proofs.TraceWorlds.{AreFull}

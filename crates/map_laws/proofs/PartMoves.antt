@@ -17,7 +17,7 @@ use Rattle.vm_model.specs.Carried.{count_of}
 use Rattle.map_laws.proofs.Lists.{same_or, append_cases, append_first}
 use Rattle.map_laws.proofs.Chosen.{IsIn, in_more, find_has, filter_has, filter_in, sum_without, sum_by-filter-le}
 use Rattle.map_laws.proofs.Fits.{and_both}
-use Rattle.map_laws.proofs.Powers.{rounded_some, rounded_low}
+use Rattle.vm_model.proofs.RoundedPages.{rounded_some, rounded_low}
 use Rattle.map_laws.proofs.BlockFacts.{OnRow, IsStill, IsBlockArea, AreStacked, IsPartFine, IsBlockFine, IsPartIn, IsOut, block_starts, count_cons, count_append, to_same, same_block, same_part, size_cons, block_stays, block_out}
 use Rattle.map_laws.proofs.BlockChanges.{in_of, changed_is, changed_in, unchanged_in, changed_starts, blocks_only, lived_blocks, lived_hand, ended_unmapped, hand_not_ended}
 use Rattle.map_laws.proofs.BlockMoves.{IsBlockMoved, row_of}
@@ -106,7 +106,7 @@ module _ (c : Setup) (m : PlainMap) (k : ℕ) (all : (b : Block) → IsIn b m.bl
         let was = changed_is at.block (with_part k at) m.blocks b there in let from = cut_from_is in
         elim was.2 [
           | inl e ↦ (let one : was.0 ≡ from.block = same_block m.blocks at.block was.1.place from.there.place was.0 from.block (let o = named at.block in omega arith) was.1.at from.there.at e.0 from.start in
-              subst (IsBlockFine c m) (sym e.1) (cut_block at was.0 was.1 (from.offset ∙ ap (λ (x : Block). parts_size x.parts) (sym one)) (subst (λ (x : Block). parts_size x.parts + rounded at.pages ≤ c.block_pages) (sym one) from.room) (rounded_low at.pages few)))
+              subst (IsBlockFine c m) (sym e.1) (cut_block at was.0 was.1 (from.offset ∙ ap (λ (x : Block). parts_size x.parts) (sym one)) (subst (λ (x : Block). parts_size x.parts + rounded at.pages ≤ c.block_pages) (sym one) from.room) (rounded_low at.pages (omega arith))))
           | inr e ↦ subst (IsBlockFine c m) (sym e.1) (all was.0 was.1)
         ]
 
@@ -156,7 +156,7 @@ module _ (c : Setup) (m : PlainMap) (k : ℕ) (all : (b : Block) → IsIn b m.bl
     added_fine =
         let size : parts_size ((record { offset = at.offset; pages = at.pages; caller = k; life = InHand k }) ∷ []) ≡ rounded at.pages = (let e = size_cons (record { offset = at.offset; pages = at.pages; caller = k; life = InHand k }) [] in omega arith) in record {
           area = area;
-          stacked = (zero_off, rounded_low at.pages few, tt);
+          stacked = (zero_off, rounded_low at.pages (omega arith), tt);
           within = omega arith;
           parts = λ q qs. elim (in_either [] (record { offset = at.offset; pages = at.pages; caller = k; life = InHand k }) q qs) [
             | inl old ↦ (let no = old.at in cc)

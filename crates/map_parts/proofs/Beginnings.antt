@@ -1,8 +1,6 @@
 -- A call begins at a sound place, without pages.
 use Rattle.std.proofs.Common.{◌≡◌, ℕ, zero, suc, ◌+◌, ◌-◌, ◌/◌, ◌^◌, ◌<◌, ◌≤◌, Bool, true, false, ◌==◌, nat_le, if◌then◌else◌, List, slice_get, Option, Some, None, refl, ap, arith, ℤ}
 use Rattle.std.proofs.lemmas.Bool.Decides.{nat_tests}
-use Rattle.std.proofs.lemmas.Nat.{pow_pos}
-use Rattle.std.proofs.Math.Nat.{pow-suc, pow-le-pow_right}
 use Rattle.vm_model.specs.declared.areas.AreaKind.TheVariants as kind
 use Rattle.vm_model.specs.declared.calls.Call.{Call}
 use Rattle.vm_model.specs.declared.calls.Call.TheVariants.{Vmalloc, Vfree, MapRam, UnmapRam, UnmapAliases, AllocPercpu, AllocAtomic, FreePercpu, Add, Sum, Balance}
@@ -11,41 +9,20 @@ use Rattle.vm_model.specs.declared.calls.Reply.TheVariants as reply
 use Rattle.vm_model.specs.declared.calls.Target.{Target}
 use Rattle.vm_model.specs.Setup.{Setup, cpus}
 use Rattle.vm_model.specs.PlainMap.{PlainMap}
-use Rattle.vm_model.specs.Bits.{digits_within, binary_digits}
 use Rattle.vm_model.specs.Blocks.{rounded}
 use Rattle.vm_model.specs.Events.{ForPages}
 use Rattle.vm_model.specs.Places.{Made, MadeArea, MadePart, MadeObject, ForArea, Place, Refusing, Finding, CuttingPart, TakingAlloc, ChoosingAtomic}
 use Rattle.vm_model.specs.Calls.{Answered, is_bad_vmalloc_size, is_bad_vmalloc_align, is_bad_map_size, is_bad_object_size, is_bad_object_align, pages_for, align_pages, begin_alloc, made_in, answers_in, target_of, was_freed, begin_free_area, begin_unmap_ram, begin_free_percpu, begin_add, begin_sum, begin_call, begin}
 use Rattle.vm_model.specs.Rules.{IsSetup}
+use Rattle.vm_model.proofs.RoundedPages.{rounded_high}
 use Rattle.map_parts.specs.Owners.{of_place}
 use Rattle.map_parts.specs.Kept.{IsSoundPlace, IsSoundMade, AreSoundAnswers, IsSoundCall}
 use Rattle.map_parts.proofs.Tests.{le_test}
 
 -- A part that the desk lets through has room in a block.
 
-digits_by : (most n e : ℕ) (b : Bool) → (n == 0) ≡ b → n < 2 ^ suc e → (n / 2 < 2 ^ e → digits_within most (n / 2) ≤ e) → (if b then 0 else suc (digits_within most (n / 2))) ≤ suc e
-digits_by most n e true h l more = omega arith
-digits_by most n e false h l more = omega (arith, more (omega (arith, pow-suc 2 e)))
-
-digits_none : (most n : ℕ) → n ≡ 0 → (if n == 0 then 0 else suc (digits_within most (n / 2))) ≡ 0
-digits_none most n e = let is : (n == 0) ≡ true = grind (arith, nat_tests) in ap (λ b. if b then 0 else suc (digits_within most (n / 2))) is
-
-digits_few : (most n e : ℕ) → n < 2 ^ e → digits_within most n ≤ e
-digits_few zero n e l = omega arith
-digits_few (suc most) n zero l = let none : n ≡ 0 = below_one n l in omega (arith, digits_none most n none)
-  where
-    below_one : (n : ℕ) → n < 2 ^ 0 → n ≡ 0
-    below_one n h = omega arith
-digits_few (suc most) n (suc e) l = digits_by most n e (n == 0) refl l (digits_few most (n / 2) e)
-
-rounded_within : (pages limit e : ℕ) → limit ≡ 2 ^ e → pages ≤ limit → rounded pages ≤ limit
-rounded_within pages limit e is l =
-    let few : binary_digits (pages - 1) ≤ e = digits_few 32 (pages - 1) e (omega (arith, pow_pos e)) in
-    let less : 2 ^ binary_digits (pages - 1) ≤ 2 ^ e = pow-le-pow_right {n = 2} (let two : 0 < 2 = omega arith in two) few in
-    omega arith
-
 pub part_fits : (c : Setup) (pages : ℕ) → IsSetup c → pages ≤ c.part_limit → rounded pages ≤ c.block_pages
-part_fits c pages is l = let within = rounded_within pages c.part_limit is.part.0 is.part.1 l in let high = is.part_high in omega arith
+part_fits c pages is l = let within = rounded_high pages c.part_limit is.part l in let high = is.part_high in omega arith
 
 -- Beginnings.
 

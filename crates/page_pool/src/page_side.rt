@@ -94,6 +94,48 @@ impl PageSide {
         })
     }
 
+    /// Whether a span, in pages, lies in the space. It takes no memory.
+    pub fn has(&self, span: Span) -> bool
+        ensures inside { IsTrue result ↔ (end_of span ≤ length self.now.frames) }
+        ensures end { IsTrue result → end_of span < 2 ^ 32 }
+    {
+        u64::from(span.start) + u64::from(span.pages) <= self.frames.len() as u64
+    }
+
+    /// Whether the pages of a span lie in the space, unmapped and not stale, as `map` wants them. It takes time for each
+    /// page, and no memory.
+    pub fn is_bare(&self, span: Span) -> bool
+        ensures inside { IsTrue result → end_of span ≤ length self.now.frames }
+        ensures bare { IsTrue result → (page : ℕ) → holds span page ≡ true → IsBare self.now page }
+    {
+        if !self.has(span) {
+            return false;
+        }
+        for page in span.start..span.start + span.pages {
+            if self.frames[page as usize].is_some() || self.stale.contains(page) {
+                return false;
+            }
+        }
+        true
+    }
+
+    /// Whether the pages of a span lie in the space and are mapped, as `unmap` wants them. It takes time for each page, and
+    /// no memory.
+    pub fn is_mapped(&self, span: Span) -> bool
+        ensures inside { IsTrue result → end_of span ≤ length self.now.frames }
+        ensures mapped { IsTrue result → (page : ℕ) → holds span page ≡ true → IsMapped self.now page }
+    {
+        if !self.has(span) {
+            return false;
+        }
+        for page in span.start..span.start + span.pages {
+            if self.frames[page as usize].is_none() {
+                return false;
+            }
+        }
+        true
+    }
+
     /// Maps the pages of a span, which are neither mapped nor stale, as `__vmalloc_area_node` does: by rising number
     /// each gets the lowest free frame in place of one of `alloc_page`. The error comes where there are too few for all.
     /// It takes no memory.
@@ -176,304 +218,5 @@ impl PageSide {
         ensures count { result ≡ stale_count self.now }
     {
         self.stale.len()
-    }
-}
-
-#[cfg(test)]
-mod tests {
-    use super::*;
-
-    /// Whether a span lies in the space.
-    fn is_inside(side: &PageSide, span: Span) -> bool
-        ensures inside { IsTrue result ↔ (end_of span ≤ length side.now.frames) }
-        ensures end { IsTrue result → end_of span < 2 ^ 32 }
-    {
-        u64::from(span.start) + u64::from(span.pages) <= side.frames.len() as u64
-    }
-
-    /// Whether the pages of a span lie in the space, unmapped and not stale.
-    fn is_bare(side: &PageSide, span: Span) -> bool
-        ensures inside { IsTrue result → end_of span ≤ length side.now.frames }
-        ensures bare { IsTrue result → (page : ℕ) → holds span page ≡ true → IsBare side.now page }
-    {
-        if !is_inside(side, span) {
-            return false;
-        }
-        for page in span.start..span.start + span.pages {
-            if side.frames[page as usize].is_some() || side.stale.contains(page) {
-                return false;
-            }
-        }
-        true
-    }
-
-    /// Whether the pages of a span are mapped.
-    fn is_mapped(side: &PageSide, span: Span) -> bool
-        ensures inside { IsTrue result → end_of span ≤ length side.now.frames }
-        ensures mapped { IsTrue result → (page : ℕ) → holds span page ≡ true → IsMapped side.now page }
-    {
-        if !is_inside(side, span) {
-            return false;
-        }
-        for page in span.start..span.start + span.pages {
-            if side.frames[page as usize].is_none() {
-                return false;
-            }
-        }
-        true
-    }
-
-    /// The free frames, the mapped and the stale pages.
-    fn counts(side: &PageSide) -> (u32, u32, u32) {
-        (side.free_frames(), side.mapped(), side.stale())
-    }
-
-    #[test]
-    fn maps_the_lowest_frames(rt: HostRuntime) -> Result<(), AllocError> {
-        let mut side = PageSide::new(rt.alloc(), 16, 5)?;
-        assert_eq!(rt; counts(&side), (5, 0, 0));
-        let rows = [
-            (8, 2, Ok(()), (3, 2, 0)),
-            (0, 4, Err(NoFrames { asked: 4, free: 3 }), (3, 2, 0)),
-            (0, 3, Ok(()), (0, 5, 0)),
-            (4, 1, Err(NoFrames { asked: 1, free: 0 }), (0, 5, 0)),
-        ];
-        for (start, pages, answer, after) in rows {
-            let span = Span { start, pages };
-            assert!(rt; is_bare(&side, span));
-            assert_eq!(rt; side.map(span), answer, "{start}");
-            assert_eq!(rt; counts(&side), after, "{start}");
-        }
-        let frames = [
-            (8, Some(0)),
-            (9, Some(1)),
-            (0, Some(2)),
-            (2, Some(4)),
-            (4, None),
-            (16, None),
-        ];
-        for (page, frame) in frames {
-            assert_eq!(rt; side.translate(page), frame, "{page}");
-        }
-        Ok(())
-    }
-
-    #[test]
-    fn gives_frames_back(rt: HostRuntime) -> Result<(), AllocError> {
-        let mut side = PageSide::new(rt.alloc(), 16, 5)?;
-        let all = Span { start: 1, pages: 5 };
-        assert!(rt; is_bare(&side, all));
-        assert_eq!(rt; side.map(all), Ok(()));
-        for (start, pages, after) in [(4, 2, (2, 3, 2)), (1, 1, (3, 2, 3))] {
-            let span = Span { start, pages };
-            assert!(rt; is_mapped(&side, span));
-            side.unmap(span);
-            assert_eq!(rt; counts(&side), after, "{start}");
-        }
-        assert!(rt;
-            side.is_stale(1) && side.is_stale(5) && !side.is_stale(2) && !side.is_stale(16)
-        );
-        let some = Span { start: 2, pages: 3 };
-        assert!(rt; is_inside(&side, some));
-        side.flush(some);
-        assert!(rt; side.is_stale(1) && side.is_stale(5) && !side.is_stale(4));
-        let whole = Span {
-            start: 0,
-            pages: 16,
-        };
-        assert!(rt;
-            is_inside(&side, whole)
-                && !is_inside(
-                    &side,
-                    Span {
-                        start: 1,
-                        pages: 16
-                    }
-                )
-        );
-        side.flush(whole);
-        assert_eq!(rt; counts(&side), (3, 2, 0));
-        let again = Span { start: 4, pages: 2 };
-        assert!(rt; is_bare(&side, again));
-        assert_eq!(rt; side.map(again), Ok(()));
-        assert_eq!(rt; (side.translate(4), side.translate(5)), (Some(0), Some(3)));
-        Ok(())
-    }
-
-    /// Numbers that look drawn: a linear congruential generator.
-    #[derive(Drop)]
-    struct Draws {
-        state: u64,
-    }
-
-    impl Draws {
-        /// A number below a limit.
-        fn below(&mut self, limit: u32) -> u32
-            requires { 0 < limit }
-            ensures { result < limit }
-        {
-            self.state = self
-                .state
-                .wrapping_mul(6_364_136_223_846_793_005)
-                .wrapping_add(1_442_695_040_888_963_407);
-            ((self.state >> 33) % u64::from(limit)) as u32
-        }
-    }
-
-    /// What a side should keep: the frame of each page, which pages are stale, and how many frames there are.
-    #[derive(Drop)]
-    struct Plain {
-        frames: Vec<Option<u32>>,
-        stale: Vec<bool>,
-        memory: u32,
-    }
-
-    impl Plain {
-        fn frame(&self, page: u32) -> Option<u32> {
-            self.frames.get(page as usize).copied().flatten()
-        }
-
-        fn is_stale(&self, page: u32) -> bool {
-            self.stale.get(page as usize) == Some(&true)
-        }
-
-        fn is_mapped(&self, span: Span) -> bool {
-            (0..span.pages).all(|offset| self.frame(span.start.saturating_add(offset)).is_some())
-        }
-
-        fn is_bare(&self, span: Span) -> bool {
-            (0..span.pages).all(|offset| {
-                let page = span.start.saturating_add(offset);
-                self.frames.get(page as usize) == Some(&None) && !self.is_stale(page)
-            })
-        }
-
-        /// The free frames, the mapped and the stale pages.
-        fn counts(&self) -> (u32, u32, u32) {
-            let mapped = self.frames.iter().fold(0, |count: u32, frame| {
-                count.wrapping_add(frame.is_some().into())
-            });
-            let stale = self.stale.iter().fold(0, |count: u32, stale| {
-                count.wrapping_add((*stale).into())
-            });
-            (self.memory.saturating_sub(mapped), mapped, stale)
-        }
-
-        fn lowest_free(&self) -> Option<u32> {
-            (0..self.memory).find(|frame| !self.frames.contains(&Some(*frame)))
-        }
-
-        fn set_frame(&mut self, page: u32, frame: Option<u32>) {
-            if let Some(place) = self.frames.get_mut(page as usize) {
-                *place = frame;
-            }
-        }
-
-        fn set_stale(&mut self, page: u32, is_stale: bool) {
-            if let Some(place) = self.stale.get_mut(page as usize) {
-                *place = is_stale;
-            }
-        }
-    }
-
-    /// Maps a span in both where its pages are bare, and tells whether they answer alike.
-    fn map_both(side: &mut PageSide, plain: &mut Plain, span: Span) -> bool {
-        let was_bare = plain.is_bare(span);
-        if !is_bare(side, span) {
-            return !was_bare;
-        }
-        let (free, _, _) = plain.counts();
-        let answer = side.map(span);
-        if span.pages > free {
-            let asked = span.pages;
-            return was_bare && answer == Err(NoFrames { asked, free });
-        }
-        for offset in 0..span.pages {
-            let frame = plain.lowest_free();
-            plain.set_frame(span.start.saturating_add(offset), frame);
-        }
-        was_bare && answer == Ok(())
-    }
-
-    /// Unmaps a span in both where its pages are mapped, and tells whether they were in both.
-    fn unmap_both(side: &mut PageSide, plain: &mut Plain, span: Span) -> bool {
-        let was_mapped = plain.is_mapped(span);
-        if !is_mapped(side, span) {
-            return !was_mapped;
-        }
-        side.unmap(span);
-        for offset in 0..span.pages {
-            let page = span.start.saturating_add(offset);
-            plain.set_frame(page, None);
-            plain.set_stale(page, true);
-        }
-        was_mapped
-    }
-
-    /// Flushes a span in both where it lies in the space.
-    fn flush_both(side: &mut PageSide, plain: &mut Plain, span: Span) -> bool {
-        if is_inside(side, span) {
-            side.flush(span);
-            for offset in 0..span.pages {
-                plain.set_stale(span.start.saturating_add(offset), false);
-            }
-        }
-        true
-    }
-
-    /// Makes a drawn call on both, and tells whether they answer alike.
-    fn step(draws: &mut Draws, side: &mut PageSide, plain: &mut Plain) -> bool {
-        let start = draws.below(150);
-        let pages = draws.below(7);
-        match draws.below(8) {
-            0..=3 => map_both(side, plain, Span { start, pages }),
-            4..=6 => unmap_both(
-                side,
-                plain,
-                Span {
-                    start,
-                    pages: pages / 2,
-                },
-            ),
-            _ => flush_both(
-                side,
-                plain,
-                Span {
-                    start,
-                    pages: pages * 16,
-                },
-            ),
-        }
-    }
-
-    /// Whether a side has the pages of the lists.
-    fn are_alike(side: &PageSide, plain: &Plain) -> bool {
-        for page in 0..152 {
-            if side.translate(page) != plain.frame(page)
-                || side.is_stale(page) != plain.is_stale(page)
-            {
-                return false;
-            }
-        }
-        counts(side) == plain.counts()
-    }
-
-    #[test]
-    fn keeps_the_pages_of_plain_lists(rt: HostRuntime) -> Result<(), AllocError> {
-        let mut draws = Draws { state: 1 };
-        let mut side = PageSide::new(rt.alloc(), 150, 48)?;
-        let mut plain = Plain {
-            frames: vec![in rt.alloc(); None; 150]?,
-            stale: vec![in rt.alloc(); false; 150]?,
-            memory: 48,
-        };
-        let mut least = 48;
-        for count in 0..600 {
-            assert!(rt; step(&mut draws, &mut side, &mut plain), "{count}");
-            assert!(rt; are_alike(&side, &plain), "{count}");
-            least = least.min(side.free_frames());
-        }
-        assert_eq!(rt; least, 0);
-        Ok(())
     }
 }

@@ -26,7 +26,7 @@ use Rattle.map_laws.proofs.EndProofs.{histories_short}
 use Rattle.map_laws.proofs.Frames.{IsFramed}
 use Rattle.map_laws.proofs.MapLegal.{held_life}
 use Rattle.map_laws.proofs.Places.{IsProper}
-use Rattle.map_laws.proofs.Powers.{rounded_some}
+use Rattle.vm_model.proofs.RoundedPages.{rounded_some}
 use Rattle.map_laws.proofs.Spans.{covers_one, holds_to, covers_append}
 use Rattle.map_laws.proofs.TraceWorlds.{IsTraceWorld, trace_reached, own_names, areas_once, proper_here}
 use Rattle.map_blocks.specs.BlockRows.{BlockRows, IsHeld}

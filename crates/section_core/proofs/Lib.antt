@@ -1,4 +1,4 @@
-pub mod Answered
+pub mod AnswersGiven
 pub mod Moved
 pub mod FreeSections
 pub mod BlockSections
@@ -10,13 +10,5 @@ pub mod NextAreas
 pub mod NextParts
 pub mod LawfulBlocks
 pub mod LawfulRegions
-pub mod SectionsMade
-pub mod Picks
-pub mod Callers
 pub mod Memory
-pub mod PlainWorlds
 pub mod Starts
-pub mod TablesTold
-pub mod Sorted
-pub mod Gathered
-pub mod BlockTables

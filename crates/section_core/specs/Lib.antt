@@ -3,4 +3,3 @@ pub mod Locals
 pub mod Regions
 pub mod Sections
 pub mod Lawful
-pub mod Kernels

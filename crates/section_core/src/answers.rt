@@ -19,7 +19,8 @@ pub(crate) fn address_of(page: u32) -> u64
 
 /// What an answered call made.
 #[derive(Clone, Copy, Debug, PartialEq, Eq)]
-pub(crate) enum Made {
+pub enum Made {
+    /// Nothing that a later call could name.
     Nothing,
     /// An area, by its first page and its serial.
     Area { start: u32, serial: u32 },
@@ -29,7 +30,7 @@ pub(crate) enum Made {
 
 /// An answered call: its reply, what it made, and the number of its last event among its caller's own, from 1.
 #[derive(Clone, Copy, Debug, PartialEq, Eq)]
-pub(crate) struct Answered {
+pub struct Answered {
     pub call: Call,
     pub reply: Reply,
     pub made: Made,
@@ -37,4 +38,4 @@ pub(crate) struct Answered {
 }
 
 /// The answers of a section's calls, in their order.
-pub(crate) type AnswerList = ItemList<Answered>;
+pub type AnswerList = ItemList<Answered>;

@@ -1,13 +1,12 @@
-//! The allocators of a space as regions, and callers that make one lock section after another over them.
+//! The allocators of a space as regions, and callers: one lock section of one caller over one region.
 #![tactic(auto)]
 
-mod answers;
+pub mod answers;
 mod begin;
 mod block_sections;
 mod busy_sections;
 mod carried;
 mod free_sections;
-pub mod kernel;
 mod lazy_sections;
 pub mod local;
 mod page_sections;
@@ -16,7 +15,7 @@ pub mod region;
 mod sections;
 mod turn_sections;
 
-pub use kernel::Kernel;
-pub use local::Local;
-pub use region::{Region, Stepped};
-pub use sections::section;
+pub use answers::{AnswerList, Answered, Made};
+pub use local::{Local, first_callers};
+pub use region::{Region, Stepped, first_regions};
+pub use sections::{moves, section};

@@ -64,7 +64,7 @@ impl Model for Local {
 
 impl Local {
     /// A caller before its first call. It takes room for all its answers, and for a dirty range of each processor.
-    pub(crate) fn start(
+    pub fn start(
         alloc: Global,
         config: Arc<Config, Global>,
         caller: u16,
@@ -351,7 +351,7 @@ impl Local {
     }
 
     /// Its book of replies.
-    pub(crate) fn book(&self) -> &Book
+    pub fn book(&self) -> &Book
         ensures caller { result.now.caller ≡ self.now.caller }
         ensures rows { result.now.rows ≡ map note_of self.now.answers }
         ensures noted { All (λ (n : Noted). n.own_event ≤ self.now.events) result.now.rows }
@@ -360,7 +360,7 @@ impl Local {
     }
 
     /// Its answers, for others to share.
-    pub(crate) fn answers(&self, alloc: Global) -> Result<AnswerList, AllocError>
+    pub fn answers(&self, alloc: Global) -> Result<AnswerList, AllocError>
         ensures { IfOk result (λ answers. map answer_of answers ≡ self.now.answers) }
     {
         answers_noted(alloc, self.calls.as_slice(), &self.book, &self.made)
@@ -393,7 +393,7 @@ fn answers_noted(
 }
 
 /// The callers from 1 on before their first calls, once the opening has these answers.
-pub(crate) fn first_callers(
+pub fn first_callers(
     alloc: Global,
     config: &Arc<Config, Global>,
     opening: &Arc<AnswerList, Global>,

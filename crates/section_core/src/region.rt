@@ -70,7 +70,7 @@ impl Region {
 
 impl Region {
     /// The free blocks, of the region that has them.
-    pub(crate) fn free(&self) -> &FreeSide
+    pub fn free(&self) -> &FreeSide
         requires { (blocks : List Span) × (self.now ≡ FreeRuns blocks) }
         ensures { self.now ≡ FreeRuns result.now.blocks }
     {
@@ -81,7 +81,7 @@ impl Region {
     }
 
     /// The live areas, of the region that has them.
-    pub(crate) fn busy(&self) -> &BusySide
+    pub fn busy(&self) -> &BusySide
         requires { (areas : List Area) × (next : ℕ) × (self.now ≡ LiveAreas areas next) }
         ensures { self.now ≡ LiveAreas result.now.areas result.now.next }
     {
@@ -92,7 +92,7 @@ impl Region {
     }
 
     /// The spans that wait, of the region that has them.
-    pub(crate) fn lazy(&self) -> &LazySide
+    pub fn lazy(&self) -> &LazySide
         requires { (spans : List Span) × (self.now ≡ WaitingSpans spans) }
         ensures { self.now ≡ WaitingSpans result.now }
     {
@@ -103,7 +103,7 @@ impl Region {
     }
 
     /// The blocks of a processor, of the region that has them.
-    pub(crate) fn blocks(&self) -> &BlockSide
+    pub fn blocks(&self) -> &BlockSide
         requires { (cpu : ℕ) × (pages : ℕ) × (blocks : List Block) × (next : ℕ) × (self.now ≡ CpuBlocks cpu pages blocks next) }
         ensures { self.now ≡ CpuBlocks result.now.cpu result.now.pages result.now.blocks result.now.next }
     {
@@ -114,7 +114,7 @@ impl Region {
     }
 
     /// The page map, of the region that has it.
-    pub(crate) fn pages(&self) -> &PageSide
+    pub fn pages(&self) -> &PageSide
         requires { (frames : List (Option ℕ)) × (stale : List Bool) × (cells : List ℤ) × (self.now ≡ parts.Pages frames stale cells) }
         ensures { self.now ≡ parts.Pages result.now.frames result.now.stale result.now.cells }
     {
@@ -138,7 +138,7 @@ fn push_blocks(alloc: Global, config: &Config, regions: &mut Vec<Region>) -> Res
 }
 
 /// The regions of a space where nothing has happened: every page is free, and nothing is mapped.
-pub(crate) fn first_regions(alloc: Global, config: &Config) -> Result<Vec<Region>, AllocError>
+pub fn first_regions(alloc: Global, config: &Config) -> Result<Vec<Region>, AllocError>
     requires { IsSetup (setup_of config.now) }
     ensures { IfOk result (λ regions. regions.items ≡ regions_of (setup_of config.now) (at_first (setup_of config.now) 0)) }
 {

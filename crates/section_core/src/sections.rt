@@ -39,7 +39,7 @@ pub fn section(local: &mut Local, region: &mut Region) -> Result<Stepped, AllocE
 }
 
 /// Whether the caller's next section would move over this region.
-pub(crate) fn moves(local: &Local, region: &Region) -> bool
+pub fn moves(local: &Local, region: &Region) -> bool
     ensures { result ≡ moves local.now region.now }
 {
     match (local.place(), &region.side) {

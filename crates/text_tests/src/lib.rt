@@ -1,9 +1,5 @@
-//! Texts that are read as traces, layouts that are refused, and the bytes of reports and faults.
+//! Texts that are read as traces: their calls, sections and picks.
 #![tactic(auto)]
 
-#[cfg(test)]
-mod layouts;
-#[cfg(test)]
-mod reports;
 #[cfg(test)]
 mod traces;

@@ -34,47 +34,6 @@ fn reads_two_areas(rt: HostRuntime) -> Result<(), Fail> {
     Ok(())
 }
 
-#[test]
-fn reads_frames_and_lazy(rt: HostRuntime) -> Result<(), Fail> {
-    for (text, frames, lazy) in [
-        (b"vmtrace 1\nspace 16\nframes 0\nend\n".as_slice(), 0, 8192),
-        (
-            b"vmtrace 1\nspace 16\nlazy 1048576\nend\n".as_slice(),
-            1024,
-            1_048_576,
-        ),
-        (
-            b"vmtrace 1\nspace 16\nframes 8192\nlazy 0\ncallers 2\nend\n".as_slice(),
-            8192,
-            0,
-        ),
-    ] {
-        let trace = read_trace(rt.alloc(), text)?;
-        assert_eq!(rt; trace.config.frames, frames);
-        assert_eq!(rt; trace.config.lazy, lazy);
-        assert_eq!(rt; trace.config.block_pages, 128);
-    }
-    Ok(())
-}
-
-#[test]
-fn reads_block_sizes(rt: HostRuntime) -> Result<(), Fail> {
-    for (text, pages, limit) in [
-        (b"vmtrace 1\nspace 16\nblock 8 4\nend\n".as_slice(), 8, 4),
-        (b"vmtrace 1\nspace 16\nblock 8 1\nend\n".as_slice(), 8, 1),
-        (
-            b"vmtrace 1\nspace 16\nlazy 1\nblock 1024 512\ncallers 2\nend\n".as_slice(),
-            1024,
-            512,
-        ),
-    ] {
-        let trace = read_trace(rt.alloc(), text)?;
-        assert_eq!(rt; trace.config.block_pages, pages);
-        assert_eq!(rt; trace.config.part_limit, limit);
-    }
-    Ok(())
-}
-
 /// The target of the `vfree` call at a place of a section.
 fn freed(sections: &[CallerCalls], section: usize, place: usize) -> Option<Target> {
     match sections.get(section)?.as_slice().get(place)? {
@@ -195,6 +154,22 @@ fn reads_sections_and_picks(rt: HostRuntime) -> Result<(), Fail> {
         for i in 0..sections.len() {
             assert_eq!(rt; sections[i].as_slice().len(), calls[i]);
         }
+    }
+    Ok(())
+}
+
+#[test]
+fn reads_parts_of_two_processors(rt: HostRuntime) -> Result<(), Fail> {
+    let trace = read_trace(
+        rt.alloc(),
+        b"vmtrace 1\nspace 64\nblock 8 4\ngroup 2 0\nmap_ram a 1 3\nmap_ram b 1 1\nunmap_ram a\nunmap_aliases\nend\n",
+    )?;
+    assert_eq!(rt; trace.config.layout.units(), [0, 8].as_slice());
+    let opening = trace.calls.as_slice().first().ok_or("no opening")?;
+    assert_eq!(rt; opening.as_slice().len(), 4);
+    for (place, pages) in [(0, 3), (1, 1)] {
+        let call = opening.as_slice().get(place).copied();
+        assert_eq!(rt; call, Some(Call::MapRam { cpu: 1, pages }));
     }
     Ok(())
 }

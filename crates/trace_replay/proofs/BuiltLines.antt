@@ -2,7 +2,7 @@
 use Rattle.std.proofs.Common.{◌≡◌, ℕ, ◌-◌, ◌≤◌, true, ◌&&◌, ◌||◌, ◌==◌, nat_lt, nat_le, min, List, [], ◌∷◌, sym, subst, arith}
 use Rattle.std.proofs.lemmas.Bool.{and_parts}
 use Rattle.std.proofs.lemmas.Bool.Decides.{nat_tests}
-use Rattle.trace_text.specs.Words.{within}
+use Rattle.vm_model.specs.Words.{within}
 use Rattle.trace_text.specs.Lines.{Line, is_spelt, word_of}
 use Rattle.trace_text.specs.Reading.{Reading, unread}
 use Rattle.trace_text.specs.Grammar.{IsTraceOf, may_stand, stands, all_stand, read, read_all, rank_of, follows, repeats, is_allowed}

@@ -5,7 +5,7 @@ use Rattle.std.proofs.lemmas.Bool.Decides.{nat_tests}
 use Rattle.std.proofs.lemmas.List.Elements.{All-append}
 use Rattle.std.proofs.lemmas.List.Sums.{AllPass-from_list_all}
 use Rattle.std.specs.List.{list_all}
-use Rattle.trace_text.specs.Words.{within}
+use Rattle.vm_model.specs.Words.{within}
 use Rattle.trace_text.specs.Lines.{Line, Callers, Counters, Vmalloc, Vfree, MapRam, UnmapRam, UnmapAliases, AllocPercpu, AllocAtomic, FreePercpu, Add, Sum, Balance, Count, Order}
 use Rattle.trace_text.specs.Reading.{Reading, Made}
 use Rattle.trace_text.specs.Grammar.{IsTraceOf, stands, read, is_new, is_cpu, has_room, aims, is_vmalloc, is_map_ram}

@@ -13,7 +13,7 @@ use Rattle.vm_model.specs.Tables.{tables_of}
 use Rattle.trace_text.specs.Reading.{Reading, calls_of}
 use Rattle.trace_text.specs.Told.{config_of, all_calls}
 use Rattle.std.proofs.lemmas.List.FromFn.{length-map-range_with_len}
-use Rattle.section_core.specs.Kernels.{KernelState, IsStanding, CanStart, start_of, opening_of, callers_of}
+use Rattle.kernel_steps.specs.Kernels.{KernelState, IsStanding, CanStart, start_of, opening_of, callers_of}
 use Rattle.trace_replay.specs.BuiltReadings.{IsBuilt}
 use Rattle.trace_replay.specs.Headline.{setup, history_of_trace}
 use Rattle.trace_replay.proofs.BuiltSections.{can_start}

@@ -5,7 +5,7 @@ use Rattle.trace_text.specs.Built.{is_built}
 use Rattle.trace_replay.specs.declared.answer.Outcome.{Outcome}
 use Rattle.trace_replay.specs.Headline.{Writes, Reports, most_bytes}
 use Rattle.trace_text.specs.Reading.{Reading, cpus_of}
-use Rattle.trace_text.specs.CounterTotals.{counter_rows}
+use Rattle.report_text.specs.CounterTotals.{counter_rows}
 use Rattle.trace_replay.specs.BuiltReadings.{IsBuilt, HasLayout}
 
 pub no_counters : (r : Reading) → IsBuilt r → counter_rows r.header.counters (cpus_of r.header) r.header.batch r.counts ≡ []

@@ -10,7 +10,7 @@ use Rattle.vm_model.specs.Setup.{Setup, cpus}
 use Rattle.vm_model.specs.Rules.{named_call, IsNamed, IsVmallocCall, IsMapRamCall, IsRuled, AreRuled}
 use Rattle.unit_layout.specs.declared.request.GroupSpec.{GroupSpec}
 use Rattle.unit_layout.specs.Rule.{processors}
-use Rattle.trace_text.specs.Words.{within}
+use Rattle.vm_model.specs.Words.{within}
 use Rattle.trace_text.specs.Lines.{Line, TargetName, GroupOf, Counters, Vmalloc, Vfree, MapRam, UnmapRam, UnmapAliases, AllocPercpu, AllocAtomic, FreePercpu, Add, Sum, Balance, Count}
 use Rattle.trace_text.specs.Reading.{Reading, Header, Made, Named, AreNamed, unread, calls_of, calls_before, cpus_of, groups_of, find_name, aimed_at, target_of, number_of, with_call, with_name}
 use Rattle.trace_text.specs.Grammar.{stands, read, has_room, is_new, is_cpu, is_allowed, is_first_at_0, aims, is_call_as, is_vmalloc, is_map_ram}

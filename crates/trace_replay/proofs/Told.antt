@@ -1,10 +1,10 @@
 -- What is said and written of an outcome once it was told to a sink.
 use Rattle.std.proofs.Common.{◌≡◌, ◌≢◌, ◌≤◌, ◌<◌, ◌⊎◌, inl, inr, ℕ, List, ◌++◌, length, Option, Some, None, refl, sym, ◌∙◌, subst, arith}
-use Rattle.trace_text.specs.declared.faults.Fault.TheVariants as fault
+use Rattle.report_text.specs.declared.faults.Fault.TheVariants as fault
 use Rattle.trace_text.specs.Reading.{Reading}
 use Rattle.trace_text.specs.Grammar.{IsTraceOf}
 use Rattle.trace_text.specs.Built.{is_built}
-use Rattle.trace_text.specs.Report.{fault_line}
+use Rattle.report_text.specs.Report.{fault_line}
 use Rattle.trace_text.proofs.Exclusive.{one_trace, trace_or_bad}
 use Rattle.trace_text.proofs.ReadLayouts.{stands_or_refused}
 use Rattle.trace_replay.specs.Streams.{Rose}

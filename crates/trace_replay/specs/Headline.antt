@@ -7,13 +7,13 @@ use Rattle.unit_layout.specs.Config.{setup_of}
 use Rattle.vm_model.specs.History.{World, history_of}
 use Rattle.vm_model.specs.Tables.{tables_of}
 use Rattle.vm_model.specs.Laws.{IsOneLegalHistory}
-use Rattle.trace_text.specs.declared.faults.Fault.TheVariants as fault
+use Rattle.report_text.specs.declared.faults.Fault.TheVariants as fault
 use Rattle.trace_text.specs.Reading.{Reading, calls_of, cpus_of}
 use Rattle.trace_text.specs.Told.{config_of, IsRefusedLayout}
-use Rattle.trace_text.specs.CounterTotals.{counter_rows}
+use Rattle.report_text.specs.CounterTotals.{counter_rows}
 use Rattle.trace_text.specs.Grammar.{IsTraceOf}
 use Rattle.trace_text.specs.Built.{is_built, is_waiting, IsBadLine, IsUnbuiltLine}
-use Rattle.trace_text.specs.Report.{report, fault_line}
+use Rattle.report_text.specs.Report.{report, fault_line}
 use Rattle.trace_replay.specs.Streams.{Rose}
 use Rattle.trace_replay.specs.BuiltReadings.{HasLayout}
 use Rattle.trace_replay.specs.declared.status.Status.{Status}

@@ -2,15 +2,16 @@
 ghost use Rattle.std.specs.Prelude.{◌≡◌, ◌≤◌, ◌<◌, ℕ, List, IfOk, OnOk, length};
 ghost use Rattle.vm_model.specs.Tables.{tables_of};
 ghost use Rattle.trace_text.specs.Reading.{Reading};
-ghost use Rattle.trace_text.specs.Report.{fault_line};
+ghost use Rattle.report_text.specs.Report.{fault_line};
 ghost use Rattle.trace_text.specs.Told.{Tells};
 ghost use Rattle.trace_replay.specs.BuiltReadings.{IsBuilt};
 ghost use Rattle.trace_replay.specs.Headline.{Writes, Reports, setup, history_of_trace, most_bytes};
 
 use crate::status::Status;
-use section_core::Kernel;
+use kernel_steps::Kernel;
+use report_text::{Fault, Text, write_fault, write_report};
 use std::alloc::{AllocError, Global};
-use trace_text::{Fault, Text, Trace, TraceError, read_trace, write_fault, write_report};
+use trace_text::{Trace, TraceError, read_trace};
 use vm_model::{CounterList, Tables};
 
 /// A status, and the text that is written with it.

@@ -3,7 +3,7 @@ use Rattle.std.proofs.Common.{◌≡◌, ◌∙◌, ℕ, true, false, List, [], 
 use Rattle.vm_model.specs.declared.calls.Call.{Call}
 use Rattle.vm_model.specs.declared.calls.Call.TheVariants as call
 use Rattle.trace_text.specs.declared.progress.Progress.{Progress}
-use Rattle.trace_text.specs.Words.{fields}
+use Rattle.vm_model.specs.Words.{fields}
 use Rattle.trace_text.specs.Lines.{Line, UnmapAliases, spelled}
 use Rattle.trace_text.specs.Reading.{Reading, with_call}
 use Rattle.trace_text.specs.Grammar.{may_stand, read}

@@ -4,7 +4,7 @@ use Rattle.std.proofs.lemmas.Bool.{eq-eqb, ne_eqb, cases_eq}
 use Rattle.std.proofs.lemmas.Bool.Decides.{nat_tests}
 use Rattle.std.specs.Option.{option_map}
 use Rattle.trace_text.specs.declared.progress.Progress.{Progress}
-use Rattle.trace_text.specs.Words.{is_number}
+use Rattle.vm_model.specs.Words.{is_number}
 use Rattle.trace_text.specs.Lines.{Caller}
 use Rattle.trace_text.specs.Reading.{Reading, Header, Named, find_name}
 use Rattle.trace_text.specs.Held.{IsHeld, Steps, header_of, place_of, sections_below}

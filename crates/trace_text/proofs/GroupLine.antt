@@ -5,7 +5,7 @@ use Rattle.std.proofs.lemmas.List.Sums.{sum_by-append}
 use Rattle.unit_layout.specs.declared.request.GroupSpec.{GroupSpec}
 use Rattle.unit_layout.specs.Rule.{processors}
 use Rattle.trace_text.specs.declared.progress.Progress.{Progress}
-use Rattle.trace_text.specs.Words.{fields, is_number}
+use Rattle.vm_model.specs.Words.{fields, is_number}
 use Rattle.trace_text.specs.Lines.{GroupOf}
 use Rattle.trace_text.specs.Reading.{Reading, Header, groups_of, cpus_of}
 use Rattle.trace_text.specs.Grammar.{follows, is_allowed, read}

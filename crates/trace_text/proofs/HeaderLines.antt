@@ -6,7 +6,7 @@ use Rattle.std.specs.Int.{is_power_of_two}
 use Rattle.vm_model.specs.Rules.{IsPower}
 use Rattle.trace_text.specs.declared.progress.Progress.{Progress}
 use Rattle.unit_layout.specs.Rule.{processors}
-use Rattle.trace_text.specs.Words.{fields, is_number, within}
+use Rattle.vm_model.specs.Words.{fields, is_number, within}
 use Rattle.trace_text.specs.Lines.{Space, Frames, Lazy, Blocks, Units, Callers}
 use Rattle.trace_text.specs.Reading.{Reading, Header}
 use Rattle.trace_text.specs.Grammar.{follows, is_allowed}

@@ -7,7 +7,7 @@ use Rattle.vm_model.specs.Rules.{IsPower}
 use Rattle.unit_layout.specs.declared.request.GroupSpec.{GroupSpec}
 use Rattle.unit_layout.specs.Ranges.{IsInRange, IsGroupInRange, IsAligned}
 use Rattle.unit_layout.specs.Rule.{processors}
-use Rattle.trace_text.specs.Words.{within, is_number}
+use Rattle.vm_model.specs.Words.{within, is_number}
 use Rattle.trace_text.specs.Lines.{Line, GroupOf, is_spelt}
 use Rattle.trace_text.specs.Reading.{Reading}
 use Rattle.trace_text.specs.Told.{asked_layout}

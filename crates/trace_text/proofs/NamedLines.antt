@@ -4,7 +4,7 @@ use Rattle.std.proofs.lemmas.Bool.{and_parts, and_from}
 use Rattle.vm_model.specs.declared.calls.Call.{Call}
 use Rattle.vm_model.specs.declared.calls.Call.TheVariants as call
 use Rattle.trace_text.specs.declared.progress.Progress.{Progress}
-use Rattle.trace_text.specs.Words.{is_name, is_number, fields}
+use Rattle.vm_model.specs.Words.{is_name, is_number, fields}
 use Rattle.trace_text.specs.Lines.{Line, Vmalloc, MapRam, spelled}
 use Rattle.trace_text.specs.Reading.{Reading, with_name}
 use Rattle.trace_text.specs.Grammar.{may_stand, follows, has_room, is_cpu, is_new, read}

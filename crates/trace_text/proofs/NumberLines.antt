@@ -3,7 +3,7 @@ use Rattle.std.proofs.Common.{◌≡◌, ◌∙◌, ℕ, true, false, ◌&&◌, 
 use Rattle.std.proofs.lemmas.Bool.{and_parts, and_from}
 use Rattle.std.proofs.lemmas.Fmt.{decimal_injective}
 use Rattle.trace_text.specs.declared.progress.Progress.{Progress}
-use Rattle.trace_text.specs.Words.{fields, is_number, within}
+use Rattle.vm_model.specs.Words.{fields, is_number, within}
 use Rattle.trace_text.specs.Lines.{Line, Space, Frames, Lazy, Callers, Caller, spelled}
 use Rattle.trace_text.specs.Reading.{Reading}
 use Rattle.trace_text.specs.Grammar.{may_stand, follows, read}

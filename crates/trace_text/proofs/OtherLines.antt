@@ -4,7 +4,7 @@ use Rattle.std.proofs.lemmas.Bool.{and_parts}
 use Rattle.std.specs.List.{list_all}
 use Rattle.std.specs.Str.{bytes_eq}
 use Rattle.trace_text.specs.declared.progress.Progress.{Progress}
-use Rattle.trace_text.specs.Words.{fields, within, is_number}
+use Rattle.vm_model.specs.Words.{fields, within, is_number}
 use Rattle.trace_text.specs.Lines.{Line, Version, Space, Frames, Lazy, Blocks, Units, GroupOf, Callers, Caller, Vmalloc, Vfree, MapRam, UnmapRam, UnmapAliases, Order, End, spelled, word_of}
 use Rattle.trace_text.specs.Reading.{Reading}
 use Rattle.trace_text.specs.Grammar.{stands, may_stand, follows}

@@ -5,7 +5,7 @@ use Rattle.vm_model.specs.declared.calls.Call.{Call}
 use Rattle.vm_model.specs.declared.calls.Call.TheVariants as call
 use Rattle.vm_model.specs.declared.calls.Target.{Target}
 use Rattle.trace_text.specs.declared.progress.Progress.{Progress}
-use Rattle.trace_text.specs.Words.{fields, is_name}
+use Rattle.vm_model.specs.Words.{fields, is_name}
 use Rattle.trace_text.specs.Lines.{Line, TargetName, Vfree, UnmapRam, spelled, target_text}
 use Rattle.trace_text.specs.Reading.{Reading, aimed_at, number_of, target_of, with_call}
 use Rattle.trace_text.specs.Grammar.{may_stand, follows, aims, is_call_as, is_vmalloc, is_map_ram, has_room, read}

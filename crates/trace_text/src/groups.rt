@@ -1,6 +1,6 @@
 //! The groups of processors, as they are read.
 ghost use Rattle.std.specs.Prelude.{◌≡◌, ◌≤◌, ◌+◌, ◌++◌, IfOk, IsTrue, codes};
-ghost use Rattle.trace_text.specs.Words.{is_number};
+ghost use Rattle.vm_model.specs.Words.{is_number};
 ghost use Rattle.trace_text.specs.Lines.{GroupOf};
 ghost use Rattle.trace_text.specs.Reading.{Reading, cpus_of, groups_of};
 ghost use Rattle.trace_text.specs.Grammar.{is_allowed};

@@ -1,6 +1,6 @@
 //! The picks of an `order` line, as they are read.
 ghost use Rattle.std.specs.Prelude.{◌≡◌, ◌≢◌, ℕ, IfOk, IfSome, IfNone, IsTrue, decimal};
-ghost use Rattle.trace_text.specs.Words.{within};
+ghost use Rattle.vm_model.specs.Words.{within};
 ghost use Rattle.trace_text.specs.Held.{AddsPicks};
 
 use crate::fields::{cut, number};

@@ -6,12 +6,8 @@ mod division;
 pub mod errors;
 pub mod laws;
 pub mod layout;
-#[cfg(test)]
-mod plain;
 mod refusals;
 pub mod request;
-#[cfg(test)]
-mod tests;
 pub mod worked;
 
 pub use config::Config;

@@ -4,7 +4,7 @@ use Rattle.std.proofs.lemmas.Bool.Decides.{nat_tests}
 use Rattle.vm_model.specs.Calls.{made_in}
 use Rattle.section_core.specs.Places.{made_of}
 use Rattle.section_core.specs.Locals.{answer_of}
-use Rattle.section_core.proofs.Answered.{made_or, made_by_own}
+use Rattle.section_core.proofs.AnswersGiven.{made_or, made_by_own}
 use Rattle.section_core.proofs.begin.made_by.Goals as goal
 
 pub returns-in-Some-get : goal.returns-in-Some-get

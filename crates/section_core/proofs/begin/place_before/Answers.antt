@@ -4,7 +4,7 @@ use Rattle.std.proofs.lemmas.Bool.Decides.{nat_tests}
 use Rattle.vm_model.specs.Calls.{begin, begin_call}
 use Rattle.unit_layout.specs.Config.{setup_of}
 use Rattle.section_core.specs.Locals.{answer_of, IsBuiltCall}
-use Rattle.section_core.proofs.Answered.{is_built}
+use Rattle.section_core.proofs.AnswersGiven.{is_built}
 use Rattle.section_core.proofs.begin.place_before.Goals as goal
 
 pub returns-in-Vfree-clause-whole : goal.returns-in-Vfree-clause-whole

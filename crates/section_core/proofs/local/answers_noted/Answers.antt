@@ -3,7 +3,7 @@ use Rattle.std.proofs.lemmas.List.{take_all}
 use Rattle.std.proofs.lemmas.Option.{slice_get-get_or}
 use Rattle.history_book.specs.declared.noted.Noted.{Noted}
 use Rattle.section_core.specs.Locals.{answer_of, answers_with}
-use Rattle.section_core.proofs.Answered.{answers_at, told_more, row_by, length-answers_with}
+use Rattle.section_core.proofs.AnswersGiven.{answers_at, told_more, row_by, length-answers_with}
 use Rattle.section_core.proofs.local.answers_noted.Goals as goal
 
 pub loop-index-preserved : goal.loop-index-preserved

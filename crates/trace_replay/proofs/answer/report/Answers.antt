@@ -2,7 +2,7 @@ use Rattle.std.proofs.Common.{◌∙◌, ap, sym, refl, false, List}
 use Rattle.vm_model.specs.declared.rows.CounterRow.{CounterRow}
 use Rattle.vm_model.specs.declared.tables.Tables.{Tables}
 use Rattle.vm_model.specs.Tables.{tables_of}
-use Rattle.trace_text.specs.Report.{report}
+use Rattle.report_text.specs.Report.{report}
 use Rattle.trace_replay.specs.Headline.{setup, history_of_trace}
 use Rattle.trace_replay.proofs.LegalHistories.{legal_history}
 use Rattle.trace_replay.proofs.Reported.{no_counters}

@@ -8,7 +8,7 @@ use Rattle.vm_model.specs.History.{World, pick_all, finish, most_events}
 use Rattle.vm_model.specs.Tables.{tables_of}
 use Rattle.trace_text.specs.Reading.{Reading}
 use Rattle.trace_text.specs.Told.{Tells}
-use Rattle.section_core.specs.Kernels.{IsStanding, start_of, opening_of, callers_of}
+use Rattle.kernel_steps.specs.Kernels.{IsStanding, start_of, opening_of, callers_of}
 use Rattle.trace_replay.specs.BuiltReadings.{IsBuilt}
 use Rattle.trace_replay.specs.Headline.{setup, history_of_trace}
 use Rattle.trace_replay.proofs.Replays.{starts_on, picks_within, tables_told}

@@ -1,7 +1,7 @@
 use Rattle.std.proofs.Common.{◌≡◌, ◌∙◌, ℕ, ◌<◌, ◌≤◌, ◌^◌, true, sym, arith}
 use Rattle.std.proofs.lemmas.Bool.Decides.{nat_tests}
 use Rattle.std.proofs.lemmas.Fmt.{decimal_injective}
-use Rattle.trace_text.specs.Words.{within}
+use Rattle.vm_model.specs.Words.{within}
 use Rattle.trace_text.proofs.Guess.{small}
 use Rattle.trace_text.proofs.picks.pick.Goals as goal
 

@@ -9,7 +9,7 @@ use Rattle.vm_model.specs.Next.{Answer}
 use Rattle.section_core.specs.Places.{made_of, place_of, nothing, IsWhole}
 use Rattle.section_core.specs.declared.answers.Answered.{Answered as Code}
 use Rattle.section_core.specs.Locals.{HasCall, MadeBy, answer_of}
-use Rattle.section_core.proofs.Answered.{more_to_answer, answered_orderly, answered_view, has_call_at}
+use Rattle.section_core.proofs.AnswersGiven.{more_to_answer, answered_orderly, answered_view, has_call_at}
 use Rattle.section_core.proofs.local.Local.answer.Goals as goal
 
 pub note-requires-clause-room : goal.note-requires-clause-room

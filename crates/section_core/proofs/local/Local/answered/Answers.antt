@@ -1,6 +1,6 @@
 use Rattle.std.proofs.Common.{length, sym, ◌∙◌, ap}
 use Rattle.vm_model.specs.History.{Local}
-use Rattle.section_core.proofs.Answered.{count_is}
+use Rattle.section_core.proofs.AnswersGiven.{count_is}
 use Rattle.section_core.proofs.local.Local.answered.Goals as goal
 
 pub returns : goal.returns

@@ -1,7 +1,7 @@
 use Rattle.std.proofs.Common.{map, sym, ◌∙◌, ap, arith}
 use Rattle.vm_model.specs.History.{Local}
 use Rattle.history_book.specs.Entries.{note_of}
-use Rattle.section_core.proofs.Answered.{noted_again}
+use Rattle.section_core.proofs.AnswersGiven.{noted_again}
 use Rattle.section_core.proofs.local.Local.book.Goals as goal
 
 pub returns-clause-rows : goal.returns-clause-rows

@@ -4,7 +4,7 @@ use Rattle.vm_model.specs.Space.{HasEnd}
 use Rattle.vm_model.specs.History.{Local}
 use Rattle.section_core.specs.declared.place.Place.TheVariants as place
 use Rattle.section_core.specs.Places.{IsExtra, EndsWithin}
-use Rattle.section_core.proofs.Answered.{more_to_answer, orderly_there}
+use Rattle.section_core.proofs.AnswersGiven.{more_to_answer, orderly_there}
 use Rattle.section_core.proofs.local.Local.collect.Goals as goal
 
 pub invariant_of-self : goal.invariant_of-self

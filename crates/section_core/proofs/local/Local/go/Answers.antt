@@ -4,7 +4,7 @@ use Rattle.std.specs.Arc.{arc_value}
 use Rattle.unit_layout.specs.Config.{setup_of}
 use Rattle.section_core.specs.Locals.{HasCall, carried_of}
 use Rattle.section_core.specs.Places.{IsWhole, place_of, nothing}
-use Rattle.section_core.proofs.Answered.{count_is, orderly_there, empty_handed}
+use Rattle.section_core.proofs.AnswersGiven.{count_is, orderly_there, empty_handed}
 use Rattle.section_core.proofs.local.Local.go.Goals as goal
 
 pub invariant_of-self : goal.invariant_of-self

@@ -1,7 +1,7 @@
 use Rattle.std.proofs.Common.{length, sym, subst}
 use Rattle.vm_model.specs.History.{Local}
 use Rattle.section_core.specs.Locals.{HasCall}
-use Rattle.section_core.proofs.Answered.{count_is}
+use Rattle.section_core.proofs.AnswersGiven.{count_is}
 use Rattle.section_core.proofs.local.Local.place.Goals as goal
 
 pub returns-clause-at_hand : goal.returns-clause-at_hand

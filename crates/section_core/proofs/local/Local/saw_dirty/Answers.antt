@@ -11,7 +11,7 @@ use Rattle.vm_model.specs.Places.{Place, ReplyWith}
 use Rattle.vm_model.specs.History.{Local}
 use Rattle.section_core.specs.Places.{carried_at, IsWhole, IsExtra, AreRanges}
 use Rattle.section_core.specs.Locals.{local_of, carried_of}
-use Rattle.section_core.proofs.Answered.{more_to_answer, orderly_there, carrying}
+use Rattle.section_core.proofs.AnswersGiven.{more_to_answer, orderly_there, carrying}
 use Rattle.section_core.proofs.CarriedLists.{ranges_told, ranges_more}
 use Rattle.section_core.proofs.local.Local.saw_dirty.Goals as goal
 

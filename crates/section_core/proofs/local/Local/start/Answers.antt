@@ -7,7 +7,7 @@ use Rattle.vm_model.specs.Calls.{begin}
 use Rattle.vm_model.specs.History.{started}
 use Rattle.unit_layout.specs.Config.{setup_of}
 use Rattle.unit_layout.specs.declared.config.Config.{Config}
-use Rattle.section_core.proofs.Answered.{started_view}
+use Rattle.section_core.proofs.AnswersGiven.{started_view}
 use Rattle.section_core.proofs.local.Local.start.Goals as goal
 
 pub returns : goal.returns

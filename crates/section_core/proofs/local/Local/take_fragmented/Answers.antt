@@ -9,7 +9,7 @@ use Rattle.vm_model.specs.Next.{after_fragments}
 use Rattle.vm_model.specs.History.{Local}
 use Rattle.section_core.specs.Places.{carried_at, then_of, IsWhole, IsExtra}
 use Rattle.section_core.specs.Locals.{local_of}
-use Rattle.section_core.proofs.Answered.{more_to_answer, orderly_there, carrying}
+use Rattle.section_core.proofs.AnswersGiven.{more_to_answer, orderly_there, carrying}
 use Rattle.map_blocks.specs.BlockRows as rows
 use Rattle.section_core.proofs.CarriedLists.{fragments_more, few_fragments, rows_of_blocks}
 use Rattle.section_core.proofs.local.Local.take_fragmented.Goals as goal

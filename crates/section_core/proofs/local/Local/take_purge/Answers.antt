@@ -2,7 +2,7 @@ use Rattle.std.proofs.Common.{sym, subst}
 use Rattle.vm_model.specs.History.{Local}
 use Rattle.section_core.specs.declared.place.Place.TheVariants as place
 use Rattle.section_core.specs.Places.{IsExtra}
-use Rattle.section_core.proofs.Answered.{more_to_answer, orderly_there}
+use Rattle.section_core.proofs.AnswersGiven.{more_to_answer, orderly_there}
 use Rattle.section_core.proofs.local.Local.take_purge.Goals as goal
 
 pub invariant_of-self : goal.invariant_of-self

@@ -1,0 +1,9 @@
+pub mod SectionsMade
+pub mod Picks
+pub mod Callers
+pub mod PlainWorlds
+pub mod Starts
+pub mod TablesTold
+pub mod Sorted
+pub mod Gathered
+pub mod BlockTables

@@ -1,0 +1,297 @@
+//! The kernel: all regions and all callers, one step after another.
+ghost use Rattle.std.specs.Prelude.{◌∷◌, ◌≡◌, ◌≢◌, ◌<◌, ◌≤◌, ℕ, List, All, Some, length, take, drop, slice_get, reverse, IfOk, IfSome, OnOk, OnErr};
+ghost use Rattle.vm_model.specs.declared.calls.Call.{Call};
+ghost use Rattle.vm_model.specs.Setup.{Setup};
+ghost use Rattle.vm_model.specs.Space.{sort_by};
+ghost use Rattle.vm_model.specs.declared.areas.Span.{Span};
+ghost use Rattle.vm_model.specs.declared.rows.BlockRow.{BlockRow};
+ghost use Rattle.vm_model.specs.declared.rows.PartRow.{PartRow};
+ghost use Rattle.unit_layout.specs.Config.{setup_of};
+ghost use Rattle.vm_model.specs.Rules.{IsSetup};
+ghost use Rattle.std.specs.Arc.{arc_value};
+ghost use Rattle.vm_model.specs.History.{World, opening_world, step, pick_all, moves_in, first_mover, finish, most_events};
+ghost use Rattle.unit_layout.specs.declared.config.Config.{Config};
+ghost use Rattle.vm_model.specs.Tables.{entries_of, tables_of};
+ghost use Rattle.vm_model.specs.LegalHistory.{AllOver};
+ghost use Rattle.vm_model.specs.Parts.{regions_of, wants, moves, after};
+ghost use Rattle.vm_model.specs.Run.{section_by};
+ghost use Rattle.section_core.specs.declared.region.Stepped.TheVariants.{Moved};
+ghost use Rattle.section_core.specs.Lawful.{IsRunning, IsLawful};
+ghost use Rattle.kernel_steps.specs.Kernels.{KernelState, IsStanding, IsSteppedAs, SectionAs, CanStart, CanJoin, IsOfBlocks, start_of, opening_of, callers_of};
+
+use augmented_tree::FreeSide;
+use history_book::number;
+use lazy_purge::LazySide;
+use section_core::{
+    AnswerList, Local, Region, Stepped, first_callers, first_regions, moves, section,
+};
+use std::alloc::{AllocError, Global};
+use std::marker::Model;
+use std::sync::Arc;
+use unit_layout::Config;
+use vm_model::{
+    BlockList, BlockRow, CallerCalls, CallsList, ChunkAuditList, ChunkList, Entry, EntryList,
+    HintList, ObjectList, PartList, PartRow, Span, SpanList, Tables,
+};
+
+/// More events than any trace makes.
+const MOST_EVENTS: u32 = 100_000_000;
+
+/// An allocator and its callers: the opening is caller 0.
+#[derive(Drop)]
+pub struct Kernel {
+    alloc: Global,
+    regions: Vec<Region>,
+    locals: Vec<Local>,
+    moved: Vec<u16>,
+}
+
+impl Model for Kernel {
+    ghost use Rattle.kernel_steps.specs.Kernels.{KernelState, IsSomewhere};
+
+    ghost Value = { KernelState };
+
+    ghost view = { λ k. record { regions = k.regions.items; locals = k.locals.items; moved = k.moved.items } };
+
+    ghost invariant = { λ k. IsSomewhere (record { regions = k.regions.items; locals = k.locals.items; moved = k.moved.items }) };
+}
+
+/// The next section of a caller, over the region of all that it wants.
+fn section_of(
+    regions: &mut [Region],
+    locals: &mut [Local],
+    caller: usize,
+) -> Result<Stepped, AllocError>
+    requires caller { caller < length locals.old }
+    requires lawful { IsLawful regions.old locals.old }
+    ensures ok { OnOk result ((regions.new, locals.new) ≡ section_by wants moves after (regions.old, locals.old) caller (slice_get locals.old caller)) }
+    ensures ended { IfOk result (SectionAs (regions.old, locals.old) caller) }
+    ensures err { OnErr result ((regions.new ≡ regions.old) × (locals.new ≡ locals.old)) }
+{
+    let local = &mut locals[caller];
+    let Some(number) = local.wants() else {
+        return Ok(Stepped::Ended);
+    };
+    section(local, &mut regions[number as usize])
+}
+
+impl Kernel {
+    /// Starts an allocator on the numbers of a header, and makes the calls of the opening, the first section, to their
+    /// end. The callers of the further sections stand before their first calls then.
+    pub fn start(alloc: Global, config: Config, sections: CallsList) -> Result<Kernel, AllocError>
+        requires { CanStart (setup_of config) sections }
+        ensures { IfOk result (λ kernel. IsStanding (setup_of config) (opening_of sections) (callers_of sections) (start_of (setup_of config) sections) kernel) }
+    {
+        let config = Arc::new(alloc, config)?;
+        let mut sections = sections.into_vec();
+        let opening = sections.remove(0);
+        let mut kernel = Kernel::before(alloc, &config, opening)?;
+        kernel.finish()?;
+        let answers = Arc::new(alloc, kernel.locals[0].answers(alloc)?)?;
+        kernel.join(first_callers(alloc, &config, &answers, sections)?)?;
+        Ok(kernel)
+    }
+
+    /// The opening before its first call.
+    fn before(
+        alloc: Global,
+        config: &Arc<Config, Global>,
+        opening: CallerCalls,
+    ) -> Result<Kernel, AllocError>
+        requires { (calls : List (List Call)) × CanStart (setup_of (arc_value config.now)) (opening ∷ calls) }
+        ensures { IfOk result (λ kernel. (calls : List (List Call)) → CanStart (setup_of (arc_value config.now)) (opening ∷ calls) → IsStanding (setup_of (arc_value config.now)) opening calls (opening_world (setup_of (arc_value config.now)) opening calls) kernel) }
+    {
+        let none = Arc::new(alloc, AnswerList::of(Vec::new(alloc)))?;
+        let first = Local::start(alloc, Arc::try_clone(config)?, 0, none, opening)?;
+        Ok(Kernel {
+            alloc,
+            regions: first_regions(alloc, config)?,
+            locals: vec![in alloc; first]?,
+            moved: Vec::new(alloc),
+        })
+    }
+
+    /// Callers beside the opening, which has ended.
+    fn join(&mut self, callers: Vec<Local>) -> Result<(), AllocError>
+        requires { (c : Setup) × (sections : List (List Call)) × CanJoin c sections self.old callers.items }
+        ensures { OnOk result ((c : Setup) (sections : List (List Call)) → CanJoin c sections self.old callers.items → IsStanding c (opening_of sections) (callers_of sections) (start_of c sections) self.new) }
+    {
+        let mut callers = callers;
+        self.locals.append(&mut callers)?;
+        Ok(())
+    }
+
+    /// One event of a caller, by its number. It stays where its next section takes a turn that another has, and it has
+    /// ended where all its calls are answered; then nothing changes. An error changes nothing either.
+    pub fn step(&mut self, caller: u16) -> Result<Stepped, AllocError>
+        requires { caller < length self.old.locals }
+        ensures ok { OnOk result ((c : Setup) (opening : List Call) (calls : List (List Call)) (w : World) → IsStanding c opening calls w self.old → IsStanding c opening calls (step w caller) self.new) }
+        ensures stepped { IfOk result (λ stepped. (c : Setup) (opening : List Call) (calls : List (List Call)) (w : World) → IsStanding c opening calls w self.old → IsSteppedAs w caller stepped) }
+        ensures unchanged { IfOk result (λ stepped. stepped ≢ Moved → self.new ≡ self.old) }
+        ensures callers { length self.new.locals ≡ length self.old.locals }
+        ensures err { OnErr result (self.new ≡ self.old) }
+    {
+        self.moved.reserve(1)?;
+        let stepped = section_of(&mut self.regions, &mut self.locals, caller as usize)?;
+        match stepped {
+            Stepped::Moved => self.moved.push_reserved(caller),
+            Stepped::Stays | Stepped::Ended => {}
+        }
+        Ok(stepped)
+    }
+
+    /// Whether a caller's next section would move now.
+    fn can_move(&self, caller: u16) -> bool
+        requires { caller < length self.now.locals }
+        ensures { (c : Setup) (opening : List Call) (calls : List (List Call)) (w : World) → IsStanding c opening calls w self.now → result ≡ moves_in w (slice_get w.locals caller) }
+    {
+        let local = &self.locals[caller as usize];
+        match local.wants() {
+            Some(number) => moves(local, &self.regions[number as usize]),
+            None => false,
+        }
+    }
+
+    /// One step for each pick, in their order. After an error the kernel stands where the picks before it led.
+    pub fn run(&mut self, picks: &[u16]) -> Result<(), AllocError>
+        requires { All (λ (pick : ℕ). pick < length self.old.locals) picks.now }
+        ensures ok { OnOk result ((c : Setup) (opening : List Call) (calls : List (List Call)) (w : World) → IsStanding c opening calls w self.old → IsStanding c opening calls (pick_all w picks.now) self.new) }
+        ensures callers { length self.new.locals ≡ length self.old.locals }
+        ensures err { OnErr result ((n : ℕ) × (n < length picks.now) × ((c : Setup) (opening : List Call) (calls : List (List Call)) (w : World) → IsStanding c opening calls w self.old → IsStanding c opening calls (pick_all w (take n picks.now)) self.new)) }
+    {
+        for pick in picks {
+            self.step(*pick)?;
+        }
+        Ok(())
+    }
+
+    /// The lowest caller that can move.
+    fn first_mover(&self) -> Option<u16>
+        ensures first { (c : Setup) (opening : List Call) (calls : List (List Call)) (w : World) → IsStanding c opening calls w self.now → result ≡ first_mover w }
+        ensures within { IfSome result (λ caller. caller < length self.now.locals) }
+    {
+        for caller in 0..self.locals.len() as u16 {
+            if self.can_move(caller) {
+                return Some(caller);
+            }
+        }
+        None
+    }
+
+    /// The lowest caller that can move, again and again, until all have ended. After an error the kernel stands where
+    /// the steps before it led.
+    pub fn finish(&mut self) -> Result<(), AllocError>
+        ensures ok { OnOk result ((c : Setup) (opening : List Call) (calls : List (List Call)) (w : World) → IsStanding c opening calls w self.old → IsStanding c opening calls (finish most_events w) self.new) }
+        ensures over { OnOk result ((c : Setup) (opening : List Call) (calls : List (List Call)) (w : World) → IsStanding c opening calls w self.old → AllOver self.new.locals) }
+        ensures callers { length self.new.locals ≡ length self.old.locals }
+        ensures err { OnErr result ((n : ℕ) × (n < most_events) × ((c : Setup) (opening : List Call) (calls : List (List Call)) (w : World) → IsStanding c opening calls w self.old → IsStanding c opening calls (finish n w) self.new)) }
+    {
+        for _ in 0..MOST_EVENTS {
+            let Some(caller) = self.first_mover() else {
+                break;
+            };
+            self.step(caller)?;
+        }
+        Ok(())
+    }
+
+    /// The entry of each call that was answered, by caller and call.
+    fn entries(&self) -> Result<Vec<Entry>, AllocError>
+        ensures { IfOk result (λ entries. (c : Setup) (opening : List Call) (calls : List (List Call)) (w : World) → IsStanding c opening calls w self.now → entries.items ≡ entries_of w.events w.locals) }
+    {
+        let mut entries = Vec::new(self.alloc);
+        for local in &self.locals {
+            number(local.book(), &self.moved, &mut entries)?;
+        }
+        Ok(entries)
+    }
+
+    /// The replies so far, and the tables of what there is now.
+    pub fn tables(&self) -> Result<Tables, AllocError>
+        ensures { IfOk result (λ tables. (config : Config) (opening : List Call) (calls : List (List Call)) (w : World) → IsStanding (setup_of config) opening calls w self.now → tables ≡ tables_of (setup_of config) w) }
+    {
+        let alloc = self.alloc;
+        let free = self.regions[3].free();
+        let pages = self.regions[6].pages();
+        let largest = free.largest();
+        Ok(Tables {
+            entries: EntryList::of(self.entries()?),
+            events: self.moved.len() as u64,
+            frames: pages.free_frames(),
+            mapped: pages.mapped(),
+            stale: pages.stale(),
+            free: SpanList::of(free_blocks(alloc, free)?),
+            areas: self.regions[4].busy().areas()?,
+            waiting: SpanList::of(waiting_spans(alloc, self.regions[5].lazy())?),
+            blocks: BlockList::of(block_rows(alloc, &self.regions[8..])?),
+            parts: PartList::of(part_rows(alloc, &self.regions[8..])?),
+            chunks: ChunkList::of(Vec::new(alloc)),
+            objects: ObjectList::of(Vec::new(alloc)),
+            tree_blocks: free.len(),
+            tree_largest: largest,
+            plain_largest: largest,
+            chunk_audit: ChunkAuditList::of(Vec::new(alloc)),
+            hints: HintList::of(Vec::new(alloc)),
+        })
+    }
+
+    /// The caller of each event, in the order of the events.
+    pub fn moved(&self) -> &[u16]
+        ensures { result.now ≡ self.now.moved }
+    {
+        self.moved.as_slice()
+    }
+}
+
+/// The free blocks by rising start.
+fn free_blocks(alloc: Global, free: &FreeSide) -> Result<Vec<Span>, AllocError>
+    ensures { IfOk result (λ spans. spans.items ≡ free.now.blocks) }
+{
+    let mut spans = Vec::new(alloc);
+    for index in 0..free.len() {
+        spans.push(free.block_at(index))?;
+    }
+    Ok(spans)
+}
+
+/// The spans that wait, the latest first.
+fn latest_first(alloc: Global, lazy: &LazySide) -> Result<Vec<Span>, AllocError>
+    ensures { IfOk result (λ spans. spans.items ≡ reverse lazy.now) }
+{
+    lazy.spans().iter().rev().copied().collect(alloc)
+}
+
+/// The spans that wait by rising start.
+fn waiting_spans(alloc: Global, lazy: &LazySide) -> Result<Vec<Span>, AllocError>
+    ensures { IfOk result (λ spans. spans.items ≡ sort_by (λ (s : Span). s.start) lazy.now) }
+{
+    let mut spans = latest_first(alloc, lazy)?;
+    spans.sort_by_key(|span| span.start)?;
+    Ok(spans)
+}
+
+/// The blocks of all processors by rising start.
+fn block_rows(alloc: Global, regions: &[Region]) -> Result<Vec<BlockRow>, AllocError>
+    requires { All IsOfBlocks regions.now }
+    ensures { IfOk result (λ rows. (c : Setup) (opening : List Call) (calls : List (List Call)) (w : World) → IsRunning c opening calls w → regions.now ≡ drop 8 (regions_of c w.map) → rows.items ≡ (tables_of c w).blocks) }
+{
+    let mut rows = Vec::new(alloc);
+    for region in regions {
+        rows.append(&mut region.blocks().block_rows()?.into_vec())?;
+    }
+    rows.sort_by_key(|row| row.start)?;
+    Ok(rows)
+}
+
+/// The live parts of all processors by rising start.
+fn part_rows(alloc: Global, regions: &[Region]) -> Result<Vec<PartRow>, AllocError>
+    requires { All IsOfBlocks regions.now }
+    ensures { IfOk result (λ rows. (c : Setup) (opening : List Call) (calls : List (List Call)) (w : World) → IsRunning c opening calls w → regions.now ≡ drop 8 (regions_of c w.map) → rows.items ≡ (tables_of c w).parts) }
+{
+    let mut rows = Vec::new(alloc);
+    for region in regions {
+        rows.append(&mut region.blocks().part_rows()?.into_vec())?;
+    }
+    rows.sort_by_key(|row| row.span.start)?;
+    Ok(rows)
+}

@@ -1,0 +1,6 @@
+//! The kernel: all regions and all callers of a space, one step after another.
+#![tactic(auto)]
+
+pub mod kernel;
+
+pub use kernel::Kernel;

@@ -1,0 +1,19 @@
+use Rattle.std.proofs.Common.{length, ℕ, ◌<◌, ◌≤◌, not, ap, ◌∙◌, subst, arith}
+use Rattle.page_pool.specs.Pages.{Pages, IsMapped}
+use Rattle.page_pool.proofs.Looks.{looked_more, looked_at, mapped_at}
+use Rattle.page_pool.proofs.page_side.PageSide.is_mapped.Goals as goal
+
+pub loop-page-init : goal.loop-page-init
+loop-page-init c = λ page low high. absurd (omega arith)
+
+pub loop-page-preserved : goal.loop-page-preserved
+loop-page-preserved c =
+    let p : Pages = record { frames = c.self.inside.frames.items; stale = c.self.inside.stale; cells = c.self.inside.cells } in
+    let same = ap (λ (v : Pages). length v.frames) c.self.view_is in
+    looked_more (IsMapped p) c.args.span.start c.loop-page.page c.loop-page.invariant
+    (mapped_at c.self.inside.frames.items c.loop-page.page c.index.result.now (omega arith) c.index.ensures (c.is_none.ensures ∙ ap not c.if-is_none.false))
+
+pub returns-clause-mapped : goal.returns-clause-mapped
+returns-clause-mapped c found =
+    looked_at (IsMapped c.args.self.now) c.args.span c.loop-page.page (omega arith)
+    (subst (λ (p : Pages). (page : ℕ) → c.args.span.start ≤ page → page < c.loop-page.page → IsMapped p page) c.self.view_is c.loop-page.invariant)

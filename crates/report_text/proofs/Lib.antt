@@ -1,0 +1,7 @@
+pub mod ReportTexts
+pub mod CounterTexts
+pub mod Joined
+pub mod CounterSums
+pub mod Hexadecimal
+pub mod LongLines
+pub mod ChunkAudits

@@ -1,0 +1,6 @@
+use Rattle.std.proofs.Common.{◌≡◌, ◌++◌, take}
+use Rattle.report_text.specs.AuditLines.{counter_audits}
+use Rattle.report_text.proofs.audit_lines.put_counter_audits.Given as goal
+
+abbrev pub invariant-loop-i : goal.invariant-loop-i
+invariant-loop-i l = l.text ≡ l.fn.text ++ counter_audits (take l.i l.counters)

@@ -1,0 +1,16 @@
+//! Writing the report of a run, its schedule and the line of a fault.
+#![tactic(auto)]
+
+mod audit_lines;
+mod entry_lines;
+pub mod faults;
+pub mod laws;
+mod numerals;
+mod table_lines;
+mod tally;
+pub mod text;
+pub mod writer;
+
+pub use faults::Fault;
+pub use text::Text;
+pub use writer::{write_fault, write_report, write_schedule};

@@ -1,6 +1,0 @@
-use Rattle.std.proofs.Common.{◌≡◌, ◌++◌, take}
-use Rattle.trace_text.specs.AuditLines.{counter_audits}
-use Rattle.trace_text.proofs.audit_lines.put_counter_audits.Given as goal
-
-abbrev pub invariant-loop-i : goal.invariant-loop-i
-invariant-loop-i l = l.text ≡ l.fn.text ++ counter_audits (take l.i l.counters)

@@ -1,7 +1,0 @@
-use Rattle.std.proofs.Common.{◌≡◌, ◌++◌, length, subst, OnOk}
-use Rattle.trace_text.specs.declared.tally.Tally.{Tally}
-use Rattle.trace_text.specs.Tally.{counts_line}
-use Rattle.trace_text.proofs.entry_lines.put_tally.Goals as goal
-
-pub returns : goal.returns
-returns c = subst (λ (t : Tally). OnOk c.put_counts.result (c.put_counts.new.text ≡ c.args.text.now ++ counts_line (length c.args.entries.now) t)) c.tally_of.ensures c.put_counts.ensures

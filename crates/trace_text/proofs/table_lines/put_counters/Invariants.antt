@@ -1,6 +1,0 @@
-use Rattle.std.proofs.Common.{◌≡◌, ◌++◌, take}
-use Rattle.trace_text.specs.TableLines.{counter_lines}
-use Rattle.trace_text.proofs.table_lines.put_counters.Given as goal
-
-abbrev pub invariant-loop-i : goal.invariant-loop-i
-invariant-loop-i l = l.text ≡ l.fn.text ++ counter_lines (take l.i l.counters)

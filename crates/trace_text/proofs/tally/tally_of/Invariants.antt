@@ -1,6 +1,0 @@
-use Rattle.std.proofs.Common.{◌≡◌, take}
-use Rattle.trace_text.specs.Tally.{tally_of}
-use Rattle.trace_text.proofs.tally.tally_of.Given as goal
-
-abbrev pub invariant-loop-entry : goal.invariant-loop-entry
-invariant-loop-entry l = l.tally ≡ tally_of (take l.entry-index l.entries)
