@@ -1,7 +1,8 @@
 //! Parts of one caller that are cut from blocks of one processor or two, end and are purged.
 use crate::draws::Draws;
 use crate::replayed::compare;
-use plain_kernel::{Machine, PlainTrace};
+use plain_kernel::Machine;
+use plain_report::PlainTrace;
 use std::test::Fail;
 
 #[test]

@@ -1,7 +1,8 @@
 //! Areas of one caller that are freed, wait and are purged.
 use crate::draws::Draws;
 use crate::replayed::compare;
-use plain_kernel::{Machine, PlainTrace};
+use plain_kernel::Machine;
+use plain_report::PlainTrace;
 use std::test::Fail;
 
 #[test]

@@ -1,7 +1,8 @@
 //! Searches of one caller, with and without a hole.
 use crate::draws::Draws;
 use crate::replayed::compare;
-use plain_kernel::{Machine, PlainTrace};
+use plain_kernel::Machine;
+use plain_report::PlainTrace;
 use std::test::Fail;
 
 #[test]

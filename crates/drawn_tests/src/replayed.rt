@@ -1,5 +1,5 @@
 //! The public call over bytes in memory, compared with the plain model.
-use plain_kernel::{PlainTrace, Worked};
+use plain_report::{PlainTrace, Worked};
 use std::alloc::{AllocError, Global};
 use std::process::Abort;
 use trace_replay::{Mode, Status, StreamSink, StreamSource, replay};

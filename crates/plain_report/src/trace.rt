@@ -1,5 +1,6 @@
 //! A trace that is made call by call, with the plain map after its calls.
-use crate::plain_map::{Machine, PlainMap};
+use crate::report::report_of;
+use plain_kernel::{Machine, PlainMap};
 use std::alloc::{AllocError, Global};
 use std::fmt::Write;
 
@@ -75,7 +76,7 @@ impl PlainTrace {
     /// Ends the trace, and works out its report.
     pub fn finish(mut self, alloc: Global) -> Result<Worked, AllocError> {
         self.text.push_str("end\n")?;
-        let report = self.map.report(alloc)?;
+        let report = report_of(&self.map, alloc)?;
         Ok(Worked {
             trace: self.text,
             report,
