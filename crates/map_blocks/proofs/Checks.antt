@@ -1,5 +1,6 @@
 -- What a caller asks before it calls what has a condition.
-use Rattle.std.proofs.Common.{◌≡◌, ℕ, ◌+◌, ◌<◌, ◌≤◌, true, false, ◌==◌, ◌⊎◌, inl, inr, if◌then◌else◌, List, [], ◌∷◌, map, flat_map, find, Some, None, option_map, refl, sym, ap, ◌∙◌, subst, arith}
+use Rattle.std.proofs.Common.{◌≡◌, ℕ, ◌+◌, ◌<◌, ◌≤◌, Bool, true, false, ◌==◌, ◌||◌, ◌⊎◌, inl, inr, if◌then◌else◌, List, [], ◌∷◌, map, flat_map, find, Some, None, option_map, refl, sym, ap, ◌∙◌, subst, arith}
+use Rattle.std.proofs.lemmas.Bool.{cases_lt}
 use Rattle.std.proofs.lemmas.Bool.Decides.{nat_tests}
 use Rattle.std.proofs.lemmas.List.{append-nil}
 use Rattle.std.specs.Map.{values_of}
@@ -8,7 +9,7 @@ use Rattle.vm_model.specs.PlainMap.{Block, Part, Life, InHand, Lives, Ended, is_
 use Rattle.map_blocks.specs.BlockSpans.{block_span}
 use Rattle.map_blocks.specs.KeptBlocks.{KeptRow, IsInHand, part_in}
 use Rattle.map_blocks.specs.KeptSides.{IsOwn, AreApartFrom, block_at, by_number, blocks_in}
-use Rattle.map_blocks.proofs.Sorted.{Holds, sort_holds}
+use Rattle.map_blocks.proofs.Sorted.{Holds, sort_holds, sort_held}
 use Rattle.map_blocks.proofs.Chosen.{number_of, block_of, flat_parts, hand_in, pick_sorted, sorted_own}
 
 -- a part of a block that is in hand
@@ -67,3 +68,45 @@ none_covers cpu pages added start page (r ∷ rows) own apart here =
 pub unused_of : (cpu pages added start : ℕ) (es : List (ℕ × KeptRow)) → AreApartFrom cpu pages added 0 es → Holds (IsApart start) (values_of es)
     → (page : ℕ) → holds (span start pages) page ≡ true → covers (map (block_span pages) (blocks_in (values_of es))) page ≡ false
 unused_of cpu pages added start es apart each page here = none_covers cpu pages added start page (by_number (values_of es)) (sorted_own cpu pages added 0 es apart) (sort_holds number_of (IsApart start) (values_of es) each) here
+
+-- a block of so many pages that has none of as many pages from a start on
+abbrev pub IsClear : (pages start : ℕ) → KeptRow → Type 0
+IsClear pages start r = (r.pages ≡ pages) × ((page : ℕ) → holds (span start pages) page ≡ true → holds (block_span pages r.block) page ≡ false)
+
+first_false : (a b : Bool) → (a || b) ≡ false → a ≡ false
+first_false false b e = refl
+first_false true b e = cc
+
+second_false : (a b : Bool) → (a || b) ≡ false → b ≡ false
+second_false false b e = e
+second_false true b e = cc
+
+all_clear : (cpu pages added start : ℕ) (rows : List KeptRow) → Holds (IsOwn cpu pages added) rows → ((page : ℕ) → holds (span start pages) page ≡ true → covers (map (block_span pages) (map block_of rows)) page ≡ false) → Holds (IsClear pages start) rows
+all_clear cpu pages added start [] own none = tt
+all_clear cpu pages added start (r ∷ rows) own none = (
+  (own.0.size, (λ page here. first_false (holds (block_span pages r.block) page) (covers (map (block_span pages) (map block_of rows)) page) (none page here))),
+  all_clear cpu pages added start rows own.1 (λ page here. second_false (holds (block_span pages r.block) page) (covers (map (block_span pages) (map block_of rows)) page) (none page here)),
+)
+
+pub clear_of : (cpu pages added start : ℕ) (es : List (ℕ × KeptRow)) → AreApartFrom cpu pages added 0 es
+    → ((page : ℕ) → holds (span start pages) page ≡ true → covers (map (block_span pages) (blocks_in (values_of es))) page ≡ false) → Holds (IsClear pages start) (values_of es)
+clear_of cpu pages added start es apart none = sort_held number_of (IsClear pages start) (values_of es) (all_clear cpu pages added start (by_number (values_of es)) (sorted_own cpu pages added 0 es apart) none)
+
+-- the higher of the two starts is in both
+pub clear_apart : (pages start : ℕ) (r : KeptRow) → 1 ≤ pages → IsClear pages start r → IsApart start r
+clear_apart pages start r some clear = elim (cases_lt r.block.start start) [
+  | inl before ↦
+      let here : holds (span start pages) start ≡ true = grind (arith, nat_tests) in
+      let away = clear.1 start here in
+      let size = clear.0 in
+      inl (grind (arith, nat_tests))
+  | inr behind ↦
+      elim (cases_lt r.block.start (start + pages)) [
+        | inl inside ↦
+            let here : holds (span start pages) r.block.start ≡ true = grind (arith, nat_tests) in
+            let away = clear.1 r.block.start here in
+            let there : holds (block_span pages r.block) r.block.start ≡ true = grind (arith, nat_tests) in
+            absurd (let never : true ≡ false = sym there ∙ away in cc)
+        | inr beyond ↦ let size = clear.0 in inr (omega arith)
+      ]
+]

@@ -46,6 +46,19 @@ module _ {X : Type 0} where
     sort_holds P [] h = tt
     sort_holds P (x ∷ xs) h = put_holds P x (sort_by key xs) h.0 (sort_holds P xs h.1)
 
+    put_held_by : (P : X → Type 0) (x y : X) (ys : List X) (b : Bool) → (Holds P (put_by key x ys) → P x × Holds P ys) → Holds P (if b then x ∷ y ∷ ys else y ∷ put_by key x ys) → P x × (P y × Holds P ys)
+    put_held_by P x y ys true more h = h
+    put_held_by P x y ys false more h = let m = more h.1 in (m.0, (h.0, m.1))
+
+    put_held : (P : X → Type 0) (x : X) (ys : List X) → Holds P (put_by key x ys) → P x × Holds P ys
+    put_held P x [] h = h
+    put_held P x (y ∷ ys) h = put_held_by P x y ys (nat_lt (key x) (key y)) (put_held P x ys) h
+
+    -- and back
+    pub sort_held : (P : X → Type 0) (xs : List X) → Holds P (sort_by key xs) → Holds P xs
+    sort_held P [] h = tt
+    sort_held P (x ∷ xs) h = let m = put_held P x (sort_by key xs) h in (m.0, sort_held P xs m.1)
+
     at_least_by : (x y : X) (ys : List X) (b : Bool) → nat_lt (key x) (key y) ≡ b → AtLeast (key y) ys → (key y ≤ key x → AtLeast (key y) (put_by key x ys)) → IsRising ys → IsRising (put_by key x ys) → IsRising (if b then x ∷ y ∷ ys else y ∷ put_by key x ys)
     at_least_by x y ys true e from more rest put = let l : key x < key y = grind (arith, nat_tests) in ((omega arith, holds_of (λ z. key y ≤ key z) (λ z. key x ≤ key z) ys (λ z h. omega arith) from), (from, rest))
     at_least_by x y ys false e from more rest put = let l : key y ≤ key x = grind (arith, nat_tests) in (more l, put)

@@ -169,6 +169,7 @@ impl BlockSide {
     pub fn is_unused(&self, start: u32) -> bool
         ensures end { IsTrue result → start + self.now.pages ≤ 1048576 }
         ensures unused { IsTrue result → IsUnused self.now (span start self.now.pages) }
+        ensures only { start + self.now.pages ≤ 1048576 → IsUnused self.now (span start self.now.pages) → IsTrue result }
     {
         if start > 1048576 - self.pages {
             return false;

@@ -31,5 +31,11 @@ mapped_at frames page o within is h = some o h (slice_get-get_or frames page o w
     some None e at = cc
     some (Some frame) e at = (frame, at)
 
+pub some_at : (frames : List (Option ℕ)) (page frame : ℕ) (o : Option ℕ) → page < length frames → o ≡ get_or frames page o → slice_get frames page ≡ Some (Some frame) → is_some o ≡ true
+some_at frames page frame o within is at =
+    let same : Some o ≡ Some (Some frame) = ap Some is ∙ sym (slice_get-get_or frames page o within) ∙ at in
+    let one : o ≡ Some frame = cc in
+    ap is_some one
+
 pub not_stale_at : (flags : List Bool) (page : ℕ) → page < length flags → is_set (slice_get flags page) ≡ false → slice_get flags page ≡ Some false
 not_stale_at flags page within h = let is = slice_get-get_or flags page false within in is ∙ ap Some (ap is_set (sym is) ∙ h)

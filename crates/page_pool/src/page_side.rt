@@ -107,6 +107,7 @@ impl PageSide {
     pub fn is_bare(&self, span: Span) -> bool
         ensures inside { IsTrue result → end_of span ≤ length self.now.frames }
         ensures bare { IsTrue result → (page : ℕ) → holds span page ≡ true → IsBare self.now page }
+        ensures only { end_of span ≤ length self.now.frames → ((page : ℕ) → holds span page ≡ true → IsBare self.now page) → IsTrue result }
     {
         if !self.has(span) {
             return false;
@@ -124,6 +125,7 @@ impl PageSide {
     pub fn is_mapped(&self, span: Span) -> bool
         ensures inside { IsTrue result → end_of span ≤ length self.now.frames }
         ensures mapped { IsTrue result → (page : ℕ) → holds span page ≡ true → IsMapped self.now page }
+        ensures only { end_of span ≤ length self.now.frames → ((page : ℕ) → holds span page ≡ true → IsMapped self.now page) → IsTrue result }
     {
         if !self.has(span) {
             return false;

@@ -1,6 +1,9 @@
+use Rattle.std.proofs.Common.{ℕ}
 use Rattle.map_blocks.proofs.Sorted.{Holds}
-use Rattle.map_blocks.proofs.Checks.{IsApart}
+use Rattle.map_blocks.proofs.Checks.{IsApart, IsClear}
 use Rattle.map_blocks.proofs.block_side.BlockSide.is_unused.Given as goal
 
 abbrev pub invariant-loop-block : goal.invariant-loop-block
-invariant-loop-block l = Holds (IsApart l.start) l.block-iterator → Holds (IsApart l.start) l.initial.block-iterator
+invariant-loop-block l =
+    (Holds (IsApart l.start) l.block-iterator → Holds (IsApart l.start) l.initial.block-iterator)
+    × (Holds (IsClear l.self.pages l.start) l.initial.block-iterator → Holds (IsClear l.self.pages l.start) l.block-iterator)

@@ -1,6 +1,8 @@
-use Rattle.std.proofs.Common.{length, ℕ, ◌<◌, ◌≤◌, not, ap, ◌∙◌, subst, arith}
+use Rattle.std.proofs.Common.{◌≡◌, true, false, Some, is_some, slice_get, length, ℕ, ◌<◌, ◌≤◌, not, ap, sym, ◌∙◌, subst, arith}
+use Rattle.std.proofs.lemmas.Bool.Decides.{nat_tests}
+use Rattle.vm_model.specs.Space.{holds}
 use Rattle.page_pool.specs.Pages.{Pages, IsMapped}
-use Rattle.page_pool.proofs.Looks.{looked_more, looked_at, mapped_at}
+use Rattle.page_pool.proofs.Looks.{looked_more, looked_at, mapped_at, some_at}
 use Rattle.page_pool.proofs.page_side.PageSide.is_mapped.Goals as goal
 
 pub loop-page-init : goal.loop-page-init
@@ -17,3 +19,14 @@ pub returns-clause-mapped : goal.returns-clause-mapped
 returns-clause-mapped c found =
     looked_at (IsMapped c.args.self.now) c.args.span c.loop-page.page (omega arith)
     (subst (λ (p : Pages). (page : ℕ) → c.args.span.start ≤ page → page < c.loop-page.page → IsMapped p page) c.self.view_is c.loop-page.invariant)
+
+pub returns-then-is_none-clause-only : goal.returns-then-is_none-clause-only
+returns-then-is_none-clause-only c = λ inside each.
+    let page = c.loop-page.page in
+    let same = ap (λ (v : Pages). length v.frames) c.self.view_is in
+    let here : holds c.args.span page ≡ true = grind (arith, nat_tests) in
+    let mapped = each page here in
+    let at = subst (λ (p : Pages). slice_get p.frames page ≡ Some (Some mapped.0)) (sym c.self.view_is) mapped.1 in
+    let some = some_at c.self.inside.frames.items page mapped.0 c.index.result.now (omega arith) c.index.ensures at in
+    let none : is_some c.index.result.now ≡ false = c.is_none.ensures ∙ ap not c.if-is_none.true in
+    cc
