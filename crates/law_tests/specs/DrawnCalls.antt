@@ -2,7 +2,7 @@
 use Rattle.std.specs.Prelude.{List, [], ◌∷◌, pos, negsuc}
 use Rattle.vm_model.specs.declared.calls.Call.TheVariants.{Vmalloc, Vfree, MapRam, UnmapRam, UnmapAliases, AllocPercpu, AllocAtomic, FreePercpu, Add, Sum, Balance}
 use Rattle.vm_model.specs.Space.{span}
-use Rattle.vm_model.specs.Worked.{header, own, of_opening}
+use Rattle.worked_rows.specs.Worked.{header, own, of_opening}
 use Rattle.law_tests.specs.Machines.{Trial}
 
 abbrev pub mixed_1 : Trial

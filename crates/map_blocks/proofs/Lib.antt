@@ -1,4 +1,3 @@
-mod Halves
 mod Parts
 mod Cuts
 mod Ranges

@@ -1,22 +1,18 @@
 //! Pages rounded up to a power of two.
 ghost use Rattle.std.specs.Prelude.{◌≡◌, ◌≤◌, ◌^◌, ◌-◌};
-ghost use Rattle.vm_model.specs.Bits.{binary_digits};
+ghost use Rattle.vm_model.specs.Bits as bits;
 ghost use Rattle.vm_model.specs.Blocks as model;
+
+use vm_model::binary_digits;
 
 /// The least order with so many pages, the kernel's `get_order`.
 pub fn order_of(pages: u32) -> u8
     requires low { 1 ≤ pages }
     requires high { pages ≤ 1024 }
-    ensures order { result ≡ binary_digits (pages - 1) }
+    ensures order { result ≡ bits.binary_digits (pages - 1) }
     ensures high { result ≤ 10 }
 {
-    let mut order = 0;
-    let mut rest = pages - 1;
-    while rest > 0 {
-        rest /= 2;
-        order += 1;
-    }
-    order
+    binary_digits(pages - 1) as u8
 }
 
 /// The pages of that order.

@@ -15,7 +15,6 @@ use Rattle.vm_model.specs.PlainMap.{Chunk, Lives, PlainMap}
 use Rattle.vm_model.specs.Rules.{AreUnits}
 use Rattle.vm_model.specs.Setup.{Setup, unit_bits}
 use Rattle.vm_model.specs.Space.{count_from, covers, fits, holds, is_among, paint, span, times}
-use Rattle.vm_model.specs.Worked.{at}
 use Rattle.map_laws.proofs.BlockFacts.{to_same}
 use Rattle.map_laws.proofs.Chosen.{IsIn, count_at, filter_in, in_among}
 use Rattle.map_laws.proofs.ChunkFacts.{AreSameRows, IsChunkAt, IsChunkFine, IsPlacedAt, chunk_at_stays}

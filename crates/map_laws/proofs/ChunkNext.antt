@@ -11,7 +11,6 @@ use Rattle.vm_model.specs.PlainMap.{PlainMap}
 use Rattle.vm_model.specs.Setup.{Setup, cpus}
 use Rattle.vm_model.specs.Space.{hull}
 use Rattle.vm_model.specs.Told.{blocks_gone, carved, carved_base, had_frames, pages_waiting, part_told, removed, spans_taken, was_live, was_spent}
-use Rattle.vm_model.specs.Worked.{area, at, own}
 use Rattle.vm_model.specs.declared.areas.Area.{Area}
 use Rattle.vm_model.specs.declared.areas.Span.{Span}
 use Rattle.map_laws.proofs.ChunkFacts.{IsChunkAt}

@@ -13,7 +13,6 @@ use Rattle.vm_model.specs.PlainMap.{Chunk, Lives, PlainMap}
 use Rattle.vm_model.specs.Rules.{AreUnits}
 use Rattle.vm_model.specs.Setup.{Setup}
 use Rattle.vm_model.specs.Space.{is_among, put_by, span, times}
-use Rattle.vm_model.specs.Worked.{at, own}
 use Rattle.vm_model.specs.declared.areas.Area.{Area}
 use Rattle.vm_model.specs.declared.areas.Span.{Span}
 use Rattle.map_laws.proofs.AreaFacts.{IsHolding}

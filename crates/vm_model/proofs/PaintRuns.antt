@@ -4,6 +4,7 @@ use Rattle.std.proofs.lemmas.List.{length-drop}
 use Rattle.std.proofs.lemmas.Bool.Decides.{nat_tests}
 use Rattle.vm_model.specs.Space.{count_from, paint_from, paint, begins_free, fits, lowest}
 use Rattle.vm_model.proofs.Elements.{slice_get-drop}
+use Rattle.vm_model.proofs.FreePlaces.{begins_free-at, begins_free-length}
 use Rattle.vm_model.proofs.Paint.{length-paint_from}
 use Rattle.vm_model.proofs.Search.{the_lowest_fits}
 
@@ -82,19 +83,6 @@ pub found_passes : (p : ℕ → Bool) (n first x : ℕ) → find p (count_from n
 found_passes p zero first x h = cc
 found_passes p (suc n) first x h = found_by p n first x _ refl h (found_passes p n (suc first) x)
 
-begins_free_at : (n : ℕ) (taken : List Bool) (k : ℕ) → begins_free n taken ≡ true → k < n → slice_get taken k ≡ Some false
-begins_free_at zero taken k h l = absurd (omega arith)
-begins_free_at (suc n) [] k h l = cc
-begins_free_at (suc n) (true ∷ taken) k h l = cc
-begins_free_at (suc n) (false ∷ taken) zero h l = refl
-begins_free_at (suc n) (false ∷ taken) (suc k) h l = begins_free_at n taken k h (omega arith)
-
-begins_free-length : (n : ℕ) (taken : List Bool) → begins_free n taken ≡ true → n ≤ length taken
-begins_free-length zero taken h = omega arith
-begins_free-length (suc n) [] h = cc
-begins_free-length (suc n) (true ∷ taken) h = cc
-begins_free-length (suc n) (false ∷ taken) h = omega (arith, begins_free-length n taken h)
-
 both : (a b : Bool) → (a && b) ≡ true → (a ≡ true) × (b ≡ true)
 both true b h = (refl, h)
 both false b h = cc
@@ -117,5 +105,5 @@ lowest_is_free taken n k start h =
       aligned = is_same (start % k) 0 fit.0;
       free = λ place a b.
           let i : start + (place - start) ≡ place = omega arith in
-          ap (slice_get taken) (sym i) ∙ sym (slice_get-drop start taken (place - start)) ∙ begins_free_at n (drop start taken) (place - start) fit.1 (omega arith);
+          ap (slice_get taken) (sym i) ∙ sym (slice_get-drop start taken (place - start)) ∙ begins_free-at n (drop start taken) (place - start) fit.1 (omega arith);
     }

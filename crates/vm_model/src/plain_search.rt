@@ -1,26 +1,15 @@
 //! The plain search: each start in turn, page by page.
 ghost use Rattle.std.specs.Prelude.{◌≡◌, ◌≤◌, drop};
-ghost use Rattle.vm_model.specs.Space.{covers, lowest, begins_free, taken_by, TheLowestFits, FreeRunsAreTheOnlyOnes};
+ghost use Rattle.vm_model.specs.Space.{covers, lowest, begins_free, taken_by};
 
 use crate::areas::Span;
-
-/// The maximal free runs of a space are the only spans in order, none empty and no two touching, that cover its free
-/// pages.
-pub fn free_runs()
-    ensures { FreeRunsAreTheOnlyOnes }
-{}
-
-/// The lowest fit is the first number that fits.
-pub fn lowest_fits()
-    ensures { TheLowestFits }
-{}
 
 /// Whether a page is in one of the spans.
 fn is_covered(spans: &[Span], page: u32) -> bool
     ensures { result ≡ covers spans.now page }
 {
     for s in spans {
-        if s.start <= page && page - s.start < s.pages {
+        if s.contains(page) {
             return true;
         }
     }
@@ -56,28 +45,4 @@ pub fn plain_lowest(taken: &[Span], space: u32, pages: u32, align: u32) -> Optio
         }
     }
     None
-}
-
-#[cfg(test)]
-mod tests {
-    use super::*;
-
-    #[test]
-    fn lowest_of_some_spaces(rt: HostRuntime) {
-        let taken = [Span { start: 0, pages: 2 }, Span { start: 5, pages: 1 }];
-        for (space, pages, align, lowest) in [
-            (16, 3, 1, Some(2)),
-            (16, 4, 1, Some(6)),
-            (16, 4, 4, Some(8)),
-            (8, 4, 1, None),
-            (6, 3, 4, None),
-        ] {
-            assert_eq!(rt;
-                plain_lowest(&taken, space, pages, align),
-                lowest,
-                "{pages} of {space}"
-            );
-        }
-        assert_eq!(rt; plain_lowest(&[], 0, 1, 1), None);
-    }
 }

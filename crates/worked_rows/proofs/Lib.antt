@@ -1,0 +1,4 @@
+pub mod AreaRowProofs
+pub mod BlockRowProofs
+pub mod ObjectRowProofs
+pub mod ChunkRowProofs

@@ -1,0 +1,5 @@
+pub mod Worked
+pub mod AreaRows
+pub mod BlockRows
+pub mod ObjectRows
+pub mod ChunkRows
