@@ -7,30 +7,33 @@ ghost use Rattle.vm_model.specs.Setup.{last_of};
 ghost use Rattle.augmented_tree.specs.Blocks.{AreBlocks};
 ghost use Rattle.augmented_tree.specs.FreeBlocks.{FreeBlocks, AreFreeRuns, IsFree, IsLowestFit, LeavesRunsWithout, GivesRunsWith};
 
-use crate::blocks::{block_before, block_with, blocks_up_to, cut_out, first_fit, put_back_all};
+use crate::blocks::{cut_out, put_back_all};
+use crate::stock::Stock;
+use crate::tree::Tree;
 use std::alloc::{AllocError, Global};
 use std::marker::Model;
 use vm_model::Span;
 
-/// The free blocks of a space of at most 1,048,576 pages, by rising start. No two blocks touch. Beside them it has room
-/// for the spare nodes: for so many blocks that `carve_at` may make.
+/// The free blocks of a space of at most 1,048,576 pages, by rising start, as a balanced tree. No two blocks touch. Beside
+/// them nodes lie in stock, the spare ones among them: for so many blocks that `carve_at` may make.
 #[derive(Drop)]
 pub struct FreeSide {
-    blocks: Vec<Span>,
+    blocks: Tree,
+    stock: Stock,
     spare: u32,
 }
 
 impl Model for FreeSide {
-    ghost use Rattle.std.specs.Prelude.{◌+◌, ◌≤◌, vec_len, vec_capacity};
+    ghost use Rattle.std.specs.Prelude.{◌≤◌};
     ghost use Rattle.augmented_tree.specs.FreeBlocks.{FreeBlocks};
     ghost use Rattle.augmented_tree.specs.Blocks.{AreBlocks};
 
     ghost Value = { FreeBlocks };
 
-    ghost view = { λ s. record { blocks = s.blocks.items; spare = s.spare } };
+    ghost view = { λ s. record { blocks = s.blocks; spare = s.spare } };
 
-    // the blocks are separate, each ends at 1,048,576 at most, and there is room for the spare nodes
-    ghost invariant = { λ s. AreBlocks s.blocks.items × (vec_len s.blocks + s.spare ≤ vec_capacity s.blocks) };
+    // the blocks are separate, each ends at 1,048,576 at most, and the spare nodes are in stock
+    ghost invariant = { λ s. AreBlocks s.blocks × (s.spare ≤ s.stock) };
 }
 
 impl FreeSide {
@@ -41,8 +44,15 @@ impl FreeSide {
         ensures block { IfOk result (λ side. side ≡ record { blocks = span 0 pages ∷ []; spare = 0 }) }
         ensures free { IfOk result (λ side. AreFreeRuns side (replicate pages false)) }
     {
-        let blocks = vec![in alloc; Span { start: 0, pages }]?;
-        Ok(FreeSide { blocks, spare: 0 })
+        let mut stock = Stock::new(alloc);
+        stock.fill(1)?;
+        let mut blocks = Tree::empty();
+        blocks.insert(0, stock.take(Span { start: 0, pages }));
+        Ok(FreeSide {
+            blocks,
+            stock,
+            spare: 0,
+        })
     }
 
     /// The least start at which so many pages are free at a multiple of the alignment, which is in pages too:
@@ -52,7 +62,7 @@ impl FreeSide {
         requires align { 1 ≤ align }
         ensures { (taken : List Bool) → AreFreeRuns self.now taken → result ≡ lowest taken pages align }
     {
-        match first_fit(&self.blocks, pages, align) {
+        match self.blocks.first_fit(pages, align) {
             Some(fit) => Some(fit.start),
             None => None,
         }
@@ -60,7 +70,7 @@ impl FreeSide {
 
     /// Takes the least such pages out, as `__alloc_vmap_area` does, or none where so many fit nowhere: it finds them as
     /// `find_vmap_lowest_match` and cuts their block as `adjust_va_to_fit_type`. The alignment is in pages too. As with the
-    /// kernel's `preload_this_cpu_lock` there is room for one more block before anything is changed, and no spare node is
+    /// kernel's `preload_this_cpu_lock` there is a node for one more block before anything is changed, and no spare node is
     /// used up. An error, which comes only where the pages fit, leaves the blocks as they were.
     pub fn carve(&mut self, pages: u32, align: u32) -> Result<Option<Span>, AllocError>
         requires pages { 1 ≤ pages }
@@ -72,15 +82,16 @@ impl FreeSide {
         ensures fits { OnErr result ((taken : List Bool) → AreFreeRuns self.old taken → IsSome (lowest taken pages align)) }
         ensures err { OnErr result (self.new ≡ self.old) }
     {
-        let Some(fit) = first_fit(&self.blocks, pages, align) else {
+        let Some(fit) = self.blocks.first_fit(pages, align) else {
             return Ok(None);
         };
         let place = Span {
             start: fit.start,
             pages,
         };
-        self.blocks.reserve(self.spare as usize + 1)?;
-        cut_out(&mut self.blocks, fit.index, place);
+        self.stock.fill(self.spare as usize + 1)?;
+        let (index, block) = (fit.index, fit.block);
+        cut_out(&mut self.blocks, &mut self.stock, index, block, place);
         Ok(Some(place))
     }
 
@@ -89,7 +100,7 @@ impl FreeSide {
         ensures ok { OnOk result (self.new ≡ record self.old { spare = max self.old.spare nodes }) }
         ensures err { OnErr result (self.new ≡ self.old) }
     {
-        self.blocks.reserve(nodes as usize)?;
+        self.stock.fill(nodes as usize)?;
         self.spare = self.spare.max(nodes);
         Ok(())
     }
@@ -114,12 +125,13 @@ impl FreeSide {
         if span.pages == 0 {
             return;
         }
-        let index = blocks_up_to(&self.blocks, span.start) - 1;
-        cut_out(&mut self.blocks, index, span);
+        let index = self.blocks.blocks_up_to(span.start) - 1;
+        let block = self.blocks.get(index);
+        cut_out(&mut self.blocks, &mut self.stock, index, block, span);
     }
 
     /// Gives pages back, as `merge_or_add_vmap_area_augment` does for each span: blocks that touch become one. An error
-    /// comes only for want of room for as many blocks more, and leaves the blocks as they were.
+    /// comes only for want of a node for each span, and leaves the blocks as they were.
     pub fn release_all(&mut self, spans: &[Span]) -> Result<(), AllocError>
         requires pages { All (λ (s : Span). 1 ≤ s.pages) spans.now }
         requires ends { All (λ (s : Span). end_of s ≤ 1048576) spans.now }
@@ -129,8 +141,8 @@ impl FreeSide {
         ensures spare { self.new.spare ≡ self.old.spare }
         ensures err { OnErr result (self.new ≡ self.old) }
     {
-        self.blocks.reserve(spans.len() + self.spare as usize)?;
-        put_back_all(&mut self.blocks, spans);
+        self.stock.fill(spans.len() + self.spare as usize)?;
+        put_back_all(&mut self.blocks, &mut self.stock, spans);
         Ok(())
     }
 
@@ -140,7 +152,7 @@ impl FreeSide {
         ensures block { result ≡ find (λ (b : Span). holds b page) self.now.blocks }
         ensures blocks { AreBlocks self.now.blocks }
     {
-        block_with(&self.blocks, page)
+        self.blocks.block_with(page)
     }
 
     /// The highest of the blocks that end at a page or before it, or none where no block does. The end is the page behind
@@ -149,18 +161,14 @@ impl FreeSide {
         ensures block { result ≡ last_of (filter (λ (b : Span). nat_le (end_of b) page) self.now.blocks) }
         ensures blocks { AreBlocks self.now.blocks }
     {
-        block_before(&self.blocks, page)
+        self.blocks.block_before(page)
     }
 
     /// The pages of the largest block, or 0 where nothing is free. It takes no memory.
     pub fn largest(&self) -> u32
         ensures { result ≡ (longest_of self.now.blocks).pages }
     {
-        let mut largest = 0;
-        for block in &self.blocks {
-            largest = block.pages.max(largest);
-        }
-        largest
+        self.blocks.largest()
     }
 
     /// How many blocks there are. It takes no memory.
@@ -168,7 +176,17 @@ impl FreeSide {
         ensures count { result ≡ length self.now.blocks }
         ensures separate { AreSeparateFrom 0 self.now.blocks }
     {
-        self.blocks.len() as u32
+        self.blocks.len()
+    }
+
+    /// All blocks by rising start, in one pass.
+    pub fn blocks(&self, alloc: Global) -> Result<Vec<Span>, AllocError>
+        ensures { IfOk result (λ blocks. blocks.items ≡ self.now.blocks) }
+    {
+        let mut blocks = Vec::new(alloc);
+        blocks.reserve(self.blocks.len() as usize)?;
+        self.blocks.append_to(&mut blocks)?;
+        Ok(blocks)
     }
 
     /// The block with this index by rising start. It takes no memory.
@@ -176,122 +194,6 @@ impl FreeSide {
         requires { index < length self.now.blocks }
         ensures { slice_get self.now.blocks index ≡ Some result }
     {
-        self.blocks[index as usize]
-    }
-}
-
-#[cfg(test)]
-mod tests {
-    use super::*;
-
-    /// Whether the blocks are these, each as its start and its end.
-    fn has_blocks(side: &FreeSide, wanted: &[(u32, u32)]) -> bool {
-        let mut same = side.len() as usize == wanted.len();
-        for index in 0..side.len() {
-            let block = side.block_at(index);
-            let ends = wanted.get(index as usize).copied();
-            same = same && ends == Some((block.start, block.start.wrapping_add(block.pages)));
-        }
-        same
-    }
-
-    /// A space of which nothing is free.
-    fn nothing_free(alloc: Global) -> FreeSide
-        ensures { result.blocks ≡ [] }
-    {
-        FreeSide {
-            blocks: Vec::new(alloc),
-            spare: 0,
-        }
-    }
-
-    #[test]
-    fn carves_the_lowest_fit(rt: HostRuntime) -> Result<(), AllocError> {
-        let mut side = FreeSide::whole(rt.alloc(), 16)?;
-        let rows: [(u32, u32, Option<u32>); 7] = [
-            (2, 1, Some(0)),
-            (3, 1, Some(2)),
-            (2, 4, Some(8)),
-            (17, 1, None),
-            (1, 16, None),
-            (4, u32::MAX, None),
-            (u32::MAX, 1, None),
-        ];
-        for (pages, align, start) in rows {
-            assert_eq!(rt; side.lowest(pages, align), start);
-            let place = side.carve(pages, align)?;
-            assert_eq!(rt; place, start.map(|start| Span { start, pages }));
-        }
-        assert!(rt; has_blocks(&side, &[(5, 8), (10, 16)]));
-        assert_eq!(rt; side.largest(), 6);
-        Ok(())
-    }
-
-    #[test]
-    fn joins_what_touches(rt: HostRuntime) -> Result<(), AllocError> {
-        let mut side = nothing_free(rt.alloc());
-        let spans = [
-            Span { start: 4, pages: 2 },
-            Span { start: 0, pages: 2 },
-            Span { start: 2, pages: 2 },
-        ];
-        side.release_all(&spans)?;
-        assert!(rt; has_blocks(&side, &[(0, 6)]));
-
-        let mut side = nothing_free(rt.alloc());
-        let spans = [
-            Span { start: 8, pages: 1 },
-            Span { start: 9, pages: 1 },
-            Span { start: 6, pages: 2 },
-            Span { start: 0, pages: 1 },
-        ];
-        side.release_all(&spans)?;
-        assert!(rt; has_blocks(&side, &[(0, 1), (6, 10)]));
-        assert_eq!(rt; side.largest(), 4);
-        Ok(())
-    }
-
-    #[test]
-    fn carves_where_it_is_told(rt: HostRuntime) -> Result<(), AllocError> {
-        let mut side = FreeSide::whole(rt.alloc(), 16)?;
-        side.reserve(1)?;
-        side.carve_at(Span { start: 4, pages: 2 });
-        assert!(rt; has_blocks(&side, &[(0, 4), (6, 16)]));
-        assert_eq!(rt; side.spare(), 0);
-        side.reserve(2)?;
-        assert_eq!(rt; side.carve(1, 1)?, Some(Span { start: 0, pages: 1 }));
-        assert!(rt; has_blocks(&side, &[(1, 4), (6, 16)]));
-        assert_eq!(rt; side.spare(), 2);
-
-        let mut side = nothing_free(rt.alloc());
-        side.reserve(2)?;
-        side.release_all(&[Span { start: 5, pages: 1 }])?;
-        side.reserve(1)?;
-        assert_eq!(rt; side.spare(), 2);
-        Ok(())
-    }
-
-    #[test]
-    fn finds_blocks_by_page(rt: HostRuntime) -> Result<(), AllocError> {
-        let mut side = nothing_free(rt.alloc());
-        assert_eq!(rt; side.last_ending_by(16), None);
-        let (low, high) = (Span { start: 2, pages: 3 }, Span { start: 7, pages: 1 });
-        side.release_all(&[high, low])?;
-        let rows = [
-            (0, None, None),
-            (1, None, None),
-            (2, Some(low), None),
-            (4, Some(low), None),
-            (5, None, Some(low)),
-            (6, None, Some(low)),
-            (7, Some(high), Some(low)),
-            (8, None, Some(high)),
-            (u32::MAX, None, Some(high)),
-        ];
-        for (page, holding, below) in rows {
-            assert_eq!(rt; side.enclosing(page), holding);
-            assert_eq!(rt; side.last_ending_by(page), below);
-        }
-        Ok(())
+        self.blocks.get(index)
     }
 }

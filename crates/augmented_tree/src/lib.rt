@@ -2,8 +2,9 @@
 #![tactic(auto)]
 
 mod blocks;
-#[cfg(test)]
-mod drawn;
 mod free_side;
+pub mod laws;
+mod stock;
+mod tree;
 
 pub use free_side::FreeSide;
