@@ -1,0 +1,7 @@
+pub mod Words
+pub mod NextBits
+pub mod Fills
+pub mod FirstFits
+pub mod TakenBits
+pub mod ObjectLists
+pub mod Objects

@@ -1,0 +1,120 @@
+//! Bitmaps over words of 64 bits, as `lib/bitmap.c` and `lib/find_bit.c` have them.
+ghost use Rattle.std.specs.Prelude.{◌≡◌, ◌+◌, ◌-◌, ◌*◌, ◌/◌, ◌%◌, ◌^◌, ◌<◌, ◌≤◌, ℕ, Bool, false, IfOk, if◌then◌else◌, ◌==◌, not, length, replicate, slice_index, bit_and, bit_or};
+ghost use Rattle.std.specs.Int.{bit_at};
+ghost use Rattle.vm_model.specs.Space.{span, holds, paint, one_if};
+ghost use Rattle.chunk_bitmaps.specs.Bitmap.{IsNextBit, bit_of};
+ghost use Rattle.vm_model.specs.Bits.{value_at};
+
+use std::alloc::{AllocError, Global};
+use std::marker::Model;
+
+/// How many bits a word has: the kernel's `BITS_PER_LONG`.
+const WORD: u32 = 64;
+
+/// Bits in words, bit `p` by the weight 2 ^ (p % 64) of word `p / 64`.
+#[derive(Drop)]
+pub(crate) struct Bitmap {
+    words: Vec<u64>,
+    bits: u32,
+}
+
+impl Model for Bitmap {
+    ghost use Rattle.std.specs.Prelude.{List, Bool};
+    ghost use Rattle.chunk_bitmaps.specs.Bitmap.{bits_of, HasRoom};
+
+    ghost Value = { List Bool };
+
+    ghost view = { λ b. bits_of b.words.items b.bits };
+
+    ghost invariant = { λ b. HasRoom b.words.items b.bits };
+}
+
+/// The word with the bits of the mask all set, or all clear.
+fn with_bits(word: u64, mask: u64, value: bool) -> u64
+    ensures inside { (i : ℕ) → i < 64 → bit_at mask i ≡ 1 → bit_at result i ≡ one_if value }
+    ensures outside { (i : ℕ) → i < 64 → bit_at mask i ≡ 0 → bit_at result i ≡ bit_at word i }
+{
+    if value { word | mask } else { word & !mask }
+}
+
+/// The word whose set bits are so many from the given one on.
+fn mask_of(low: u32, count: u32) -> u64
+    requires some { 1 ≤ count }
+    requires within { low + count ≤ 64 }
+    ensures { result ≡ 2 ^ (low + count) - 2 ^ low }
+{
+    u64::MAX >> (WORD - count) << low
+}
+
+impl Bitmap {
+    /// So many bits, all clear.
+    pub(crate) fn clear(alloc: Global, bits: u32) -> Result<Bitmap, AllocError>
+        requires { bits ≤ 2 ^ 31 }
+        ensures { IfOk result (λ bitmap. bitmap ≡ replicate bits false) }
+    {
+        let words = vec![in alloc; 0; bits.div_ceil(WORD) as usize]?;
+        Ok(Bitmap { words, bits })
+    }
+
+    /// How many bits there are.
+    pub(crate) fn len(&self) -> u32
+        ensures len { result ≡ length self.now }
+        ensures small { result ≤ 2 ^ 31 }
+    {
+        self.bits
+    }
+
+    /// Whether the bit is set: `test_bit`.
+    pub(crate) fn contains(&self, place: u32) -> bool
+        requires { place < length self.now }
+        ensures { result ≡ value_at self.now place }
+    {
+        self.words[(place / WORD) as usize] >> (place % WORD) & 1 == 1
+    }
+
+    /// A word whose set bits are those that have the value, from a place to the end of its word.
+    fn word_from(&self, place: u32, value: bool) -> u64
+        requires { place < length self.now }
+        ensures rest { (i : ℕ) → i < 64 - place % 64 → place + i < length self.now → bit_at result i ≡ one_if (if value then value_at self.now (place + i) else not (value_at self.now (place + i))) }
+        ensures above { (i : ℕ) → 64 - place % 64 ≤ i → bit_at result i ≡ 0 }
+    {
+        let word = self.words[(place / WORD) as usize];
+        (if value { word } else { !word }) >> (place % WORD)
+    }
+
+    /// The first bit with the value from a place on and before the end, or the end: `find_next_bit` and
+    /// `find_next_zero_bit`.
+    pub(crate) fn find_next(&self, value: bool, from: u32, end: u32) -> u32
+        requires order { from ≤ end }
+        requires within { end ≤ length self.now }
+        ensures { IsNextBit self.now value from end result }
+    {
+        let _ = &self.bits;
+        let mut place = from;
+        while place < end {
+            let word = self.word_from(place, value);
+            if word != 0 {
+                return end.min(place + word.trailing_zeros());
+            }
+            place += WORD - place % WORD;
+        }
+        end
+    }
+
+    /// Sets or clears so many bits from a place on: `bitmap_set` and `bitmap_clear`.
+    pub(crate) fn fill(&mut self, start: u32, bits: u32, value: bool)
+        requires { start + bits ≤ length self.old }
+        ensures { self.new ≡ paint (holds (span start bits)) value self.old }
+    {
+        let _ = &self.bits;
+        let end = start + bits;
+        let mut place = start;
+        while place < end {
+            let low = place % WORD;
+            let count = (WORD - low).min(end - place);
+            let word = &mut self.words[(place / WORD) as usize];
+            *word = with_bits(*word, mask_of(low, count), value);
+            place += count;
+        }
+    }
+}
