@@ -42,6 +42,10 @@ two_frees = record {
 abbrev pub two_without_space : Trial
 two_without_space = record { setup = header 2; opening = []; calls = (Vmalloc 8192 1 ∷ []) ∷ (Vmalloc 8192 1 ∷ []) ∷ []; picks = 1 ∷ 2 ∷ 1 ∷ 2 ∷ [] }
 
+-- an opening that finds no space
+abbrev pub no_room : Trial
+no_room = record { setup = header 2; opening = Vmalloc 8192 1 ∷ []; calls = [] ∷ []; picks = [] }
+
 -- a block whose parts have all ended waits
 abbrev pub a_spent_block : Trial
 a_spent_block = record {

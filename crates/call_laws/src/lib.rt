@@ -1,0 +1,38 @@
+//! Laws of calls: what each caller makes in every legal history.
+#![tactic(auto)]
+
+ghost use Rattle.call_laws.specs.Histories.{HistoriesHaveTheShapesOfCalls};
+ghost use Rattle.call_laws.specs.Opening.{TheOpeningComesFirst};
+ghost use Rattle.call_laws.specs.Causes.{EachEventIsLegal, RepliesHaveTheirCauses};
+ghost use Rattle.call_laws.specs.Room.{RoomCountsPlacingCalls};
+ghost use Rattle.call_laws.specs.Exact.{CausesBringReplies};
+ghost use Rattle.call_laws.specs.Targets.{TargetsAreWhatTheirCallsGot};
+ghost use Rattle.call_laws.specs.Numbers.{ReportsTellLastEvents};
+ghost use Rattle.call_laws.specs.Kept.{ReachedWorldsKeepTheLaws};
+
+/// The opening's events come first. Each caller's answers are those of the first calls of its list, in order, and its own
+/// events have the shapes of these calls. What a call names by its target is what the target's call settled.
+pub fn histories()
+    ensures opening_first { TheOpeningComesFirst }
+    ensures shapes { HistoriesHaveTheShapesOfCalls }
+    ensures targets { TargetsAreWhatTheirCallsGot }
+{}
+
+/// Each event is legal in the map that the events before it leave, and each reply without an address has its cause there, and comes
+/// wherever its cause is. The number that is told with a reply is that of its call's last event.
+pub fn replies()
+    ensures legal { EachEventIsLegal }
+    ensures causes { RepliesHaveTheirCauses }
+    ensures exactly { CausesBringReplies }
+    ensures numbers { ReportsTellLastEvents }
+{}
+
+/// The room for objects is the number of placing calls less the objects placed, and never wanting.
+pub fn room()
+    ensures counted { RoomCountsPlacingCalls }
+{}
+
+/// Every world that a legal history of a trace leads to keeps all laws, those of its calls and those of its map.
+pub fn all_laws()
+    ensures kept { ReachedWorldsKeepTheLaws }
+{}
