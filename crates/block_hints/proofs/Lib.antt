@@ -1,0 +1,6 @@
+pub mod Borders
+pub mod Blocks
+pub mod BlockScans
+pub mod Fits
+pub mod Blocked
+pub mod Kepts

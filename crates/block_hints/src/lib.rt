@@ -1,0 +1,14 @@
+//! What is known of the free bits of a per-CPU chunk, page by page, and the search that it serves.
+//!
+//! The value of `HintedChunk` is that of its bits. An object is placed at the lowest fit of the plain bits, and none comes
+//! exactly where they have none, also where a fit spans pages or an alignment spoils the longest run. The hint of each page
+//! of bits and of the whole chunk is kept, and is that of the bits after every call, though `place` and `free` look again
+//! at no other page than the object's. `new` alone takes memory.
+#![tactic(auto)]
+
+mod block_scan;
+mod hinted_chunk;
+mod joins;
+mod search;
+
+pub use hinted_chunk::HintedChunk;
