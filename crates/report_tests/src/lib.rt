@@ -1,5 +1,0 @@
-//! The bytes of reports, schedules and faults.
-#![tactic(auto)]
-
-#[cfg(test)]
-mod reports;
