@@ -1,18 +1,19 @@
 -- What is kept beside the pages, at first and when pages are mapped.
-use Rattle.std.proofs.Common.{◌≡◌, ℕ, zero, suc, ◌+◌, ◌-◌, ◌*◌, ◌<◌, ◌≤◌, ◌^◌, Bool, true, false, cond, List, [], ◌∷◌, ◌++◌, length, count_by, drop, take, replicate, slice_get, slice_set, Option, Some, None, is_some, pos, refl, ap, sym, ◌∙◌, subst, arith}
+use Rattle.std.proofs.Common.{◌≡◌, ℕ, zero, suc, ◌+◌, ◌-◌, ◌*◌, ◌/◌, ◌<◌, ◌≤◌, ◌^◌, ℤ, Bool, true, false, cond, List, [], ◌∷◌, ◌++◌, length, count_by, drop, take, replicate, get_or, slice_get, slice_set, Option, Some, None, is_some, pos, refl, ap, sym, ◌∙◌, subst, arith}
 use Rattle.std.proofs.lemmas.Bool.Decides.{nat_tests}
-use Rattle.std.proofs.lemmas.List.{length-replicate}
+use Rattle.std.proofs.lemmas.List.{length-replicate, length-set}
 use Rattle.std.proofs.lemmas.List.Sums.{sum_by-cons, count_by-le-length}
+use Rattle.std.proofs.lemmas.Option.{slice_get-get_or}
 use Rattle.vm_model.specs.declared.areas.Span.{Span}
-use Rattle.vm_model.specs.Space.{holds, count_from, pages_of, paint}
-use Rattle.vm_model.specs.Frames.{give_frames}
+use Rattle.vm_model.specs.Space.{holds, count_from, pages_of, paint, put_by}
+use Rattle.vm_model.specs.Frames.{give_frames, free_frames}
 use Rattle.vm_model.proofs.Search.{length-count_from}
 use Rattle.vm_model.proofs.FramesGiven.{unmapped_in_order, length-give_frames, count-give_frames, free_frames-at_first, count_mapped-at_first}
 use Rattle.vm_model.proofs.Paint.{length-paint_from}
 use Rattle.page_pool.specs.FrameList.{FrameList, has_frame, times_used, AreShared}
 use Rattle.page_pool.proofs.Rows.{written_back}
-use Rattle.page_pool.proofs.Shared.{setup}
-use Rattle.page_pool.specs.Pages.{Pages, memory, IsKept}
+use Rattle.page_pool.proofs.Shared.{setup, shared_taken, shared_back, count-unmapped}
+use Rattle.page_pool.specs.Pages.{Pages, memory, free_of, IsKept}
 
 abbrev frame_list : List ℕ → ℕ → FrameList
 frame_list numbers memory = record { numbers = numbers; memory = memory }
@@ -129,3 +130,51 @@ kept_flushed p free mapped s stale kept cleared = record {
   space = kept.space;
   alike = ap length cleared ∙ length-paint_from (holds s) false p.stale 0 ∙ kept.alike;
 }
+
+-- one page that was mapped, and one that was unmapped
+
+mapped_more : (frames : List (Option ℕ)) (page frame : ℕ) → slice_get frames page ≡ Some None → count_by is_some (slice_set frames page (Some frame)) ≡ count_by is_some frames + 1
+mapped_more frames page frame unmapped = count-give_frames (page ∷ []) (frame ∷ []) frames (unmapped, refl, tt) (omega arith)
+
+pub one_mapped_fits : (p : Pages) (free : FrameList) (mapped page : ℕ) → IsKept p free mapped → slice_get p.frames page ≡ Some None → mapped + 1 < 2 ^ 32
+one_mapped_fits p free mapped page kept unmapped =
+    let given = slice_set p.frames page (Some 0) in
+    omega (arith, kept.count, kept.space, mapped_more p.frames page 0 unmapped, count_by-le-length (is_some {T = ℕ}) given, length-set p.frames page (Some 0))
+
+pub kept_one_mapped : (p : Pages) (free new : FrameList) (mapped page frame : ℕ) → IsKept p free mapped → slice_get p.frames page ≡ Some None → free ≡ record new { numbers = frame ∷ new.numbers }
+    → IsKept (record p { frames = slice_set p.frames page (Some frame) }) new (mapped + 1)
+kept_one_mapped p free new mapped page frame kept unmapped taken = record {
+  shared = shared_taken p.frames free new page frame kept.shared unmapped taken;
+  all = sym (ap (λ (f : FrameList). f.memory) taken) ∙ kept.all;
+  count = omega (arith, kept.count, mapped_more p.frames page frame unmapped);
+  space = omega (arith, kept.space, length-set p.frames page (Some frame));
+  alike = kept.alike ∙ sym (length-set p.frames page (Some frame));
+}
+
+pub kept_one_unmapped : (p : Pages) (free new : FrameList) (stale : List Bool) (mapped page frame : ℕ) → IsKept p free mapped → slice_get p.frames page ≡ Some (Some frame)
+    → new ≡ record free { numbers = put_by (λ n. n) frame free.numbers } → stale ≡ slice_set p.stale page true → IsKept (record p { frames = slice_set p.frames page None; stale = stale }) new (mapped - 1)
+kept_one_unmapped p free new stale mapped page frame kept at back marked = record {
+  shared = subst (AreShared (slice_set p.frames page None)) (sym back) (shared_back p.frames free page frame kept.shared at);
+  all = ap (λ (f : FrameList). f.memory) back ∙ kept.all;
+  count = omega (arith, kept.count, count-unmapped p.frames page frame at);
+  space = omega (arith, kept.space, length-set p.frames page None);
+  alike = ap length marked ∙ length-set p.stale page true ∙ kept.alike ∙ sym (length-set p.frames page None);
+}
+
+-- what was read at a page
+pub read_at : (frames : List (Option ℕ)) (page : ℕ) (read o : Option ℕ) → page < length frames → read ≡ get_or frames page read → read ≡ o → slice_get frames page ≡ Some o
+read_at frames page read o within is same = slice_get-get_or frames page read within ∙ ap Some (sym is ∙ same)
+
+-- cells that were written
+pub kept_written : (p : Pages) (free : FrameList) (mapped : ℕ) (cells : List ℤ) → IsKept p free mapped → length cells ≡ length p.cells → IsKept (record p { cells = cells }) free mapped
+kept_written p free mapped cells kept same = record {
+  shared = kept.shared;
+  all = kept.all ∙ ap (λ n. n / 1024) (sym same);
+  count = kept.count;
+  space = kept.space;
+  alike = kept.alike;
+}
+
+-- the free frames are those that no page has
+pub kept_free : (p : Pages) (free : FrameList) (mapped : ℕ) → IsKept p free mapped → length free.numbers ≡ length (free_of p)
+kept_free p free mapped kept = ap length kept.shared.numbers ∙ ap (λ n. length (free_frames (setup n) p.frames)) kept.all

@@ -15,7 +15,7 @@ unchanged : {X : Type 0} (x : X) (o : Option X) → option_map (λ y. if false t
 unchanged x None = refl
 unchanged x (Some y) = refl
 
-paint-none : {X : Type 0} (t : ℕ → Bool) (x : X) (ys : List X) → ((i : ℕ) → t i ≡ false) → paint t x ys ≡ ys
+pub paint-none : {X : Type 0} (t : ℕ → Bool) (x : X) (ys : List X) → ((i : ℕ) → t i ≡ false) → paint t x ys ≡ ys
 paint-none t x ys h = same_by_get (paint t x ys) ys (λ k. slice_get-paint t x ys k ∙ ap (λ b. option_map (λ y. if b then x else y) (slice_get ys k)) (h k) ∙ unchanged x (slice_get ys k))
 
 other_test : (t t' : ℕ → Bool) (place i : ℕ) → place ≢ i → t' i ≡ (t i || (place == i)) → t' i ≡ t i
@@ -43,7 +43,7 @@ paint_from-set t t' x (y ∷ ys) p (suc k) h =
     ∙ ap (λ zs. (if t' p then x else y) ∷ zs) (paint_from-set t t' x ys (suc p) k (λ i. h i ∙ ap (λ n. t i || (n == i)) (let e : p + suc k ≡ suc p + k = omega arith in e)))
 
 -- one more place is painted
-paint-set : {X : Type 0} (t t' : ℕ → Bool) (x : X) (ys : List X) (k : ℕ) → ((i : ℕ) → t' i ≡ (t i || (k == i))) → slice_set (paint t x ys) k x ≡ paint t' x ys
+pub paint-set : {X : Type 0} (t t' : ℕ → Bool) (x : X) (ys : List X) (k : ℕ) → ((i : ℕ) → t' i ≡ (t i || (k == i))) → slice_set (paint t x ys) k x ≡ paint t' x ys
 paint-set t t' x ys k h = paint_from-set t t' x ys 0 k (λ i. h i ∙ ap (λ n. t i || (n == i)) (let e : k ≡ 0 + k = omega arith in e))
 
 -- The pages of a span are painted one by one, the page at hand being the next one.
@@ -78,7 +78,7 @@ twice x (Some y) true true = refl
 twice x (Some y) true false = refl
 twice x (Some y) false b = refl
 
-paint-paint : {X : Type 0} (t t' t'' : ℕ → Bool) (x : X) (ys : List X) → ((i : ℕ) → t'' i ≡ (t i || t' i)) → paint t' x (paint t x ys) ≡ paint t'' x ys
+pub paint-paint : {X : Type 0} (t t' t'' : ℕ → Bool) (x : X) (ys : List X) → ((i : ℕ) → t'' i ≡ (t i || t' i)) → paint t' x (paint t x ys) ≡ paint t'' x ys
 paint-paint t t' t'' x ys h = same_by_get _ _ (λ k.
     slice_get-paint t' x (paint t x ys) k ∙ ap (option_map (λ y. if t' k then x else y)) (slice_get-paint t x ys k) ∙ twice x (slice_get ys k) (t k) (t' k)
     ∙ ap (λ b. option_map (λ y. if b then x else y) (slice_get ys k)) (sym (h k)) ∙ sym (slice_get-paint t'' x ys k))

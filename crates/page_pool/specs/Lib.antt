@@ -2,4 +2,5 @@ pub mod Pages
 pub mod FrameList
 pub mod StaleList
 pub mod Words
+pub mod Units
 pub mod Sections

@@ -1,5 +1,6 @@
 //! The words of memory.
-ghost use Rattle.std.specs.Prelude.{◌≡◌, ◌*◌, IfOk, replicate, pos};
+ghost use Rattle.std.specs.Prelude.{◌≡◌, ◌*◌, ◌+◌, ◌<◌, ◌^◌, IfOk, length, replicate, slice_index_or, slice_set, pos};
+ghost use Rattle.vm_model.specs.Space.{span, holds, paint};
 
 use std::alloc::{AllocError, Global};
 use std::marker::Model;
@@ -30,5 +31,43 @@ impl Cells {
     {
         let written = Vec::with_capacity(alloc, 1024 * frames as usize)?;
         Ok(Cells { written, frames })
+    }
+
+    /// The word in a cell, and 0 where there is no such cell.
+    pub(crate) fn read(&self, cell: usize) -> i64
+        ensures { result ≡ slice_index_or self.now cell (pos 0) }
+    {
+        match self.written.get(cell) {
+            Some(word) => *word,
+            None => 0,
+        }
+    }
+
+    /// Writes a cell. The room for it was there from the start.
+    pub(crate) fn write(&mut self, cell: usize, word: i64)
+        requires { cell < length self.old }
+        ensures { self.new ≡ slice_set self.old cell word }
+    {
+        if cell < self.written.len() {
+            self.written[cell] = word;
+            return;
+        }
+        let Ok(()) = self.written.resize(cell, 0) else {
+            unreachable!();
+        };
+        let Ok(()) = self.written.push(word) else {
+            unreachable!();
+        };
+    }
+
+    /// So many cells from one on are 0.
+    pub(crate) fn clear(&mut self, first: usize, count: usize)
+        requires { first + count < 2 ^ 64 }
+        ensures { self.new ≡ paint (holds (span first count)) (pos 0) self.old }
+    {
+        let end = (first + count).min(self.written.len());
+        for cell in first..end {
+            self.written[cell] = 0;
+        }
     }
 }

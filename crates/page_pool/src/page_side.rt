@@ -5,6 +5,9 @@ ghost use Rattle.vm_model.specs.Frames.{give_frames, joined_option, frame_of};
 ghost use Rattle.page_pool.specs.FrameList.{AreShared};
 ghost use Rattle.page_pool.specs.Pages.{Pages, free_of, first_pages, with_mapped, with_unmapped, with_flushed, mapped_count, stale_count, IsBare, IsMapped};
 
+mod units;
+mod words;
+
 use crate::cells::Cells;
 use crate::free_frames::FreeFrames;
 use crate::stale_pages::StalePages;

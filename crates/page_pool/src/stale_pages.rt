@@ -60,7 +60,7 @@ impl StalePages {
     }
 
     /// The page is stale from now on.
-    fn mark_page(&mut self, page: u32)
+    pub(crate) fn mark_page(&mut self, page: u32)
         requires inside { page < length self.old }
         requires space { length self.old < 2 ^ 32 }
         ensures { self.new ≡ slice_set self.old page true }
