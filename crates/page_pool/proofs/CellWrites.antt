@@ -33,7 +33,7 @@ written_behind written frames cell word from to =
     let gap = cell - length written in
     let rest = 1024 * frames - suc cell in
     let long : length ((written ++ replicate gap (pos 0)) ++ word ∷ []) ≡ suc cell =
-        omega (arith, length-append (written ++ replicate gap (pos 0)) (word ∷ []), length-append written (replicate gap (pos 0)), length-replicate gap (pos 0)) in
+    omega (arith, length-append (written ++ replicate gap (pos 0)) (word ∷ []), length-append written (replicate gap (pos 0)), length-replicate gap (pos 0)) in
     ap (λ n. ((written ++ replicate gap (pos 0)) ++ word ∷ []) ++ replicate (1024 * frames - n) (pos 0)) long
     ∙ set_behind written gap rest word
     ∙ ap (λ n. slice_set (written ++ replicate n (pos 0)) (length written + gap) word) (let e : gap + suc rest ≡ 1024 * frames - length written = omega arith in e)
@@ -64,7 +64,7 @@ cleared written now frames first count cell from all upto is =
     let rest = 1024 * frames - length written in
     let long : length now ≡ length written = ap length is ∙ length-paint_from (holds (span first (cell - first))) (pos 0) written 0 in
     let same : now ≡ paint_from 0 (holds (span first count)) (pos 0) written =
-        is ∙ paint_from-within (holds (span first (cell - first))) (holds (span first count)) (pos 0) written 0 (λ i low high. let e : holds (span first (cell - first)) i ≡ holds (span first count) i = grind (arith, nat_tests) in e) in
+    is ∙ paint_from-within (holds (span first (cell - first))) (holds (span first count)) (pos 0) written 0 (λ i low high. let e : holds (span first (cell - first)) i ≡ holds (span first count) i = grind (arith, nat_tests) in e) in
     ap (λ n. now ++ replicate (1024 * frames - n) (pos 0)) long ∙ ap (λ zs. zs ++ replicate rest (pos 0)) same
     ∙ ap (λ zs. paint_from 0 (holds (span first count)) (pos 0) written ++ zs) (sym (paint_from-replicate (holds (span first count)) (pos 0) rest (0 + length written)))
     ∙ sym (paint_from-append (holds (span first count)) (pos 0) written (replicate rest (pos 0)) 0)

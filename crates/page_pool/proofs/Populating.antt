@@ -1,7 +1,7 @@
 -- Pages that get frames one by one.
-use Rattle.std.proofs.Common.{◌≡◌, ◌≢◌, ℕ, zero, suc, ◌+◌, ◌-◌, ◌*◌, ◌<◌, ◌≤◌, ◌^◌, Bool, true, false, ◌||◌, ◌==◌, List, [], ◌∷◌, ◌++◌, length, drop, slice_get, count_by, Option, Some, None, is_some, refl, ap, sym, ◌∙◌, subst, arith}
+use Rattle.std.proofs.Common.{◌≡◌, ◌≢◌, ℕ, ◌≤◌, Bool, true, false, ◌||◌, ◌==◌, List, [], ◌∷◌, ◌++◌, length, drop, Option, is_some, refl, ap, sym, ◌∙◌, subst, arith}
 use Rattle.std.proofs.lemmas.Bool.Decides.{nat_tests}
-use Rattle.std.proofs.lemmas.List.{length-append, length-drop}
+use Rattle.std.proofs.lemmas.List.{length-drop}
 use Rattle.std.proofs.lemmas.List.Sums.{count_by-le-length}
 use Rattle.vm_model.specs.Space.{is_among}
 use Rattle.vm_model.specs.Frames.{give_frames}
@@ -49,9 +49,11 @@ rest_lacks page other pages h = behind (other == page) (is_among pages page) h
 -- the other pages stay bare when one gets a frame
 stay_bare : (pages : List ℕ) (page : ℕ) (free : List ℕ) (p : Pages) → is_among pages page ≡ false → AreBareOnce pages p → AreBareOnce pages (record p { frames = give_frames (page ∷ []) free p.frames })
 stay_bare [] page free p lacks bare = tt
-stay_bare (other ∷ pages) page free p lacks bare =
-    (record { unmapped = slice_get-give_frames_other (page ∷ []) free p.frames other (other_among (apart_if page other pages lacks)) ∙ bare.0.unmapped; not_stale = bare.0.not_stale },
-     bare.1, stay_bare pages page free p (rest_lacks page other pages lacks) bare.2)
+stay_bare (other ∷ pages) page free p lacks bare = (
+  record { unmapped = slice_get-give_frames_other (page ∷ []) free p.frames other (other_among (apart_if page other pages lacks)) ∙ bare.0.unmapped; not_stale = bare.0.not_stale },
+  bare.1,
+  stay_bare pages page free p (rest_lacks page other pages lacks) bare.2,
+)
   where
     other_among : other ≢ page → is_among (page ∷ []) other ≡ false
     other_among apart = let differ : (page == other) ≡ false = grind (arith, nat_tests) in ap (λ b. b || false) differ

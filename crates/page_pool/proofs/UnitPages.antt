@@ -1,13 +1,21 @@
 -- The pages of a set, and those of units, in lists.
-use Rattle.std.proofs.Common.{◌≡◌, ◌≢◌, ℕ, zero, suc, ◌+◌, ◌-◌, ◌*◌, ◌<◌, ◌≤◌, inl, inr, Bool, true, false, ◌||◌, ◌==◌, cond, List, [], ◌∷◌, ◌++◌, length, map, filter, flat_map, drop, get_or, refl, ap, sym, ◌∙◌, subst, arith}
+use Rattle.std.proofs.Common.{◌≡◌, ℕ, zero, suc, ◌+◌, ◌-◌, ◌*◌, ◌<◌, ◌≤◌, inl, inr, Bool, true, false, ◌||◌, ◌==◌, cond, List, [], ◌∷◌, ◌++◌, length, filter, drop, get_or, refl, ap, ◌∙◌, arith}
 use Rattle.std.proofs.lemmas.Bool.{or_right, cases_lt}
 use Rattle.std.proofs.lemmas.Bool.Decides.{nat_tests}
 use Rattle.std.proofs.lemmas.List.{length-append, drop_all}
 use Rattle.vm_model.specs.declared.areas.PageSet.{PageSet}
 use Rattle.vm_model.specs.Space.{is_among, count_from}
-use Rattle.page_pool.specs.Units.{has_page, pages_from, pages_of_set, pages_in_unit, pages_at}
+use Rattle.vm_model.specs.PageSets.{has_page, pages_in}
+use Rattle.page_pool.specs.Units.{pages_in_unit, pages_at}
 
 -- The pages of a set from one on.
+
+unfoldable pub pages_from : PageSet → ℕ → List ℕ
+pages_from set page = filter (has_page set) (count_from (64 - page) page)
+
+pub pages_from-first : (set : PageSet) → pages_in set ≡ pages_from set 0
+unfolding pages_from pages_in
+pages_from-first set = refl
 
 -- the pages of a row from one on
 pub row_from : (end page : ℕ) → page < end → count_from (end - page) page ≡ page ∷ count_from (end - (page + 1)) (page + 1)

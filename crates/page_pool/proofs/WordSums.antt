@@ -1,5 +1,5 @@
 -- Words that are added up unit by unit.
-use Rattle.std.proofs.Common.{◌≡◌, ℕ, zero, suc, ◌+◌, ◌*◌, ◌<◌, List, [], ◌∷◌, length, take, get_or, Some, ℤ, pos, ◌+ℤ◌, ap, ◌∙◌, arith}
+use Rattle.std.proofs.Common.{◌≡◌, ℕ, zero, suc, ◌+◌, ◌*◌, ◌<◌, List, [], ◌∷◌, length, take, get_or, Some, pos, ◌+ℤ◌, ap, ◌∙◌, arith}
 use Rattle.std.proofs.lemmas.Int.{ints}
 use Rattle.vm_model.specs.Frames.{cell_of, read_cell, word_at}
 use Rattle.page_pool.specs.Pages.{Pages}
@@ -16,4 +16,4 @@ sum_more p base (unit ∷ units) off (suc index) cell within at =
     let more = sum_more p base units off index cell (omega arith) at in
     ap (λ n. sum_of p (bytes_at base (take n (unit ∷ units)) off)) (let e : suc index + 1 ≡ suc (index + 1) = omega arith in e)
     ∙ (let e : word_at p.frames p.cells (4096 * (base + unit) + off) +ℤ sum_of p (bytes_at base (take (index + 1) units) off)
-        ≡ (word_at p.frames p.cells (4096 * (base + unit) + off) +ℤ sum_of p (bytes_at base (take index units) off)) +ℤ get_or p.cells cell (pos 0) = omega (arith, ints) in e)
+    ≡ (word_at p.frames p.cells (4096 * (base + unit) + off) +ℤ sum_of p (bytes_at base (take index units) off)) +ℤ get_or p.cells cell (pos 0) = omega (arith, ints) in e)

@@ -1,21 +1,8 @@
 -- Pages of the units of the processors, and the words in them.
-use Rattle.std.specs.Prelude.{◌≡◌, ℕ, ◌+◌, ◌-◌, ◌*◌, Bool, true, false, ◌==◌, None, List, [], ◌∷◌, map, filter, flat_map, slice_set, ℤ}
-use Rattle.std.specs.Int.{bit_at}
-use Rattle.vm_model.specs.declared.areas.PageSet.{PageSet}
-use Rattle.vm_model.specs.Space.{is_among, count_from, paint}
-use Rattle.vm_model.specs.Frames.{give_frames, word_at, zero_words, add_word, sum_words, pages_of_bytes}
+use Rattle.std.specs.Prelude.{◌≡◌, ℕ, ◌+◌, ◌*◌, true, false, None, List, [], ◌∷◌, map, flat_map, slice_set, ℤ}
+use Rattle.vm_model.specs.Space.{is_among, paint}
+use Rattle.vm_model.specs.Frames.{give_frames, word_at, zero_words, add_word, sum_words}
 use Rattle.page_pool.specs.Pages.{Pages, IsBare, free_of}
-
--- whether the page of a unit is in the set
-abbrev pub has_page : PageSet → ℕ → Bool
-has_page set page = bit_at set.mask page == 1
-
--- the pages of the set from one on, and all of them, by rising number
-unfoldable pub pages_from : PageSet → ℕ → List ℕ
-pages_from set page = filter (has_page set) (count_from (64 - page) page)
-
-abbrev pub pages_of_set : PageSet → List ℕ
-pages_of_set set = pages_from set 0
 
 -- pages of a unit in the units that begin so many pages from the base on, by unit and then as listed
 abbrev pub pages_in_unit : (base unit : ℕ) → List ℕ → List ℕ

@@ -1,5 +1,5 @@
 //! That the calls do to the pages what the sections of the plain map do to them.
-ghost use Rattle.page_pool.specs.Sections.{BeginsAsTheMap, FreeAreFreeFrames, MapsAsTheSection, UnmapsAsTheSection, FlushesAsTheSection};
+ghost use Rattle.page_pool.specs.Sections.{BeginsAsTheMap, FreeAreFreeFrames, MapsAsTheSection, UnmapsAsTheSection, FlushesAsTheSection, PopulatesAsTheSection, FillsAsTheSection, DepopulatesAsTheSection, ZeroesAsTheSection, AddsAsTheSection, SumsAsTheSection};
 
 /// What `PageSide` begins with, has free and leaves is what the plain map has and what its sections leave.
 pub fn sections()
@@ -8,4 +8,10 @@ pub fn sections()
     ensures maps { MapsAsTheSection }
     ensures unmaps { UnmapsAsTheSection }
     ensures flushes { FlushesAsTheSection }
+    ensures populates { PopulatesAsTheSection }
+    ensures fills { FillsAsTheSection }
+    ensures depopulates { DepopulatesAsTheSection }
+    ensures zeroes { ZeroesAsTheSection }
+    ensures adds { AddsAsTheSection }
+    ensures sums { SumsAsTheSection }
 {}

@@ -4,7 +4,6 @@
 mod cells;
 mod free_frames;
 pub mod laws;
-mod page_sets;
 mod page_side;
 mod stale_pages;
 

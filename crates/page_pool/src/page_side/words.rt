@@ -51,7 +51,10 @@ impl PageSide {
         ensures { self.new ≡ record self.old { cells = zero_frame (frame_of self.old.frames (base + unit + page)) words self.old.cells } }
     {
         let frame = self.frame_at(base, unit, page);
-        self.cells.clear(1024 * frame as usize + words.start as usize, words.pages as usize);
+        self.cells.clear(
+            1024 * frame as usize + words.start as usize,
+            words.pages as usize,
+        );
     }
 
     /// The words from an offset of a unit on are 0.

@@ -1,4 +1,4 @@
-use Rattle.std.proofs.Common.{◌≡◌, vec_len, ◌∷◌, [], ◌++◌, ◌-◌, ◌<◌, ◌*◌, List, ℤ, length, replicate, slice_set, take, pos, ap, ◌∙◌, w64, to_z, of_z, arith}
+use Rattle.std.proofs.Common.{◌≡◌, vec_len, ◌∷◌, [], ◌++◌, ◌-◌, length, replicate, slice_set, take, pos, ap, ◌∙◌, w64, to_z, of_z, arith}
 use Rattle.std.proofs.lemmas.Int.{ints}
 use Rattle.std.proofs.lemmas.List.{take_all}
 use Rattle.page_pool.specs.Words.{with_unwritten}
@@ -20,7 +20,7 @@ returns c =
     let same : vec_len c.self.inside.written ≡ length written = omega arith in
     let word : to_z w64 (of_z w64 c.args.word) ≡ c.args.word = omega (arith, ints) in
     let now : c.push.new.self.items ≡ (written ++ gap) ++ c.args.word ∷ [] =
-        c.in-Ok-push.ensures.items ∙ ap (λ x. c.resize.new.self.items ++ x ∷ []) word ∙ ap (λ items. items ++ c.args.word ∷ []) (c.in-Ok.ensures.items ∙ ap (λ n. take c.args.cell written ++ replicate (c.args.cell - n) (pos 0)) same ∙ ap (λ items. items ++ gap) whole) in
+    c.in-Ok-push.ensures.items ∙ ap (λ x. c.resize.new.self.items ++ x ∷ []) word ∙ ap (λ items. items ++ c.args.word ∷ []) (c.in-Ok.ensures.items ∙ ap (λ n. take c.args.cell written ++ replicate (c.args.cell - n) (pos 0)) same ∙ ap (λ items. items ++ gap) whole) in
     ap (λ items. with_unwritten items c.self.inside.frames) now
     ∙ written_behind written c.self.inside.frames c.args.cell c.args.word (omega arith) (omega (arith, length-with_unwritten written c.self.inside.frames c.self.invariant.fits))
     ∙ ap (λ cells. slice_set cells c.args.cell c.args.word) c.self.view_is

@@ -1,5 +1,4 @@
-use Rattle.std.proofs.Common.{◌≡◌, ◌+◌, ◌<◌, Some, None, length, slice_get, ap, ◌∙◌, arith}
-use Rattle.std.proofs.lemmas.Option.{slice_get_within}
+use Rattle.std.proofs.Common.{◌≡◌, ◌+◌, Some, None, slice_get, ap, ◌∙◌}
 use Rattle.page_pool.specs.Pages.{Pages}
 use Rattle.page_pool.proofs.Kept.{one_mapped_fits, kept_one_mapped}
 use Rattle.page_pool.proofs.page_side.PageSide.map_page.Goals as goal

@@ -1,5 +1,4 @@
 use Rattle.std.proofs.Common.{◌≡◌, take}
-use Rattle.page_pool.specs.Pages.{Pages}
 use Rattle.page_pool.specs.Units.{bytes_at, sum_of}
 use Rattle.page_pool.proofs.page_side.PageSide.sum_words.Given as goal
 

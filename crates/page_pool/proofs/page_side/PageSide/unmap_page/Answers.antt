@@ -1,5 +1,4 @@
-use Rattle.std.proofs.Common.{◌≡◌, ◌+◌, ◌<◌, Some, None, length, slice_get, ap, ◌∙◌, arith}
-use Rattle.std.proofs.lemmas.Option.{slice_get-get_or}
+use Rattle.std.proofs.Common.{◌+◌, Some, length, ap, arith}
 use Rattle.page_pool.specs.Pages.{Pages}
 use Rattle.page_pool.proofs.Shared.{frame_of_page}
 use Rattle.page_pool.proofs.Kept.{kept_one_unmapped, read_at}

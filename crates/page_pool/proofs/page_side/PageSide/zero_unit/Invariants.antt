@@ -1,7 +1,6 @@
 use Rattle.std.proofs.Common.{◌≡◌, ◌+◌, ◌-◌}
 use Rattle.vm_model.specs.Space.{count_from}
 use Rattle.vm_model.specs.Frames.{zero_pages, pages_of_bytes}
-use Rattle.page_pool.specs.Pages.{Pages}
 use Rattle.page_pool.proofs.page_side.PageSide.zero_unit.Given as goal
 
 -- the pages that are left make the words 0 that all make

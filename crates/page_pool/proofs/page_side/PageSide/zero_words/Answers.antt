@@ -1,4 +1,4 @@
-use Rattle.std.proofs.Common.{◌≡◌, ◌+◌, drop, get_or, slice_get, refl, ap, sym, ◌∙◌}
+use Rattle.std.proofs.Common.{◌+◌, drop, slice_get, ap, sym, ◌∙◌}
 use Rattle.vm_model.specs.Frames.{pages_of_bytes}
 use Rattle.page_pool.specs.Pages.{Pages}
 use Rattle.page_pool.specs.Units.{with_zeroed}
