@@ -1,0 +1,15 @@
+-- What a field is written as.
+use Rattle.std.specs.Prelude.{ℕ, List, ◌++◌, map, decimal}
+use Rattle.std.specs.Fmt.{signed_decimal}
+use Rattle.text_lines.specs.declared.field.Field.{Field}
+use Rattle.text_lines.specs.declared.field.Field.TheVariants.{Word, Number, Amount, Tagged, Pair}
+
+abbrev pub field_text : Field → List ℕ
+field_text (Word word) = word.now
+field_text (Number n) = decimal n
+field_text (Amount n) = signed_decimal n
+field_text (Tagged tag n) = tag.now ++ decimal n
+field_text (Pair a mark b) = decimal a ++ mark.now ++ decimal b
+
+abbrev pub field_texts : List Field → List (List ℕ)
+field_texts fields = map field_text fields

@@ -1,0 +1,12 @@
+//! Lines of text, each written as the list of its fields.
+#![tactic(auto)]
+
+pub mod field;
+pub mod line;
+
+pub use field::{Field, put_field};
+pub use line::{put_line, put_words};
+use vm_model::ItemList;
+
+/// Bytes in a row, which read as a slice.
+pub type Text = ItemList<u8>;
