@@ -22,6 +22,7 @@ use Rattle.call_laws.proofs.Replying.{replies_have_causes, causes_bring_replies}
 use Rattle.call_laws.proofs.Targeting.{targets_are_got}
 use Rattle.call_laws.proofs.Numbering.{reports_tell}
 use Rattle.call_laws.proofs.Rooms.{room_counts}
+use Rattle.call_laws.proofs.OneBase.{chunks_have_one_base}
 
 pub reached_keep : ReachedWorldsKeepTheLaws
 reached_keep c opening calls w trace reached = record {
@@ -41,6 +42,7 @@ reached_keep c opening calls w trace reached = record {
   waited = freed_pages_waited c opening calls w trace reached;
   parts = parts_disjoint c opening calls w trace reached;
   objects = objects_mapped c opening calls w trace reached;
+  bases = chunks_have_one_base c opening calls w trace reached;
   sums = sums_are_the_adds c opening calls w trace reached;
   turns = turns_kept c opening calls w trace reached;
   purge_last = purge_last c opening calls w trace reached;

@@ -16,4 +16,5 @@ pub mod Making
 pub mod Targeting
 pub mod Replying
 pub mod Numbering
+pub mod OneBase
 pub mod Keeping

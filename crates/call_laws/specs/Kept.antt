@@ -7,7 +7,7 @@ use Rattle.vm_model.specs.declared.calls.Target.{Target}
 use Rattle.vm_model.specs.declared.calls.Reply.TheVariants as reply
 use Rattle.vm_model.specs.Space.{end_of}
 use Rattle.vm_model.specs.Setup.{Setup}
-use Rattle.vm_model.specs.PlainMap.{PlainMap, Block, at_first}
+use Rattle.vm_model.specs.PlainMap.{PlainMap, Block, Chunk, at_first}
 use Rattle.vm_model.specs.Legal.{IsUnmapped}
 use Rattle.vm_model.specs.Calls.{Answered}
 use Rattle.vm_model.specs.History.{World, Local, placing_calls}
@@ -24,6 +24,7 @@ use Rattle.call_laws.specs.Targets.{target_in, IsTargeted}
 use Rattle.call_laws.specs.Numbers.{IsNumbered}
 use Rattle.call_laws.specs.Causes.{WereLegal, searched_for, FoundNoHole, HasItsCause}
 use Rattle.call_laws.specs.Room.{IsRoomCounted}
+use Rattle.call_laws.specs.MapLaws.{StandsAtItsBase}
 
 -- the map before the first event
 abbrev pub first_map : Setup → (opening : List Call) → (calls : List (List Call)) → PlainMap
@@ -54,6 +55,7 @@ pub record KeepsTheLaws (c : Setup) (opening : List Call) (calls : List (List Ca
   pub waited : (page k : ℕ) → IsFreedAt c (first_map c opening calls) w.events page k → IsFreedWell c (first_map c opening calls) w.events page k
   pub parts : (i : ℕ) (b : Block) → slice_get w.map.blocks i ≡ Some b → ArePartsApart c b
   pub objects : AreObjectsMapped c w.map
+  pub bases : (i : ℕ) (h : Chunk) → slice_get w.map.chunks i ≡ Some h → StandsAtItsBase c w.map h
   pub sums : AreSumsAdds c w
   pub turns : AreTurnsKept w
   pub purge_last : IsPurgeLast w

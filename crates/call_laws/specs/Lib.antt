@@ -6,3 +6,4 @@ pub mod Exact
 pub mod Numbers
 pub mod Room
 pub mod Kept
+pub mod MapLaws

@@ -8,6 +8,7 @@ ghost use Rattle.call_laws.specs.Room.{RoomCountsPlacingCalls};
 ghost use Rattle.call_laws.specs.Exact.{CausesBringReplies};
 ghost use Rattle.call_laws.specs.Targets.{TargetsAreWhatTheirCallsGot};
 ghost use Rattle.call_laws.specs.Numbers.{ReportsTellLastEvents};
+ghost use Rattle.call_laws.specs.MapLaws.{ChunksHaveOneBase, UnitsBeyondProcessorsAreUnmapped};
 ghost use Rattle.call_laws.specs.Kept.{ReachedWorldsKeepTheLaws};
 
 /// The opening's events come first. Each caller's answers are those of the first calls of its list, in order, and its own
@@ -30,6 +31,13 @@ pub fn replies()
 /// The room for objects is the number of placing calls less the objects placed, and never wanting.
 pub fn room()
     ensures counted { RoomCountsPlacingCalls }
+{}
+
+/// All areas of a chunk stand at its base plus their group's offset, and no page of it beyond the units of the processors
+/// is mapped.
+pub fn chunks()
+    ensures one_base { ChunksHaveOneBase }
+    ensures outer_units { UnitsBeyondProcessorsAreUnmapped }
 {}
 
 /// Every world that a legal history of a trace leads to keeps all laws, those of its calls and those of its map.

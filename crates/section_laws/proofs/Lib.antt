@@ -1,0 +1,10 @@
+pub mod OneState
+pub mod KeptLawful
+pub mod Memory
+pub mod NextAreas
+pub mod UnitPages
+pub mod PlacesListed
+pub mod Callers
+pub mod PagesReady
+pub mod AreasReady
+pub mod PercpuReady

@@ -1,0 +1,4 @@
+pub mod Lawful
+pub mod Turns
+pub mod Needs
+pub mod Laws

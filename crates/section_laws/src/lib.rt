@@ -1,0 +1,25 @@
+//! What a section may ask of the region that its caller wants, in one state of a run; and that sections keep such a state.
+#![tactic(auto)]
+
+ghost use Rattle.section_laws.specs.Turns.{SectionsKeepLawful, ReachIsTheRegions, SectionsKeepReach, TurnsArePicks};
+
+/// A section that moves leaves a lawful state lawful, and its caller's reach as it was, which is the number of regions.
+/// Callers that move in turn are picks of the world.
+pub fn turns()
+    ensures keep_lawful { SectionsKeepLawful }
+    ensures reach { ReachIsTheRegions }
+    ensures same_reach { SectionsKeepReach }
+    ensures picks { TurnsArePicks }
+{}
+
+ghost use Rattle.section_laws.specs.Laws.{PagesAreReady, AreasAreReady, WaitsAreReady, PercpuIsReady, NumbersAreLeft};
+
+/// What stands in one state of a run with a caller, the page map, the live areas, the waiting spans or the chunks, has what
+/// the caller's section asks for.
+pub fn sections()
+    ensures pages { PagesAreReady }
+    ensures areas { AreasAreReady }
+    ensures waits { WaitsAreReady }
+    ensures percpu { PercpuIsReady }
+    ensures numbers { NumbersAreLeft }
+{}
