@@ -4,8 +4,6 @@
 mod bundle;
 pub mod laws;
 mod search;
-#[cfg(test)]
-mod tests;
 
 pub use bundle::{Bundle, GroupSpans};
 pub use search::{carve_groups, highest};

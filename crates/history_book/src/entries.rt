@@ -1,5 +1,5 @@
 //! The entries of a book in the table of replies.
-ghost use Rattle.std.specs.Prelude.{◌≡◌, ◌-◌, ◌≤◌, ◌<◌, ◌++◌, List, All, Some, length, take, map, slice_get, OnOk, OnErr};
+ghost use Rattle.std.specs.Prelude.{◌≡◌, ◌-◌, ◌≤◌, ◌<◌, ◌++◌, List, All, Some, length, take, slice_get, OnOk, OnErr};
 ghost use Rattle.vm_model.specs.Events.{Event};
 ghost use Rattle.vm_model.specs.Calls.{Answered};
 ghost use Rattle.vm_model.specs.Tables.{numbers_of, entries_from};
@@ -66,79 +66,4 @@ pub fn number(book: &Book, moved: &[u16], into: &mut Vec<Entry>) -> Result<(), A
         });
     }
     Ok(())
-}
-
-#[cfg(test)]
-mod tests {
-    use super::*;
-    use std::alloc::Global;
-    use vm_model::Reply;
-
-    /// The events of two calls of a caller, by their own events.
-    fn events(
-        alloc: Global,
-        caller: u16,
-        first: u32,
-        second: u32,
-        moved: &[u16],
-    ) -> Result<[u64; 2], AllocError>
-        requires first { 1 ≤ first }
-        requires second { 1 ≤ second }
-        requires first_there { first ≤ length (places_of caller 1 moved.now) }
-        requires second_there { second ≤ length (places_of caller 1 moved.now) }
-    {
-        let mut book = Book::with_room(alloc, caller, 2)?;
-        book.note(Reply::Done, first);
-        book.note(Reply::NoSpace, second);
-        let mut entries = Vec::new(alloc);
-        number(&book, moved, &mut entries)?;
-        Ok([entries[0].event, entries[1].event])
-    }
-
-    #[test]
-    fn numbers_events(rt: HostRuntime) -> Result<(), AllocError> {
-        let alloc = rt.alloc();
-        let turns = [1, 2, 1, 2, 2, 0];
-        assert_eq!(rt; events(alloc, 2, 1, 2, &[2, 2])?, [1, 2]);
-        assert_eq!(rt; events(alloc, 1, 1, 2, &turns)?, [1, 3]);
-        assert_eq!(rt; events(alloc, 2, 1, 3, &turns)?, [2, 5]);
-        assert_eq!(rt; events(alloc, 2, 2, 3, &turns)?, [4, 5]);
-        assert_eq!(rt; events(alloc, 0, 1, 1, &turns)?, [6, 6]);
-        assert_eq!(rt; events(alloc, 2, 3, 1, &turns)?, [5, 2]);
-        Ok(())
-    }
-
-    #[test]
-    fn appends_entries(rt: HostRuntime) -> Result<(), AllocError> {
-        let mut entries = Vec::new(rt.alloc());
-        let mut first = Book::with_room(rt.alloc(), 1, 3)?;
-        first.note(Reply::Address(4096), 2);
-        number(&first, &[1, 1, 2], &mut entries)?;
-        assert_eq!(rt; (first.caller(), first.len(), first.spare()), (1, 1, 2));
-        assert_eq!(rt;
-            (first.reply_at(1), first.own_event_at(1)),
-            (Reply::Address(4096), 2)
-        );
-
-        let mut second = Book::with_room(rt.alloc(), 2, 1)?;
-        assert!(rt; second.is_empty());
-        second.note(Reply::Done, 1);
-        number(&second, &[1, 1, 2], &mut entries)?;
-        let wanted = [
-            Entry {
-                caller: 1,
-                call: 1,
-                reply: Reply::Address(4096),
-                event: 2,
-            },
-            Entry {
-                caller: 2,
-                call: 1,
-                reply: Reply::Done,
-                event: 3,
-            },
-        ];
-        assert_eq!(rt; entries.as_slice(), wanted.as_slice());
-        Ok(())
-    }
 }

@@ -1,5 +1,5 @@
 //! Which pages are stale: those whose old frames a TLB may still have, until `flush_tlb_kernel_range`.
-ghost use Rattle.std.specs.Prelude.{◌≡◌, ◌/◌, ◌<◌, ◌≤◌, ◌^◌, ℕ, true, false, IfOk, IsTrue, length, replicate, slice_get, slice_set};
+ghost use Rattle.std.specs.Prelude.{◌≡◌, ◌/◌, ◌<◌, ◌≤◌, ◌^◌, ℕ, true, false, IfOk, length, replicate, slice_get, slice_set};
 ghost use Rattle.vm_model.specs.Space.{holds, end_of, paint};
 ghost use Rattle.page_pool.specs.StaleList.{is_set, set_count};
 
@@ -173,88 +173,5 @@ impl StalePages {
         ensures { result ≡ set_count self.now }
     {
         self.count
-    }
-}
-
-#[cfg(test)]
-mod tests {
-    use super::*;
-
-    const SPACE: u32 = 12_345;
-
-    /// Whether a span lies among the pages.
-    fn is_inside(pages: &StalePages, span: Span) -> bool
-        ensures inside { IsTrue result → end_of span ≤ length pages.now }
-        ensures space { IsTrue result → length pages.now < 2 ^ 32 }
-    {
-        let end = u64::from(span.start) + u64::from(span.pages);
-        end <= pages.flags.len() as u64 && pages.flags.len() <= u32::MAX as usize
-    }
-
-    /// Pages of which the first and the last of each cluster are stale and some between, and the same as a plain list.
-    fn some_stale(alloc: Global) -> Result<(StalePages, Vec<bool>), AllocError> {
-        let mut pages = StalePages::none(alloc, SPACE)?;
-        let mut plain = vec![in alloc; false; SPACE as usize]?;
-        for page in [0, 63, 64, 4095, 4096, 5000, 8191, 8192, 12_287, 12_288] {
-            let span = Span {
-                start: page,
-                pages: 1,
-            };
-            if is_inside(&pages, span) && (page as usize) < plain.len() {
-                pages.mark(span);
-                plain[page as usize] = true;
-            }
-        }
-        Ok((pages, plain))
-    }
-
-    /// Flushes a hull, here and in the plain list.
-    fn flush_both(pages: &mut StalePages, plain: &mut [bool], hull: Span) -> bool {
-        let end = u64::from(hull.start) + u64::from(hull.pages);
-        if !is_inside(pages, hull) || end > plain.len() as u64 {
-            return false;
-        }
-        pages.flush(hull);
-        plain[hull.start as usize..end as usize].fill(false);
-        true
-    }
-
-    /// Whether the same pages are stale as in the plain list.
-    fn are_alike(pages: &StalePages, plain: &[bool]) -> bool {
-        for page in 0..SPACE {
-            if Some(&pages.contains(page)) != plain.get(page as usize) {
-                return false;
-            }
-        }
-        true
-    }
-
-    #[test]
-    fn flushes_hulls(rt: HostRuntime) -> Result<(), AllocError> {
-        let rows = [
-            (0, SPACE, 0),
-            (0, 4095, 7),
-            (4095, 1, 9),
-            (4095, 2, 8),
-            (4096, 1, 9),
-            (4096, 4096, 7),
-            (4097, 4094, 9),
-            (1, 12_287, 2),
-            (64, 8128, 5),
-            (5000, 7287, 7),
-            (8192, 0, 10),
-        ];
-        for (start, count, left) in rows {
-            let (mut pages, mut plain) = some_stale(rt.alloc())?;
-            let hull = Span {
-                start,
-                pages: count,
-            };
-            assert_eq!(rt; pages.len(), 10);
-            assert!(rt; flush_both(&mut pages, &mut plain, hull), "{start}");
-            assert_eq!(rt; pages.len(), left, "{start} {count}");
-            assert!(rt; are_alike(&pages, &plain), "{start} {count}");
-        }
-        Ok(())
     }
 }
