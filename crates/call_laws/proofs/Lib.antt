@@ -17,4 +17,5 @@ pub mod Targeting
 pub mod Replying
 pub mod Numbering
 pub mod OneBase
+pub mod GuardsBare
 pub mod Keeping

@@ -7,3 +7,4 @@ pub mod Numbers
 pub mod Room
 pub mod Kept
 pub mod MapLaws
+pub mod Guards

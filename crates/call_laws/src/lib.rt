@@ -8,6 +8,7 @@ ghost use Rattle.call_laws.specs.Room.{RoomCountsPlacingCalls};
 ghost use Rattle.call_laws.specs.Exact.{CausesBringReplies};
 ghost use Rattle.call_laws.specs.Targets.{TargetsAreWhatTheirCallsGot};
 ghost use Rattle.call_laws.specs.Numbers.{ReportsTellLastEvents};
+ghost use Rattle.call_laws.specs.Guards.{GuardsStayBare};
 ghost use Rattle.call_laws.specs.MapLaws.{ChunksHaveOneBase, UnitsBeyondProcessorsAreUnmapped};
 ghost use Rattle.call_laws.specs.Kept.{ReachedWorldsKeepTheLaws};
 
@@ -38,6 +39,12 @@ pub fn room()
 pub fn chunks()
     ensures one_base { ChunksHaveOneBase }
     ensures outer_units { UnitsBeyondProcessorsAreUnmapped }
+{}
+
+/// The guard of a vmalloc span is unmapped and not stale from its carve on, as long as a caller has the span in hand or an area
+/// is live there: also while the area is being settled or unmapped.
+pub fn guards()
+    ensures bare { GuardsStayBare }
 {}
 
 /// Every world that a legal history of a trace leads to keeps all laws, those of its calls and those of its map.

@@ -8,3 +8,4 @@ pub mod Callers
 pub mod PagesReady
 pub mod AreasReady
 pub mod PercpuReady
+pub mod WordsSmall

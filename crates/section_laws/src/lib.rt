@@ -12,6 +12,7 @@ pub fn turns()
     ensures picks { TurnsArePicks }
 {}
 
+ghost use Rattle.section_laws.specs.Words.{CellsAreSmall, AmountsAreSmall};
 ghost use Rattle.section_laws.specs.Laws.{PagesAreReady, AreasAreReady, WaitsAreReady, PercpuIsReady, NumbersAreLeft};
 
 /// What stands in one state of a run with a caller, the page map, the live areas, the waiting spans or the chunks, has what
@@ -22,4 +23,6 @@ pub fn sections()
     ensures waits { WaitsAreReady }
     ensures percpu { PercpuIsReady }
     ensures numbers { NumbersAreLeft }
+    ensures cells { CellsAreSmall }
+    ensures amounts { AmountsAreSmall }
 {}

@@ -1,0 +1,353 @@
+-- Guards stay bare, in every world that a legal history leads to.
+use Rattle.std.proofs.Common.{◌≡◌, ℕ, zero, suc, ◌-◌, ◌≤◌, inl, inr, Bool, true, false, nat_lt, List, [], ◌∷◌, ◌++◌, length, slice_get, Option, Some, None, refl, ap, sym, ◌∙◌, subst, arith}
+use Rattle.std.proofs.lemmas.Option.{same_Some}
+use Rattle.vm_model.specs.declared.calls.Call.{Call}
+use Rattle.vm_model.specs.declared.areas.Span.{Span}
+use Rattle.vm_model.specs.declared.areas.Area.{Area}
+use Rattle.vm_model.specs.declared.areas.AreaKind.{AreaKind}
+use Rattle.vm_model.specs.declared.areas.AreaKind.TheVariants as kind
+use Rattle.vm_model.specs.Space.{end_of, holds, covers, is_among}
+use Rattle.vm_model.specs.Setup.{Setup, cpus, groups_at, pages_in_units}
+use Rattle.vm_model.specs.PlainMap.{PlainMap}
+use Rattle.vm_model.specs.Areas.{areas_of, group_kinds, group_areas, is_area, named_areas}
+use Rattle.vm_model.specs.Blocks.{PartAt}
+use Rattle.vm_model.specs.Chunks.{ObjectAt}
+use Rattle.vm_model.specs.Events.{Section, Settle, Unmap, Depopulate, Flush}
+use Rattle.vm_model.specs.Legal.{IsLegalAs, IsBare, IsUnmapped, IsMapped}
+use Rattle.vm_model.specs.Effects.{effect_as}
+use Rattle.vm_model.specs.Told.{carved, carved_base, had_frames, removed, pages_waiting, spans_taken, blocks_gone, part_told, was_spent, placed, was_live, spare_told, page_told}
+use Rattle.vm_model.specs.Given.{given, removal}
+use Rattle.vm_model.specs.Places.{Aim, ForArea, ForBlock, ForChunk, Then, SearchAgain, ReplyWith, SpareAgain, Place, Finding, FindingAgain, MappingArea, SettlingArea, Removing, UnmappingArea, Waiting, PurgeFragmenting, PurgeCollecting, PurgeFlushing, PurgeGiving, CuttingPart, SettlingBlock, MappingPart, BeginningUnmap, Retiring, LookingAtDirty, Choosing, SettlingGroups, AddingChunk, Populating, ChoosingAtomic, FreeingObject, Sparing, NextFill, Filling, ask}
+use Rattle.vm_model.specs.Next.{Next, Go, Answer, next, found, without_space, after_remove, go_on, after_fragments, after_collecting, after_flush, after_cut, after_begin, after_place, after_atomic, after_spare, after_page}
+use Rattle.vm_model.specs.Calls.{Answered}
+use Rattle.vm_model.specs.History.{World, Local, started, moved_to, made_by, opening_world, opening_answers, callers_from}
+use Rattle.vm_model.specs.LegalHistory.{Meets, IsReached}
+use Rattle.vm_model.specs.Rules.{IsTrace}
+use Rattle.map_laws.proofs.AreaFacts.{IsHolding, guard_part}
+use Rattle.map_laws.proofs.AreasMade.{asks_settle, no_settle, areas_after}
+use Rattle.map_laws.proofs.AreaWorlds.{IsLegalStep, legally_lasts}
+use Rattle.map_laws.proofs.Chosen.{IsIn, filter_has}
+use Rattle.map_laws.proofs.Frames.{IsFramed, has_call, not_over}
+use Rattle.map_laws.proofs.Lists.{set_cases, append_cases}
+use Rattle.map_laws.proofs.OutMoves.{with_in}
+use Rattle.map_laws.proofs.Places.{IsPlainKind, IsProper, OnNext, HaveBeginnings, begins_with, either_next, answers_call}
+use Rattle.map_laws.proofs.Spans.{covers_one, holds_from}
+use Rattle.map_laws.proofs.Touched.{unpainted, painted_still}
+use Rattle.map_laws.proofs.TraceWorlds.{IsTraceWorld, trace_first, trace_lasts, holding_here, proper_here}
+use Rattle.call_laws.specs.Guards.{OnGuard, OnGuardInHand, GuardsStayBare}
+
+abbrev IsClean : PlainMap → ℕ → Type 0
+IsClean m page = slice_get m.stale page ≡ Some false
+
+-- an unmapped page that isn't stale stays so, as only mapped pages become stale
+by_held : (m : PlainMap) (page : ℕ) (test : ℕ → Bool) → (test page ≡ true → IsMapped m page) → IsUnmapped m page → test page ≡ false
+by_held m page test mapped none = by_test (test page) refl
+  where
+    by_test : (b : Bool) → test page ≡ b → test page ≡ false
+    by_test false e = e
+    by_test true e = absurd (let has = mapped e in let frame = has.1 in cc)
+
+clean_kept : (c : Setup) (m : PlainMap) (k : ℕ) (s : Section) (page : ℕ) → IsLegalAs c m k s → IsUnmapped m page → IsClean m page → IsClean (effect_as c m k s) page
+clean_kept c m k (Unmap s) page legal none clean = unpainted (holds s) true m.stale page (by_held m page (holds s) (λ e. legal page (covers_one s page ∙ e)) none) ∙ clean
+clean_kept c m k (Depopulate base pages) page legal none clean = unpainted (is_among (pages_in_units c base pages)) true m.stale page (by_held m page (is_among (pages_in_units c base pages)) (λ e. legal page e) none) ∙ clean
+clean_kept c m k (Flush s) page legal none clean = painted_still (holds s) false m.stale page clean
+clean_kept c m k _ page legal none clean = clean
+
+-- of a guard
+on_guard : (P Q : ℕ → Type 0) (k : AreaKind) (s : Span) → ((page : ℕ) → P page → Q page) → OnGuard k s P → OnGuard k s Q
+on_guard P Q kind.Vmalloc s f is = f (end_of s - 1) is
+on_guard P Q kind.MapRam s f is = tt
+on_guard P Q (kind.Block cpu) s f is = tt
+on_guard P Q (kind.Chunk chunk group) s f is = tt
+
+both_guards : (P Q R : ℕ → Type 0) (k : AreaKind) (s : Span) → ((page : ℕ) → P page → Q page → R page) → OnGuard k s P → OnGuard k s Q → OnGuard k s R
+both_guards P Q R kind.Vmalloc s f is also = f (end_of s - 1) is also
+both_guards P Q R kind.MapRam s f is also = tt
+both_guards P Q R (kind.Block cpu) s f is also = tt
+both_guards P Q R (kind.Chunk chunk group) s f is also = tt
+
+-- the last page is the guard's part, and one of the span
+guard_unmapped : (P : ℕ → Type 0) (k : AreaKind) (s : Span) → 1 ≤ s.pages → ((page : ℕ) → covers (guard_part k s ∷ []) page ≡ true → P page) → OnGuard k s P
+guard_unmapped P kind.Vmalloc s some on = on (end_of s - 1) (covers_one (guard_part kind.Vmalloc s) (end_of s - 1) ∙ holds_from (guard_part kind.Vmalloc s) (end_of s - 1) (omega arith) (omega arith))
+guard_unmapped P kind.MapRam s some on = tt
+guard_unmapped P (kind.Block cpu) s some on = tt
+guard_unmapped P (kind.Chunk chunk group) s some on = tt
+
+span_guard : (P : ℕ → Type 0) (k : AreaKind) (s : Span) → 1 ≤ s.pages → ((page : ℕ) → covers (s ∷ []) page ≡ true → P page) → OnGuard k s P
+span_guard P kind.Vmalloc s some on = on (end_of s - 1) (covers_one s (end_of s - 1) ∙ holds_from s (end_of s - 1) (omega arith) (omega arith))
+span_guard P kind.MapRam s some on = tt
+span_guard P (kind.Block cpu) s some on = tt
+span_guard P (kind.Chunk chunk group) s some on = tt
+
+-- of what a caller is settling or unmapping
+abbrev HandClean : PlainMap → Place → Type 0
+HandClean m (SettlingArea s k) = OnGuard k s (IsClean m)
+HandClean m (UnmappingArea area) = OnGuard area.kind area.span (IsClean m) × (1 ≤ area.span.pages)
+HandClean m _ = Unit {0}
+
+clean_begins : (c : Setup) (m : PlainMap) → HaveBeginnings (HandClean m) c
+clean_begins c m = record {
+  over = tt;
+  refused = λ r. tt;
+  area = λ pages align k plain some. tt;
+  part = λ cpu pages e f. tt;
+  dirty = tt;
+  object = λ bytes align few. tt;
+  atomic = λ bytes align few. tt;
+  remove = λ start serial. tt;
+  unmap = λ cpu page serial. tt;
+  free = λ at serial. tt;
+  add = λ at serial cpu index amount. tt;
+  sum = λ at serial index. tt;
+  balance = tt;
+}
+
+-- Where a section leads.
+
+module _ (n : PlainMap) where
+  abbrev Leads : Next → Type 0
+  Leads = OnNext (HandClean n)
+
+  found_clean : (aim : Aim) (s : Option Span) (base : Option ℕ) (otherwise : Next) → Leads otherwise → Leads (found aim s base otherwise)
+  found_clean (ForArea k) (Some s) base otherwise q = tt
+  found_clean (ForBlock cpu pages) (Some s) base otherwise q = tt
+  found_clean (ForChunk chunk bytes align) (Some s) base otherwise q = tt
+  found_clean (ForArea k) None (Some base) otherwise q = tt
+  found_clean (ForBlock cpu pages) None (Some base) otherwise q = tt
+  found_clean (ForChunk chunk bytes align) None (Some base) otherwise q = tt
+  found_clean aim None None otherwise q = q
+
+  no_space_clean : (aim : Aim) → Leads (without_space aim)
+  no_space_clean (ForArea k) = tt
+  no_space_clean (ForBlock cpu asked) = tt
+  no_space_clean (ForChunk chunk bytes to) = tt
+
+  went_on_clean : (after : Then) → Leads (go_on after)
+  went_on_clean (SearchAgain search aim) = tt
+  went_on_clean (ReplyWith reply) = tt
+  went_on_clean SpareAgain = tt
+
+  fragments_clean : (gone : List ℕ) (extra : Option Span) (after : Then) → HandClean n (after_fragments gone extra after)
+  fragments_clean [] extra after = tt
+  fragments_clean (start ∷ gone) extra after = tt
+
+  collected_clean : (waited : List Span) (o : Option Span) (after : Then) → Leads (after_collecting waited o after)
+  collected_clean waited None after = tt
+  collected_clean waited (Some s) after = tt
+
+  flushed_clean : (waited : List Span) (after : Then) → Leads (after_flush waited after)
+  flushed_clean [] after = tt
+  flushed_clean (s ∷ waited) after = tt
+
+  cut_clean : (c : Setup) (cpu pages : ℕ) (o : Option PartAt) → Leads (after_cut c cpu pages o)
+  cut_clean c cpu pages None = tt
+  cut_clean c cpu pages (Some at) = tt
+
+  begun_clean : (o : Option PartAt) → Leads (after_begin o)
+  begun_clean None = tt
+  begun_clean (Some at) = tt
+
+  place_clean : (bytes align number : ℕ) (o : Option (ObjectAt × List ℕ)) → Leads (after_place bytes align number o)
+  place_clean bytes align number None = tt
+  place_clean bytes align number (Some p) = tt
+
+  atomic_clean : (o : Option (ObjectAt × List ℕ)) → Leads (after_atomic o)
+  atomic_clean None = tt
+  atomic_clean (Some p) = tt
+
+  spared_clean : (o : Option (ℕ × List ℕ)) → Leads (after_spare o)
+  spared_clean None = tt
+  spared_clean (Some p) = tt
+
+  page_clean : (filled : ℕ) (o : Option (ℕ × ℕ × ℕ)) → Leads (after_page filled o)
+  page_clean filled None = tt
+  page_clean filled (Some p) = tt
+
+  clean_next : (c : Setup) (m : PlainMap) (p : Place) (s : Section) → given c m (ask c p) ≡ Some s
+      → ((place : Span) (k : AreaKind) → p ≡ MappingArea place k → OnGuard k place (IsClean n)) → ((area : Area) → IsIn area m.areas → OnGuard area.kind area.span (IsClean n) × (1 ≤ area.span.pages)) → Leads (next c p s)
+  clean_next c m (Finding search aim) s e mapping live = found_clean aim (carved s) (carved_base s) _ tt
+  clean_next c m (FindingAgain search aim) s e mapping live = found_clean aim (carved s) (carved_base s) _ (no_space_clean aim)
+  clean_next c m (MappingArea place k) s e mapping live = either_next (HandClean n) (had_frames s) _ _ (mapping place k refl) tt
+  clean_next c m (Removing start serial) s e mapping live = subst (λ x. Leads (after_remove (removed x))) (same_Some _ _ e) (by_list (named_areas start serial m.areas) refl)
+    where
+      by_list : (list : List Area) → named_areas start serial m.areas ≡ list → Leads (after_remove (removed (removal start serial list)))
+      by_list [] f = tt
+      by_list (area ∷ list) f = live area (filter_has (is_area start serial) m.areas 0 area (ap (λ l. slice_get l 0) f)).there
+  clean_next c m (Waiting spans after) s e mapping live = either_next (HandClean n) (nat_lt c.lazy (pages_waiting s)) _ _ tt (went_on_clean after)
+  clean_next c m (PurgeFragmenting cpu gone extra after) s e mapping live = either_next (HandClean n) (nat_lt (suc cpu) (cpus c)) _ _ tt (fragments_clean (gone ++ blocks_gone s) extra after)
+  clean_next c m (PurgeCollecting extra after) s e mapping live = collected_clean (spans_taken s) _ after
+  clean_next c m (PurgeFlushing hull waited after) s e mapping live = flushed_clean waited after
+  clean_next c m (PurgeGiving after) s e mapping live = went_on_clean after
+  clean_next c m (CuttingPart cpu pages) s e mapping live = cut_clean c cpu pages (part_told s)
+  clean_next c m (MappingPart at) s e mapping live = either_next (HandClean n) (had_frames s) _ _ tt tt
+  clean_next c m (BeginningUnmap cpu page serial) s e mapping live = begun_clean (part_told s)
+  clean_next c m (Retiring at reply) s e mapping live = either_next (HandClean n) (was_spent s) _ _ tt tt
+  clean_next c m (LookingAtDirty cpu ranges) s e mapping live = either_next (HandClean n) (nat_lt (suc cpu) (cpus c)) _ _ tt tt
+  clean_next c m (Choosing bytes align) s e mapping live = place_clean bytes align _ (placed s)
+  clean_next c m (AddingChunk base chunk bytes align) s e mapping live = place_clean bytes align 0 (placed s)
+  clean_next c m (Populating at missing) s e mapping live = either_next (HandClean n) (had_frames s) _ _ tt tt
+  clean_next c m (ChoosingAtomic bytes align) s e mapping live = atomic_clean (placed s)
+  clean_next c m (FreeingObject at serial) s e mapping live = either_next (HandClean n) (was_live s) _ _ tt tt
+  clean_next c m Sparing s e mapping live = spared_clean (spare_told s)
+  clean_next c m (NextFill filled) s e mapping live = page_clean filled (page_told s)
+  clean_next c m (Filling chunk base page filled) s e mapping live = either_next (HandClean n) (had_frames s) _ _ tt tt
+  clean_next c m _ s e mapping live = tt
+
+-- In every world.
+
+pub record IsGuardedWorld (c : Setup) (w : World) : Type 0 where
+  pub trace : IsTraceWorld c w
+  pub areas : (a : Area) → IsIn a w.map.areas → OnGuard a.kind a.span (IsClean w.map)
+  pub hands : (k : ℕ) (l : Local) → slice_get w.locals k ≡ Some l → HandClean w.map l.place
+
+-- the guard of an area is unmapped
+area_unmapped : (c : Setup) (w : World) → IsTraceWorld c w → (a : Area) → IsIn a w.map.areas → OnGuard a.kind a.span (IsUnmapped w.map)
+area_unmapped c w is a there = by_kind a.kind refl
+  where
+    by_kind : (k : AreaKind) → a.kind ≡ k → OnGuard k a.span (IsUnmapped w.map)
+    by_kind kind.Vmalloc e = guard_unmapped (IsUnmapped w.map) kind.Vmalloc a.span (is.full.each a there)
+        (λ page h. (is.area.fine.areas there.place a there.at).guard (subst IsPlainKind (sym e) tt) page (ap (λ k. covers (guard_part k a.span ∷ []) page) e ∙ h))
+    by_kind kind.MapRam e = tt
+    by_kind (kind.Block cpu) e = tt
+    by_kind (kind.Chunk chunk group) e = tt
+
+hand_unmapped : (c : Setup) (m : PlainMap) (k : ℕ) (p : Place) → IsProper c p → IsHolding c m k p → HandClean m p → OnGuardInHand p (IsUnmapped m)
+hand_unmapped c m k (MappingArea s kd) proper is clean = span_guard (IsUnmapped m) kd s proper.1 (λ page h. (is.bare page h).unmapped)
+hand_unmapped c m k (SettlingArea s kd) proper is clean = guard_unmapped (IsUnmapped m) kd s proper.1 (λ page h. is.unmapped page h)
+hand_unmapped c m k (UnmappingArea area) proper is clean = guard_unmapped (IsUnmapped m) area.kind area.span clean.1 (λ page h. is.unmapped page h)
+hand_unmapped c m k _ proper is clean = tt
+
+module _ (c : Setup) (opening : List Call) (calls : List (List Call)) (trace : IsTrace c opening calls) where
+  module _ (w : World) (framed : IsFramed c w) (is : IsGuardedWorld c w) where
+    -- of a caller that unmaps or settles an area: its guard is still clean after any legal section
+    module _ (k : ℕ) (s : Section) (legal : IsLegalAs c w.map k s) where
+      abbrev after : PlainMap
+      after = effect_as c w.map k s
+
+      area_still : (a : Area) → IsIn a w.map.areas → OnGuard a.kind a.span (IsClean after)
+      area_still a there = both_guards (IsUnmapped w.map) (IsClean w.map) (IsClean after) a.kind a.span (λ page none clean. clean_kept c w.map k s page legal none clean) (area_unmapped c w is.trace a there) (is.areas a there)
+
+      hand_by : (p : Place) → HandClean w.map p → OnGuardInHand p (IsUnmapped w.map) → HandClean after p
+      hand_by (SettlingArea place kd) clean none = both_guards (IsUnmapped w.map) (IsClean w.map) (IsClean after) kd place (λ page n c'. clean_kept c w.map k s page legal n c') none clean
+      hand_by (UnmappingArea area) clean none = (both_guards (IsUnmapped w.map) (IsClean w.map) (IsClean after) area.kind area.span (λ page n c'. clean_kept c w.map k s page legal n c') none clean.0, clean.1)
+      hand_by _ clean none = tt
+
+      hand_still : (j : ℕ) (x : Local) → slice_get w.locals j ≡ Some x → HandClean after x.place
+      hand_still j x at = hand_by x.place (is.hands j x at) (hand_unmapped c w.map x.caller x.place (proper_here c trace.setup w framed is.trace j x at) (holding_here c trace.setup w framed is.trace j x at) (is.hands j x at))
+
+    module _ (k : ℕ) (l : Local) (s : Section) (step : IsLegalStep w k l s) where
+      own_setup : l.setup ≡ c
+      own_setup = (framed.own k l step.step.here).setup
+
+      legal_here : IsLegalAs c w.map l.caller s
+      legal_here = subst (λ d. IsLegalAs d w.map l.caller s) own_setup (subst (λ i. IsLegalAs l.setup w.map i s) (sym (framed.own k l step.step.here).caller) step.legal)
+
+      gives_here : given c w.map (ask c l.place) ≡ Some s
+      gives_here = subst (λ d. given d w.map (ask d l.place) ≡ Some s) own_setup step.step.gives
+
+      meets_here : Meets c (ask c l.place) s
+      meets_here = subst (λ d. Meets d (ask d l.place) s) own_setup step.meets
+
+      holding : IsHolding c w.map l.caller l.place
+      holding = holding_here c trace.setup w framed is.trace k l step.step.here
+
+      proper : IsProper c l.place
+      proper = proper_here c trace.setup w framed is.trace k l step.step.here
+
+      -- what was carved is bare
+      mapping_still : (place : Span) (kd : AreaKind) → l.place ≡ MappingArea place kd → OnGuard kd place (IsClean (after l.caller s legal_here))
+      mapping_still place kd e =
+          let held = subst (IsHolding c w.map l.caller) e holding in
+          span_guard (IsClean (after l.caller s legal_here)) kd place (subst (IsProper c) e proper).1
+          (λ page h. clean_kept c w.map l.caller s page legal_here (held.bare page h).unmapped (held.bare page h).not_stale)
+
+      own_next : OnNext (HandClean (after l.caller s legal_here)) (next c l.place s)
+      own_next = clean_next (after l.caller s legal_here) c w.map l.place s gives_here mapping_still (λ area there. (area_still l.caller s legal_here area there, is.trace.full.each area there))
+
+      one_settled : (place : Span) (kd : AreaKind) (first : ℕ) → OnGuard kd place (IsClean (after l.caller s legal_here)) → (i : ℕ) (a : Area) → slice_get (areas_of l.caller first ((place, kd) ∷ [])) i ≡ Some a
+          → OnGuard a.kind a.span (IsClean (after l.caller s legal_here))
+      one_settled place kd first clean zero a e = subst (λ (x : Area). OnGuard x.kind x.span (IsClean (after l.caller s legal_here))) (same_Some _ _ e) clean
+      one_settled place kd first clean (suc i) a e = cc
+
+      settled_alone : (place : Span) (kd : AreaKind) (first : ℕ) → s ≡ Settle ((place, kd) ∷ []) first → OnGuard kd place (IsClean (after l.caller s legal_here)) → (a : Area) → IsIn a (after l.caller s legal_here).areas
+          → OnGuard a.kind a.span (IsClean (after l.caller s legal_here))
+      settled_alone place kd first e clean a ia = elim (with_in (areas_of l.caller first ((place, kd) ∷ [])) w.map.areas a (subst (λ (x : Section). IsIn a (effect_as c w.map l.caller x).areas) e ia)) [
+        | inl new ↦ one_settled place kd first clean new.place a new.at
+        | inr was ↦ area_still l.caller s legal_here a was
+      ]
+
+      groups_plain : (k' first chunk group : ℕ) (spans : List Span) (i : ℕ) (a : Area) → slice_get (areas_of k' first (group_kinds chunk group spans)) i ≡ Some a → OnGuard a.kind a.span (IsClean (after l.caller s legal_here))
+      groups_plain k' first chunk group [] i a e = cc
+      groups_plain k' first chunk group (x ∷ spans) zero a e = subst (λ (y : Area). OnGuard y.kind y.span (IsClean (after l.caller s legal_here))) (same_Some _ _ e) tt
+      groups_plain k' first chunk group (x ∷ spans) (suc i) a e = groups_plain k' (suc first) chunk (suc group) spans i a e
+
+      areas_by : (p : Place) → l.place ≡ p → (b : Bool) → asks_settle (ask c p) ≡ b → Meets c (ask c p) s → HandClean (after l.caller s legal_here) p → (a : Area) → IsIn a (after l.caller s legal_here).areas → OnGuard a.kind a.span (IsClean (after l.caller s legal_here))
+      areas_by p at false e w' clean a ia = area_still l.caller s legal_here a (areas_after c w.map l.caller s (no_settle c (ask c p) s e w') a ia)
+      areas_by (SettlingArea place kd) at true e w' clean a ia = settled_alone place kd w'.0 w'.1 clean a ia
+      areas_by (SettlingBlock place cpu pages) at true e w' clean a ia = settled_alone place (kind.Block cpu) w'.0 w'.1 tt a ia
+      areas_by (SettlingGroups base chunk bytes align) at true e w' clean a ia = elim (with_in (areas_of l.caller w'.0 (group_areas c chunk base)) w.map.areas a (subst (λ (x : Section). IsIn a (effect_as c w.map l.caller x).areas) w'.1 ia)) [
+        | inl new ↦ groups_plain l.caller w'.0 chunk 0 (groups_at c base) new.place a new.at
+        | inr was ↦ area_still l.caller s legal_here a was
+      ]
+      areas_by _ at true e w' clean a ia = cc
+
+      guarded_step : IsGuardedWorld c (made_by w l s)
+      guarded_step = record {
+        trace = (trace_lasts c opening calls trace).steps w k l s framed is.trace step;
+        areas = subst (λ d. (a : Area) → IsIn a (effect_as d w.map l.caller s).areas → OnGuard a.kind a.span (IsClean (effect_as d w.map l.caller s))) (sym own_setup)
+            (areas_by l.place refl (asks_settle (ask c l.place)) refl meets_here (hand_still l.caller s legal_here k l step.step.here));
+        hands = λ j x h. elim (set_cases w.locals l.caller j (moved_to l (next l.setup l.place s)) x h) [
+          | inl e ↦ subst (λ (y : Local). HandClean (effect_as l.setup w.map l.caller s) y.place) (sym e.1)
+              (moved_clean (effect_as l.setup w.map l.caller s) (next l.setup l.place s) (subst (λ d. OnNext (HandClean (effect_as d w.map l.caller s)) (next d l.place s)) (sym own_setup) own_next))
+          | inr e ↦ subst (λ d. HandClean (effect_as d w.map l.caller s) x.place) (sym own_setup) (hand_still l.caller s legal_here j x e.1)
+        ];
+      }
+        where
+          moved_clean : (n : PlainMap) (to : Next) → OnNext (HandClean n) to → HandClean n (moved_to l to).place
+          moved_clean n (Go p) clean = clean
+          moved_clean n (Answer r made) clean =
+              let e = answers_call l r made (has_call c k l (framed.own k l step.step.here) (not_over l.setup w.map l.place s step.step.gives)) in
+              subst (λ (x : Local). HandClean n x.place) (sym e.2) (begins_with (HandClean n) l.setup (clean_begins l.setup n) l.opening _ (slice_get l.calls (suc (length l.answers))))
+
+  started_clean : (m : PlainMap) (answers : List Answered) (first : ℕ) (more : List (List Call)) (j : ℕ) (l : Local) → slice_get (callers_from c answers first more) j ≡ Some l → HandClean m l.place
+  started_clean m answers first [] j l h = cc
+  started_clean m answers first (own ∷ more) zero l h = subst (λ (x : Local). HandClean m x.place) (same_Some _ _ h) (begins_with (HandClean m) c (clean_begins c m) answers [] (slice_get own 0))
+  started_clean m answers first (own ∷ more) (suc j) l h = started_clean m answers (suc first) more j l h
+
+  first_clean : (k : ℕ) (l : Local) → slice_get (started c [] 0 opening ∷ []) k ≡ Some l → HandClean (opening_world c opening calls).map l.place
+  first_clean zero l h = subst (λ (x : Local). HandClean (opening_world c opening calls).map x.place) (same_Some _ _ h) (begins_with (HandClean (opening_world c opening calls).map) c (clean_begins c (opening_world c opening calls).map) [] [] (slice_get opening 0))
+  first_clean (suc k) l h = cc
+
+  guarded_reached : (w : World) → IsReached c opening calls w → IsFramed c w × IsGuardedWorld c w
+  guarded_reached w reached = legally_lasts c calls (IsGuardedWorld c) (record {
+    steps = λ v k l s framed is step. guarded_step v framed is k l s step;
+    joins = λ v framed one is over. record {
+      trace = (trace_lasts c opening calls trace).joins v framed one is.trace over;
+      areas = is.areas;
+      hands = λ k l h. elim (append_cases v.locals (callers_from c (opening_answers v.locals) 1 calls) k l h) [
+        | inl e ↦ is.hands k l e
+        | inr e ↦ started_clean v.map (opening_answers v.locals) 1 calls e.0 l e.2
+      ];
+    };
+  }) opening (record {
+    trace = trace_first c opening calls trace;
+    areas = λ a there. (let at = there.at in cc);
+    hands = first_clean;
+  }) w reached
+
+-- unmapped, and not stale
+bare : (m : PlainMap) (page : ℕ) → IsUnmapped m page → IsClean m page → IsBare m page
+bare m page none clean = record { unmapped = none; not_stale = clean }
+
+bare_in_hand : (c : Setup) (m : PlainMap) (k : ℕ) (p : Place) → IsProper c p → IsHolding c m k p → HandClean m p → OnGuardInHand p (IsBare m)
+bare_in_hand c m k (MappingArea s kd) proper is clean = span_guard (IsBare m) kd s proper.1 (λ page h. is.bare page h)
+bare_in_hand c m k (SettlingArea s kd) proper is clean = both_guards (IsUnmapped m) (IsClean m) (IsBare m) kd s (bare m) (hand_unmapped c m k (SettlingArea s kd) proper is clean) clean
+bare_in_hand c m k (UnmappingArea area) proper is clean = both_guards (IsUnmapped m) (IsClean m) (IsBare m) area.kind area.span (bare m) (hand_unmapped c m k (UnmappingArea area) proper is clean) clean.0
+bare_in_hand c m k _ proper is clean = tt
+
+pub guards_stay_bare : GuardsStayBare
+guards_stay_bare c opening calls w trace reached =
+    let both = guarded_reached c opening calls trace w reached in let framed = both.0 in let is = both.1 in record {
+      areas = λ i a at. both_guards (IsUnmapped w.map) (IsClean w.map) (IsBare w.map) a.kind a.span (bare w.map) (area_unmapped c w is.trace a (record { place = i; at = at })) (is.areas a (record { place = i; at = at }));
+      hands = λ k l at. bare_in_hand c w.map l.caller l.place (proper_here c trace.setup w framed is.trace k l at) (holding_here c trace.setup w framed is.trace k l at) (is.hands k l at);
+    }
