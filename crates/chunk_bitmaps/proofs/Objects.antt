@@ -497,6 +497,10 @@ pub bits_found : (taken bounds : List Bool) (at : ℕ) (now : ChunkMap) → at <
 bits_found taken bounds at now here h is =
     sym (ap (option_map (λ (s : Span). s.pages)) (find_object (object_from bounds) (begins taken bounds) at (length taken) (λ place. refl) here h)) ∙ ap (object_bits_at at) is
 
+-- no object begins past the end
+pub begins_past : (taken bounds : List Bool) (at : ℕ) → length taken ≤ at → begins taken bounds at ≡ false
+begins_past taken bounds at h = ap (λ b. b && value_at bounds at) (value_at-past taken at h)
+
 pub none_found : (taken bounds : List Bool) (at : ℕ) (now : ChunkMap) → begins taken bounds at ≡ false → chunk_map taken bounds ≡ now → (None ≡ object_bits_at at now) × (now ≡ without_object_at at now)
 none_found taken bounds at now h is =
     let none = find_no_object (object_from bounds) (begins taken bounds) at (length taken) 0 (λ place. refl) h in (

@@ -125,6 +125,18 @@ impl ChunkBits {
         None
     }
 
+    /// How many bits the object has that begins at a place. None comes exactly where no object begins there. It takes no
+    /// memory.
+    pub fn object_at(&self, at: u32) -> Option<u32>
+        ensures bits { result ≡ object_bits_at at self.now }
+        ensures some { IfSome result (λ bits. (1 ≤ bits) × (at + bits ≤ self.now.bits)) }
+    {
+        if at >= self.taken.len() || !begins_at(&self.taken, &self.bounds, at) {
+            return None;
+        }
+        Some(self.bounds.find_next(true, at + 1, self.taken.len()) - at)
+    }
+
     /// Takes so many free bits from a place on for an object: `pcpu_alloc_area` in the maps. It takes no memory.
     pub fn mark(&mut self, at: u32, bits: u32)
         requires some { 1 ≤ bits }
