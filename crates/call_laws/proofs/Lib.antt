@@ -18,4 +18,5 @@ pub mod Replying
 pub mod Numbering
 pub mod OneBase
 pub mod GuardsBare
+pub mod AddedWords
 pub mod Keeping

@@ -8,3 +8,4 @@ pub mod Room
 pub mod Kept
 pub mod MapLaws
 pub mod Guards
+pub mod Adds

@@ -8,6 +8,7 @@ ghost use Rattle.call_laws.specs.Room.{RoomCountsPlacingCalls};
 ghost use Rattle.call_laws.specs.Exact.{CausesBringReplies};
 ghost use Rattle.call_laws.specs.Targets.{TargetsAreWhatTheirCallsGot};
 ghost use Rattle.call_laws.specs.Numbers.{ReportsTellLastEvents};
+ghost use Rattle.call_laws.specs.Adds.{AddsChangeOneWord};
 ghost use Rattle.call_laws.specs.Guards.{GuardsStayBare};
 ghost use Rattle.call_laws.specs.MapLaws.{ChunksHaveOneBase, UnitsBeyondProcessorsAreUnmapped};
 ghost use Rattle.call_laws.specs.Kept.{ReachedWorldsKeepTheLaws};
@@ -45,6 +46,11 @@ pub fn chunks()
 /// is live there: also while the area is being settled or unmapped.
 pub fn guards()
     ensures bare { GuardsStayBare }
+{}
+
+/// An add changes one word of all words of all objects, also of those that callers have in hand.
+pub fn adds()
+    ensures one_word { AddsChangeOneWord }
 {}
 
 /// Every world that a legal history of a trace leads to keeps all laws, those of its calls and those of its map.
