@@ -1,5 +1,5 @@
 -- Where a caller line stands, and what is held after it.
-use Rattle.std.proofs.Common.{◌≡◌, ◌∙◌, ℕ, suc, ◌-◌, ◌<◌, ◌≤◌, true, false, nat_lt, nat_le, ◌&&◌, List, [], ◌∷◌, ◌++◌, replicate, refl, ap, sym, arith, codes, decimal, ◌⊎◌, inl, inr, ◌==◌, if◌then◌else◌}
+use Rattle.std.proofs.Common.{◌≡◌, ◌∙◌, ℕ, suc, None, ◌-◌, ◌<◌, ◌≤◌, true, false, nat_lt, nat_le, ◌&&◌, List, [], ◌∷◌, ◌++◌, replicate, refl, ap, sym, arith, codes, decimal, ◌⊎◌, inl, inr, ◌==◌, if◌then◌else◌}
 use Rattle.std.proofs.lemmas.Bool.{eq-eqb, ne_eqb, cases_eq}
 use Rattle.std.proofs.lemmas.Bool.Decides.{nat_tests}
 use Rattle.std.specs.Option.{option_map}
@@ -7,7 +7,8 @@ use Rattle.trace_text.specs.declared.progress.Progress.{Progress}
 use Rattle.vm_model.specs.Words.{is_number}
 use Rattle.trace_text.specs.Lines.{Caller}
 use Rattle.trace_text.specs.Reading.{Reading, Header, Named, find_name}
-use Rattle.trace_text.specs.Held.{IsHeld, Steps, header_of, place_of, sections_below}
+use Rattle.trace_text.specs.Names.{place_of}
+use Rattle.trace_text.specs.Held.{IsHeld, Steps, header_of, sections_below}
 use Rattle.trace_text.proofs.NamedCalls.{ranks, follows_held, none_is}
 use Rattle.trace_text.proofs.NumberLines.{caller_lines, number_refused, number_stands}
 use Rattle.trace_text.proofs.SectionProofs.{held_sections}
@@ -34,7 +35,7 @@ pub record Opens (p q : Progress) (n : ℕ) : Type 0 where
   pub header : header_of q ≡ header_of p
   pub cpus : q.cpus ≡ p.cpus
   pub caller : q.caller ≡ n
-  pub names : q.names.entries ≡ []
+  pub names : (name : List ℕ) → place_of q.names name ≡ None
   pub opening_names : q.opening_names ≡ (if p.caller == 0 then p.names else p.opening_names)
   pub calls : q.calls.items ≡ []
   pub closed : q.closed.items ≡ p.closed.items ++ p.calls.items ∷ replicate (n - 1 - p.caller) []
@@ -63,7 +64,7 @@ held_after_caller p q r n held opens above among = record {
   count = opens.lines ∙ held.count;
   counts = held.counts;
   picks = opens.picks ∙ held.picks;
-  names = λ name. rw (opens.names, none_is (find_name r n name) (held.unnamed n name above)) refl;
+  names = λ name. rw (opens.names name, none_is (find_name r n name) (held.unnamed n name above)) refl;
   opening_names = λ opened name. ap (λ places. option_map (λ place. suc place) (place_of places name)) opens.opening_names ∙ kept_names p r held name (cases_eq p.caller 0);
   named = held.named;
   unnamed = λ caller name beyond. held.unnamed caller name (omega arith);

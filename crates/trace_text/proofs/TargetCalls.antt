@@ -10,7 +10,8 @@ use Rattle.trace_text.specs.declared.progress.Progress.{Progress}
 use Rattle.trace_text.specs.Lines.{TargetName}
 use Rattle.trace_text.specs.Reading.{Reading, Made, Named, AreNamed, aimed_at, calls_of, find_name}
 use Rattle.trace_text.specs.Grammar.{aims, is_call_as}
-use Rattle.trace_text.specs.Held.{IsHeld, call_at, place_of, sections_below, target_call}
+use Rattle.trace_text.specs.Names.{place_of}
+use Rattle.trace_text.specs.Held.{IsHeld, call_at, sections_below, target_call}
 
 -- the name by which a target's call is found
 pub record IsAimed (r : Reading) (t : TargetName) (n : ℕ) (c : Call) : Type 0 where

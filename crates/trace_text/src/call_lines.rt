@@ -1,6 +1,7 @@
 //! The lines of calls, as they are read.
 ghost use Rattle.std.specs.Prelude.{◌≡◌, ◌<◌, ◌++◌, ◌&&◌, true, IfOk, OnOk, IfSome, IfNone, IsTrue, codes};
 ghost use Rattle.trace_text.specs.Reading.{Reading, with_call, with_name};
+ghost use Rattle.vm_model.specs.Words.{is_name};
 ghost use Rattle.trace_text.specs.Grammar.{is_new, is_vmalloc, is_map_ram, most_lines};
 ghost use Rattle.trace_text.specs.Held.{IsHeld, Steps, NamesCall, NamesNone, has_place, target_call};
 
@@ -22,14 +23,6 @@ fn has_place(progress: &Progress) -> bool
     SPACE <= progress.rank && progress.rank <= CALLS && progress.lines < MOST_LINES
 }
 
-/// Whether a call line that makes this name may come next.
-fn has_place_for(progress: &Progress, name: &[u8]) -> bool
-    ensures place { (r : Reading) → IsHeld progress.now r → result ≡ (has_place r && is_new r name.now) }
-    ensures room { IsTrue result → progress.now.lines < most_lines }
-{
-    has_place(progress) && !progress.names.contains_key(name)
-}
-
 /// Puts a call behind those of the open section.
 fn add_call(progress: &mut Progress, call: Call) -> Result<(), AllocError>
     requires { progress.old.lines < most_lines }
@@ -41,39 +34,41 @@ fn add_call(progress: &mut Progress, call: Call) -> Result<(), AllocError>
     Ok(())
 }
 
-/// The same of a call with a new name.
-fn add_named_call<'a>(
-    progress: &mut Progress<'a>,
-    name: &'a [u8],
-    call: Call,
-) -> Result<(), AllocError>
-    requires { progress.old.lines < most_lines }
-    ensures { OnOk result ((r : Reading) → IsHeld progress.old r → is_new r name.now ≡ true → IsHeld progress.new (record (with_name r name.now call) { rank = 10 })) }
+/// The same of a call with a name, where the name is new.
+fn add_named_call(progress: &mut Progress, name: &[u8], call: Call) -> Result<bool, AllocError>
+    requires room { progress.old.lines < most_lines }
+    requires name { IsTrue (is_name name.now) }
+    ensures new { IfOk result (λ added. (r : Reading) → IsHeld progress.old r → added ≡ is_new r name.now) }
+    ensures added { IfOk result (λ added. (r : Reading) → IsHeld progress.old r → is_new r name.now ≡ true → IsHeld progress.new (record (with_name r name.now call) { rank = 10 })) }
 {
     let place = progress.calls.len();
-    progress.names.insert(name, place)?;
+    if !progress.names.insert(name, place)? {
+        return Ok(false);
+    }
     progress.calls.push(call)?;
     progress.lines += 1;
     progress.rank = CALLS;
-    Ok(())
+    Ok(true)
 }
 
 /// Reads `vmalloc NAME BYTES ALIGN`, after its word.
-pub fn read_vmalloc<'a>(progress: &mut Progress<'a>, text: &'a [u8]) -> Result<bool, AllocError>
+pub fn read_vmalloc(progress: &mut Progress, text: &[u8]) -> Result<bool, AllocError>
     ensures { IfOk result (λ stood. (r : Reading) → IsHeld progress.old r → Steps r (codes "vmalloc " ++ text.now) stood progress.new) }
 {
     let Some((name, bytes, align)) = named_pair(text) else {
         return Ok(false);
     };
-    if !has_place_for(progress, name) {
+    if !has_place(progress) {
         return Ok(false);
     }
-    add_named_call(progress, name, Call::Vmalloc { bytes, align })?;
+    if !add_named_call(progress, name, Call::Vmalloc { bytes, align })? {
+        return Ok(false);
+    }
     Ok(true)
 }
 
 /// Reads `map_ram NAME CPU PAGES`, after its word.
-pub fn read_map_ram<'a>(progress: &mut Progress<'a>, text: &'a [u8]) -> Result<bool, AllocError>
+pub fn read_map_ram(progress: &mut Progress, text: &[u8]) -> Result<bool, AllocError>
     ensures { IfOk result (λ stood. (r : Reading) → IsHeld progress.old r → Steps r (codes "map_ram " ++ text.now) stood progress.new) }
 {
     let Some((name, cpu, pages)) = named_pair(text) else {
@@ -82,19 +77,22 @@ pub fn read_map_ram<'a>(progress: &mut Progress<'a>, text: &'a [u8]) -> Result<b
     if u64::from(cpu_count(progress)) <= cpu {
         return Ok(false);
     }
-    if !has_place_for(progress, name) {
+    if !has_place(progress) {
         return Ok(false);
     }
     let call = Call::MapRam {
         cpu: cpu as u16,
         pages,
     };
-    add_named_call(progress, name, call)?;
+    if !add_named_call(progress, name, call)? {
+        return Ok(false);
+    }
     Ok(true)
 }
 
 /// The call that a target names, with its number in its section. In the opening no call has the name `0.NAME`.
 fn target_call(progress: &Progress, opening: bool, name: &[u8]) -> Option<(usize, Call)>
+    requires { IsTrue (is_name name.now) }
     ensures { (r : Reading) → IsHeld progress.now r → result ≡ target_call r (record { opening = opening; name = name.now }) }
 {
     if !opening {

@@ -1,6 +1,7 @@
 //! The lines of a trace, as they are read.
-ghost use Rattle.std.specs.Prelude.{◌≡◌, ◌++◌, ◌==◌, [], if◌then◌else◌, IfOk, codes};
+ghost use Rattle.std.specs.Prelude.{◌≡◌, ◌++◌, ◌==◌, List, ℕ, None, if◌then◌else◌, IfOk, codes};
 ghost use Rattle.trace_text.specs.Reading.{Reading};
+ghost use Rattle.trace_text.specs.Names.{place_of};
 ghost use Rattle.trace_text.specs.Built.{is_built};
 ghost use Rattle.trace_text.specs.Held.{IsHeld, Steps, StepsIn};
 
@@ -10,22 +11,24 @@ use crate::call_lines::{
 use crate::fields::number;
 use crate::groups::read_group;
 use crate::header_lines::read_header_line;
+use crate::names::Names;
 use crate::picks::read_picks;
 use crate::progress::{CALLS, END, ORDER, Progress, SPACE};
 use crate::sections::close_section;
 use std::alloc::{AllocError, Global};
-use std::collections::BTreeMap;
 use std::mem;
 
 /// Ends the names of the open section. Those of the opening are kept.
 fn close_names(alloc: Global, progress: &mut Progress)
-    ensures none { progress.new.names.entries ≡ [] }
+    ensures none { (name : List ℕ) → place_of progress.new.names name ≡ None }
     ensures kept { progress.new.opening_names ≡ (if progress.old.caller == 0 then progress.old.names else progress.old.opening_names) }
     ensures same { progress.new ≡ record progress.old { names = progress.new.names; opening_names = progress.new.opening_names } }
 {
-    let names = mem::replace(&mut progress.names, BTreeMap::new(alloc));
     if progress.caller == 0 {
-        progress.opening_names = names;
+        let names = Names::new(alloc, progress.names.wanted());
+        progress.opening_names = mem::replace(&mut progress.names, names);
+    } else {
+        progress.names.clear();
     }
 }
 
@@ -77,11 +80,7 @@ fn read_end(progress: &mut Progress) -> bool
 }
 
 /// Reads a line, where one with this text stands.
-pub fn read_line<'a>(
-    alloc: Global,
-    progress: &mut Progress<'a>,
-    line: &'a [u8],
-) -> Result<bool, AllocError>
+pub fn read_line(alloc: Global, progress: &mut Progress, line: &[u8]) -> Result<bool, AllocError>
     requires held { (r : Reading) × IsHeld progress.old r }
     ensures { IfOk result (λ stood. (r : Reading) → IsHeld progress.old r → StepsIn is_built r line.now stood progress.new) }
 {

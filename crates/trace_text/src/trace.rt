@@ -62,9 +62,9 @@ fn config(progress: &Progress, layout: Layout) -> Config
 /// The trace whose lines were read, where its layout isn't refused.
 pub fn trace_of(alloc: Global, mut progress: Progress) -> Result<Trace, BuildError>
     requires { IsInRange (layout_spec (header_of progress)) }
-    ensures trace { IfOk result (λ trace. (r : Reading) → IsHeld progress.entry r → Tells trace r) }
-    ensures stands { OnOk result (refusal (layout_spec (header_of progress.entry)) ≡ None) }
-    ensures layout { (error : LayoutError) → result ≡ Err (BuildError.Layout error) → refusal (layout_spec (header_of progress.entry)) ≡ Some error }
+    ensures trace { IfOk result (λ trace. (r : Reading) → IsHeld progress r → Tells trace r) }
+    ensures stands { OnOk result (refusal (layout_spec (header_of progress)) ≡ None) }
+    ensures layout { (error : LayoutError) → result ≡ Err (BuildError.Layout error) → refusal (layout_spec (header_of progress)) ≡ Some error }
 {
     let groups = mem::replace(&mut progress.groups, Vec::new(alloc));
     let layout = layout(alloc, progress.unit_pages, progress.atom, groups)?;

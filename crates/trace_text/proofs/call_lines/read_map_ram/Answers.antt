@@ -1,10 +1,9 @@
 use Rattle.std.proofs.Common.{◌≡◌, ◌<◌, ◌≤◌, ℕ, sym, ◌∙◌, codes, true, arith, nat_lt, subst}
-use Rattle.std.proofs.lemmas.Bool.{and_parts, and_from, lt-ltb}
+use Rattle.std.proofs.lemmas.Bool.{lt-ltb}
 use Rattle.std.proofs.lemmas.Bool.Decides.{nat_tests}
 use Rattle.vm_model.specs.declared.calls.Call.TheVariants as call
-use Rattle.trace_text.specs.Grammar.{is_cpu, is_new}
+use Rattle.trace_text.specs.Grammar.{is_cpu}
 use Rattle.trace_text.specs.Reading.{cpus_of}
-use Rattle.trace_text.specs.Held.{has_place}
 use Rattle.trace_text.specs.Lines.{MapRam}
 use Rattle.trace_text.proofs.NamedLines.{map_ram_lines, is_named_text, no_named_text, named_refused, named_stands}
 use Rattle.trace_text.proofs.call_lines.read_map_ram.Goals as goal
@@ -21,17 +20,19 @@ returns-then-from-cpu c = λ r held. named_refused c.args.progress.now r (codes 
     let same : c.from.result ≡ cpus_of r.header = c.from.ensures ∙ c.cpu_count.ensures r held in
     no_cpu c.in-Some.cpu (cpus_of r.header) rules (subst (λ count. count ≤ c.in-Some.cpu) same c.if-from-cpu.true))
 
-pub returns-then-not-has_place_for : goal.returns-then-not-has_place_for
-returns-then-not-has_place_for c = λ r held. named_refused c.args.progress.now r (codes "map_ram") c.args.text.now MapRam call.MapRam (is_cpu r) c.in-Some.name.now c.in-Some.cpu c.in-Some.pages (map_ram_lines r) (is_named_text _ _ _ _ c.in-Some.ensures.some)
-    (λ place new rules.
-    let none = sym (c.has_place_for.ensures.place r held) ∙ c.if-not-has_place_for.true in
-    let both = and_from (has_place r) (is_new r c.in-Some.name.now) place new in
-    cc)
+pub returns-then-not-has_place : goal.returns-then-not-has_place
+returns-then-not-has_place c = λ r held. named_refused c.args.progress.now r (codes "map_ram") c.args.text.now MapRam call.MapRam (is_cpu r) c.in-Some.name.now c.in-Some.cpu c.in-Some.pages (map_ram_lines r) (is_named_text _ _ _ _ c.in-Some.ensures.some)
+    (λ place new rules. let none = sym (c.has_place.ensures.place r held) ∙ c.if-not-has_place.true in cc)
+
+pub returns-then-not-branch : goal.returns-then-not-branch
+returns-then-not-branch c = λ r held. named_refused c.args.progress.now r (codes "map_ram") c.args.text.now MapRam call.MapRam (is_cpu r) c.in-Some.name.now c.in-Some.cpu c.in-Some.pages (map_ram_lines r) (is_named_text _ _ _ _ c.in-Some.ensures.some)
+    (λ place new rules. let none = sym (c.in_ok-add_named_call.ensures.new r held) ∙ c.if-not-branch.true in cc)
 
 pub returns : goal.returns
 returns c = λ r held.
-    let parts = and_parts (has_place r) (is_new r c.in-Some.name.now) (sym (c.has_place_for.ensures.place r held) ∙ c.if-not-has_place_for.false) in
+    let place = sym (c.has_place.ensures.place r held) ∙ c.if-not-has_place.false in
+    let new = sym (c.in_ok-add_named_call.ensures.new r held) ∙ c.if-not-branch.false in
     let same : c.from.result ≡ cpus_of r.header = c.from.ensures ∙ c.cpu_count.ensures r held in
     let cpu : is_cpu r c.in-Some.cpu ≡ true = lt-ltb c.in-Some.cpu (cpus_of r.header) (subst (λ count. c.in-Some.cpu < count) same c.if-from-cpu.false) in
-    named_stands _ r (codes "map_ram") c.args.text.now MapRam call.MapRam (is_cpu r) c.in-Some.name.now c.in-Some.cpu c.in-Some.pages (map_ram_lines r) (is_named_text _ _ _ _ c.in-Some.ensures.some) parts.0 parts.1 cpu
-    (c.in_ok-add_named_call.ensures r held parts.1)
+    named_stands _ r (codes "map_ram") c.args.text.now MapRam call.MapRam (is_cpu r) c.in-Some.name.now c.in-Some.cpu c.in-Some.pages (map_ram_lines r) (is_named_text _ _ _ _ c.in-Some.ensures.some) place new cpu
+    (c.in_ok-add_named_call.ensures.added r held new)
