@@ -1,4 +1,6 @@
 pub mod SectionsMade
+pub mod KeptLawful
+pub mod CallersThere
 pub mod Picks
 pub mod Callers
 pub mod PlainWorlds

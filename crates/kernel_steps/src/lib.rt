@@ -2,5 +2,6 @@
 #![tactic(auto)]
 
 pub mod kernel;
+pub mod laws;
 
 pub use kernel::Kernel;

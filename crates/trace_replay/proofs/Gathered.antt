@@ -2,7 +2,8 @@
 use Rattle.std.proofs.Common.{OnErr, Result, ◌≡◌, ◌≤◌, ◌-◌, ℕ, List, ◌++◌, Option, Some, None, Ok, Err, refl, length, take, drop, sym, ap, ◌∙◌, arith}
 use Rattle.std.proofs.lemmas.List.{append_assoc, take-append-drop, length-drop}
 use Rattle.std.proofs.Math.Seq.{take-append_seam}
-use Rattle.trace_replay.specs.Streams.{Takes, Fills}
+use Rattle.std.specs.Io.KnownBytes.{Keeps, Consumes, Appends}
+use Rattle.trace_replay.specs.Streams.{Gives, Takes, Fills, IsReadInPart}
 
 -- what was left at first is what was gathered, and then what is left now
 pub record HasGathered (first left : Option (List ℕ)) (before now : ℕ) (bytes : List ℕ) : Type 0 where
@@ -22,6 +23,36 @@ pub prefix_sent : (E : Type 0) (e : E) (first taken after : Option (List ℕ)) (
 prefix_sent E e first taken after room before now text rest held takes told is =
     let (front, took, whole) = held.sent told is in
     (length front, takes (told ++ front) took ∙ ap (λ f. Some (told ++ f)) (sym (ap (take (length front)) whole ∙ take-append_seam front rest)))
+
+-- a failed read leaves what was gathered as the part that was read
+pub read_in_part : (E : Type 0) (e : E) (first left after : Option (List ℕ)) (before now : ℕ) (bytes buffer : List ℕ) → HasGathered first left before now bytes
+    → ((rest : List ℕ) → left ≡ Some rest → Gives {E = E} rest after buffer (Err e)) → (told : List ℕ) → first ≡ Some told → IsReadInPart 16777216 told after
+read_in_part E e first left after before now bytes buffer held gives told is =
+    let (rest, there, whole) = held.split told is in
+    record { front = bytes; rest = rest; whole = whole; is_left = gives rest there; within = held.short }
+
+-- what an interrupted call keeps
+pub kept_first : (a : Option (List ℕ)) → Keeps a a
+kept_first None = tt
+kept_first (Some xs) = refl
+
+pub kept_after : (a b c : Option (List ℕ)) → Keeps a b → Keeps b c → Keeps a c
+kept_after None b c k h = tt
+kept_after (Some xs) None c k h = absurd k
+kept_after (Some xs) (Some ys) None k h = absurd h
+kept_after (Some xs) (Some ys) (Some zs) k h = h ∙ k
+
+pub consumes_after : (a b c : Option (List ℕ)) (bs : List ℕ) → Keeps a b → Consumes b c bs → Consumes a c bs
+consumes_after None b c bs k h = tt
+consumes_after (Some xs) None c bs k h = absurd k
+consumes_after (Some xs) (Some ys) None bs k h = absurd h
+consumes_after (Some xs) (Some ys) (Some zs) bs k h = sym k ∙ h
+
+pub appends_after : (a b c : Option (List ℕ)) (bs : List ℕ) → Keeps a b → Appends b c bs → Appends a c bs
+appends_after None b c bs k h = tt
+appends_after (Some xs) None c bs k h = absurd k
+appends_after (Some xs) (Some ys) None bs k h = absurd h
+appends_after (Some xs) (Some ys) (Some zs) bs k h = h ∙ ap (λ l. l ++ bs) k
 
 -- what is left of the text fits in what is left of the room
 fits_still : (E : Type 0) (room left : Option ℕ) (n : ℕ) (rest : List ℕ) → ((some : ℕ) → room ≡ Some some → length rest ≤ some)

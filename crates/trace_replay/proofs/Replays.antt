@@ -13,6 +13,7 @@ use Rattle.vm_model.specs.Tables.{tables_of}
 use Rattle.trace_text.specs.Reading.{Reading, calls_of}
 use Rattle.trace_text.specs.Told.{config_of, all_calls}
 use Rattle.std.proofs.lemmas.List.FromFn.{length-map-range_with_len}
+use Rattle.kernel_steps.proofs.CallersThere.{all_there}
 use Rattle.kernel_steps.specs.Kernels.{KernelState, IsStanding, CanStart, start_of, opening_of, callers_of}
 use Rattle.trace_replay.specs.BuiltReadings.{IsBuilt}
 use Rattle.trace_replay.specs.Headline.{setup, history_of_trace}
@@ -21,39 +22,6 @@ use Rattle.trace_replay.proofs.BuiltSections.{can_start}
 -- a kernel can start on what a trace of the built words tells
 pub starts_on : (config : Config) (sections : List (List Call)) (r : Reading) → IsBuilt r → config ≡ config_of r.header → sections ≡ all_calls r → CanStart (setup_of config) sections
 starts_on config sections r is same all = subst (λ (c : Config). CanStart (setup_of c) sections) (sym same) (subst (CanStart (setup r)) (sym all) (can_start r is))
-
--- How many callers there are.
-
-kept_made : (w : World) (l : Local) (s : Option Section) → length (made_if w l s).locals ≡ length w.locals
-kept_made w l None = refl
-kept_made w l (Some s) = length-set w.locals l.caller (moved_to l (next l.setup l.place s))
-
-kept_step : (w : World) (l : Option Local) → length (step_of w l).locals ≡ length w.locals
-kept_step w None = refl
-kept_step w (Some l) = kept_made w l (section_of w.map l)
-
-kept_by : (w : World) (fuel : ℕ) → ((v : World) → length (finish fuel v).locals ≡ length v.locals) → (o : Option ℕ) → length (elim o as (λ _. World) [ None ↦ w | Some k ↦ finish fuel (step w k) ]).locals ≡ length w.locals
-kept_by w fuel kept None = refl
-kept_by w fuel kept (Some k) = kept (step w k) ∙ kept_step w (slice_get w.locals k)
-
-kept_finish : (fuel : ℕ) (w : World) → length (finish fuel w).locals ≡ length w.locals
-unfolding finish
-kept_finish zero w = refl
-kept_finish (suc fuel) w = kept_by w fuel (kept_finish fuel) (first_mover w)
-
-length-callers_from : (c : Setup) (answers : List Answered) (k : ℕ) (calls : List (List Call)) → length (callers_from c answers k calls) ≡ length calls
-length-callers_from c answers k [] = refl
-length-callers_from c answers k (own ∷ calls) = ap suc (length-callers_from c answers (suc k) calls)
-
-all_there : (c : Setup) (sections : List (List Call)) → length (start_of c sections).locals ≡ 1 + length (callers_of sections)
-all_there c sections =
-    let w : World = finish most_events (opening_world c (opening_of sections) (callers_of sections)) in
-    omega (
-      arith,
-      length-append w.locals (callers_from c (opening_answers w.locals) 1 (callers_of sections)),
-      kept_finish most_events (opening_world c (opening_of sections) (callers_of sections)),
-      length-callers_from c (opening_answers w.locals) 1 (callers_of sections),
-    )
 
 -- each pick is a caller of the kernel that has started
 pub picks_within : (config : Config) (sections : List (List Call)) (picks : List ℕ) (k : KernelState) (r : Reading) → IsBuilt r → sections ≡ all_calls r → picks ≡ r.picks

@@ -7,7 +7,7 @@ use Rattle.trace_text.specs.Built.{is_built}
 use Rattle.report_text.specs.Report.{fault_line}
 use Rattle.trace_text.proofs.Exclusive.{one_trace, trace_or_bad}
 use Rattle.trace_text.proofs.ReadLayouts.{stands_or_refused}
-use Rattle.trace_replay.specs.Streams.{Rose}
+use Rattle.trace_replay.specs.Streams.{RoseByOne}
 use Rattle.trace_replay.specs.declared.answer.Outcome.{Outcome}
 use Rattle.trace_replay.specs.declared.status.Status.{Status}
 use Rattle.trace_replay.specs.declared.status.Status.TheVariants.{Done, BadTrace, BadLayout, Unbuilt, Usage, OutOfMemory, ReadFault, WriteFault, TooLong}
@@ -19,8 +19,8 @@ use Rattle.trace_replay.specs.Headline.{Writes, IsWritten, IsRead, Answers, HasR
 pub too_long_writes : (bytes : List ℕ) (o : Outcome) → o.status ≡ TooLong → o.text ≡ fault_line fault.Length → most_bytes < length bytes → Writes bytes o.status o.text
 too_long_writes bytes o e text long = subst (λ s. Writes bytes s o.text) (sym e) (long, text)
 
-pub too_long_reads : (o : Outcome) (left : Option (List ℕ)) → o.status ≡ TooLong → IsRead o.status left
-too_long_reads o left e = subst (λ s. IsRead s left) (sym e) tt
+pub too_long_reads : (bytes : List ℕ) (o : Outcome) (left : Option (List ℕ)) → o.status ≡ TooLong → IsRead bytes o.status left
+too_long_reads bytes o left e = subst (λ s. IsRead bytes s left) (sym e) tt
 
 -- a status that goes with a text
 
@@ -71,15 +71,15 @@ pub answers : (bytes : List ℕ) (status : Status) (text : List ℕ) (answer : S
 answers bytes status text answer first after b n w (inl told) = subst (Answers bytes) (sym told.0) (answers_whole bytes status text w)
 answers bytes status text answer first after b n w (inr failed) = subst (Answers bytes) (sym failed.0) tt
 
-pub reads : (left : Option (List ℕ)) (status : Status) (text : List ℕ) (answer : Status) (first after : Option (List ℕ)) (b n : ℕ) → IsRead status left → IsTold status text answer first after b n → IsRead answer left
-reads left status text answer first after b n r (inl told) = subst (λ s. IsRead s left) (sym told.0) r
-reads left status text answer first after b n r (inr failed) = subst (λ s. IsRead s left) (sym failed.0) tt
+pub reads : (bytes : List ℕ) (left : Option (List ℕ)) (status : Status) (text : List ℕ) (answer : Status) (first after : Option (List ℕ)) (b n : ℕ) → IsRead bytes status left → IsTold status text answer first after b n → IsRead bytes answer left
+reads bytes left status text answer first after b n r (inl told) = subst (λ s. IsRead bytes s left) (sym told.0) r
+reads bytes left status text answer first after b n r (inr failed) = subst (λ s. IsRead bytes s left) (sym failed.0) tt
 
 pub no_read_fault : (status : Status) (text : List ℕ) (answer : Status) (first after : Option (List ℕ)) (b n : ℕ) → status ≢ ReadFault → IsTold status text answer first after b n → answer ≢ ReadFault
 no_read_fault status text answer first after b n s (inl told) = λ e. s (sym told.0 ∙ e)
 no_read_fault status text answer first after b n s (inr failed) = λ e. let no = failed.0 in cc
 
-pub write_fault : (status : Status) (text : List ℕ) (answer : Status) (first after : Option (List ℕ)) (b n : ℕ) → status ≢ WriteFault → IsTold status text answer first after b n → answer ≡ WriteFault → Rose b n
+pub write_fault : (status : Status) (text : List ℕ) (answer : Status) (first after : Option (List ℕ)) (b n : ℕ) → status ≢ WriteFault → IsTold status text answer first after b n → answer ≡ WriteFault → RoseByOne b n
 write_fault status text answer first after b n s (inl told) = λ e. absurd (s (sym told.0 ∙ e))
 write_fault status text answer first after b n s (inr failed) = λ e. failed.1
 

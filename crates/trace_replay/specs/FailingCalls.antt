@@ -1,7 +1,7 @@
 -- Calls that are counted, and of which those with a listed number fail.
 use Rattle.std.specs.Prelude.{ℕ, ◌+◌, ◌==◌, Bool, List, if◌then◌else◌, min}
 use Rattle.std.specs.List.{list_any}
-use Rattle.trace_replay.specs.Streams.{last_count}
+use Rattle.trace_replay.specs.Streams.{one_more}
 
 pub record Calls : Type 0 where
   -- the numbers, from 1, of the calls that fail
@@ -17,10 +17,6 @@ next_number calls = min (calls.made + 1) 4294967295
 -- whether the next call fails
 abbrev pub next_fails : Calls → Bool
 next_fails calls = list_any (λ (number : ℕ). number == next_number calls) calls.failing
-
--- the count of faults after one more
-abbrev pub one_more : ℕ → ℕ
-one_more faults = min (faults + 1) last_count
 
 -- after the next call
 abbrev pub counted : Calls → Calls

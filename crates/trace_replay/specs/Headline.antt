@@ -1,12 +1,14 @@
 -- What is written for the bytes of a trace: the report of its one history, or the line that tells what is wrong.
-use Rattle.std.specs.Prelude.{◌≡◌, ◌⊎◌, ◌<◌, ◌≤◌, ◌++◌, ℕ, List, [], ◌∷◌, map, take, length, false, codes, Option, Some, None}
+use Rattle.std.specs.Prelude.{◌≡◌, slice_get, ◌⊎◌, ◌<◌, ◌≤◌, ◌++◌, ℕ, List, [], ◌∷◌, map, take, length, false, codes, Option, Some, None}
 use Rattle.std.specs.List.{range_with_len}
 use Rattle.vm_model.specs.declared.calls.Call.{Call}
 use Rattle.vm_model.specs.Setup.{Setup}
 use Rattle.unit_layout.specs.Config.{setup_of}
-use Rattle.vm_model.specs.History.{World, history_of}
+use Rattle.vm_model.specs.History.{World, Local, history_of}
+use Rattle.vm_model.specs.LegalHistory.{IsReached}
 use Rattle.vm_model.specs.Tables.{tables_of}
 use Rattle.vm_model.specs.Laws.{IsOneLegalHistory}
+use Rattle.call_laws.specs.Kept.{KeepsTheLaws}
 use Rattle.report_text.specs.declared.faults.Fault.TheVariants as fault
 use Rattle.trace_text.specs.Reading.{Reading, calls_of, cpus_of}
 use Rattle.trace_text.specs.Told.{config_of, IsRefusedLayout}
@@ -14,7 +16,7 @@ use Rattle.report_text.specs.CounterTotals.{counter_rows}
 use Rattle.trace_text.specs.Grammar.{IsTraceOf}
 use Rattle.trace_text.specs.Built.{is_built, is_waiting, IsBadLine, IsUnbuiltLine}
 use Rattle.report_text.specs.Report.{report, fault_line}
-use Rattle.trace_replay.specs.Streams.{Rose}
+use Rattle.trace_replay.specs.Streams.{RoseByOne, IsReadInPart}
 use Rattle.trace_replay.specs.BuiltReadings.{HasLayout}
 use Rattle.trace_replay.specs.declared.status.Status.{Status}
 use Rattle.trace_replay.specs.declared.status.Status.TheVariants.{Done, BadTrace, BadLayout, Unbuilt, Usage, OutOfMemory, ReadFault, WriteFault, TooLong}
@@ -36,9 +38,13 @@ history_of_trace r = history_of (setup r) (opening_calls r) (own_calls r) r.pick
 abbrev pub report_of : Reading → List ℕ
 report_of r = report (tables_of (setup r) (history_of_trace r)) (counter_rows r.header.counters (cpus_of r.header) r.header.batch r.counts) false
 
--- the history of a trace is one legal history of the plain map, in which every caller ends
-abbrev pub HasLegalHistory : Reading → Type 0
-HasLegalHistory r = IsOneLegalHistory (setup r) (opening_calls r) (own_calls r) r.picks
+-- the history of a trace is one legal history of the plain map, in which every caller ends, so each of its calls is answered; and it keeps the laws of every history, those of its calls and those of its map
+pub record HasLegalHistory (r : Reading) : Type 0 where
+  pub one : IsOneLegalHistory (setup r) (opening_calls r) (own_calls r) r.picks
+  pub answered : (k : ℕ) (l : Local) → slice_get (history_of_trace r).locals k ≡ Some l → length l.answers ≡ length l.calls
+  pub laws : KeepsTheLaws (setup r) (opening_calls r) (own_calls r) (history_of_trace r)
+  -- so do the worlds on the way, and all that other orders of the same calls lead to
+  pub always : (w : World) → IsReached (setup r) (opening_calls r) (own_calls r) w → KeepsTheLaws (setup r) (opening_calls r) (own_calls r) w
 
 -- a run that has ended well wrote the report of this trace
 abbrev pub Reports : Reading → Status → List ℕ → Type 0
@@ -64,13 +70,14 @@ IsWritten bytes OutOfMemory before after = after ≡ Some before
 IsWritten bytes WriteFault before after = (status : Status) × (text : List ℕ) × (n : ℕ) × Writes bytes status text × (after ≡ Some (before ++ take n text))
 IsWritten bytes status before after = (text : List ℕ) × Writes bytes status text × (after ≡ Some (before ++ text))
 
--- whether the whole source was read
-abbrev pub IsRead : Status → Option (List ℕ) → Type 0
-IsRead Done left = left ≡ Some []
-IsRead (BadTrace line) left = left ≡ Some []
-IsRead (BadLayout error) left = left ≡ Some []
-IsRead (Unbuilt line) left = left ≡ Some []
-IsRead _ left = Unit {0}
+-- how far the source was read: to its end, or up to the read that failed, which came before too many bytes
+abbrev pub IsRead : List ℕ → Status → Option (List ℕ) → Type 0
+IsRead bytes Done left = left ≡ Some []
+IsRead bytes (BadTrace line) left = left ≡ Some []
+IsRead bytes (BadLayout error) left = left ≡ Some []
+IsRead bytes (Unbuilt line) left = left ≡ Some []
+IsRead bytes ReadFault left = IsReadInPart most_bytes bytes left
+IsRead bytes _ left = Unit {0}
 
 -- a sink that tells its room has enough for each text that may be written
 abbrev pub HasRoomFor : (left : Option (List ℕ)) (room : Option ℕ) → Type 0
@@ -96,7 +103,7 @@ IsSilent _ = ⊥
 abbrev pub IsTold : (status : Status) (text : List ℕ) (answer : Status) (first after : Option (List ℕ)) (before now : ℕ) → Type 0
 IsTold status text answer first after before now =
     ((answer ≡ status) × ((bytes : List ℕ) → first ≡ Some bytes → after ≡ Some (bytes ++ text)))
-    ⊎ ((answer ≡ WriteFault) × Rose before now × ((bytes : List ℕ) → first ≡ Some bytes → (n : ℕ) × (after ≡ Some (bytes ++ take n text))))
+    ⊎ ((answer ≡ WriteFault) × RoseByOne before now × ((bytes : List ℕ) → first ≡ Some bytes → (n : ℕ) × (after ≡ Some (bytes ++ take n text))))
 
 -- the words of the one command
 abbrev pub ReplayWords : List (List ℕ) → Type 0

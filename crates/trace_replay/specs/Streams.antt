@@ -1,13 +1,17 @@
 -- What a read and a write do to the bytes and the counts that a source and a sink tell.
-use Rattle.std.specs.Prelude.{◌≡◌, ℕ, ◌-◌, ◌<◌, ◌≤◌, ◌⊎◌, List, [], ◌++◌, length, take, drop, Option, Some, Result, Ok, Err}
+use Rattle.std.specs.Prelude.{◌≡◌, ℕ, ◌+◌, ◌-◌, ◌<◌, ◌≤◌, min, List, [], ◌++◌, length, take, drop, Option, Some, Result, Ok, Err}
 
 -- the last value of a count, at which it stays
 abbrev pub last_count : ℕ
 last_count = 18446744073709551615
 
--- a count rose, or stands at its last value
-abbrev pub Rose : ℕ → ℕ → Type 0
-Rose before after = (before < after) ⊎ (after ≡ last_count)
+-- the count after one more
+abbrev pub one_more : ℕ → ℕ
+one_more count = min (count + 1) last_count
+
+-- a count rose by one, or stays at its last value
+abbrev pub RoseByOne : ℕ → ℕ → Type 0
+RoseByOne before after = after ≡ one_more before
 
 -- after a read: the bytes that were left begin with those that it gave, and the others are left
 abbrev pub Gives : {E : Type 0} → List ℕ → Option (List ℕ) → List ℕ → Result ℕ E → Type 0
@@ -27,3 +31,11 @@ Takes bytes taken piece (Err e) = taken ≡ Some bytes
 abbrev pub Fills : {E : Type 0} → ℕ → Option ℕ → Result ℕ E → Type 0
 Fills room left (Ok n) = (n ≤ room) × (left ≡ Some (room - n))
 Fills room left (Err e) = left ≡ Some room
+
+-- a source of these bytes was read in part, by no more than so many of them
+pub record IsReadInPart (most : ℕ) (bytes : List ℕ) (left : Option (List ℕ)) : Type 0 where
+  pub front : List ℕ
+  pub rest : List ℕ
+  pub whole : bytes ≡ front ++ rest
+  pub is_left : left ≡ Some rest
+  pub within : length front ≤ most

@@ -4,7 +4,7 @@ ghost use Rattle.std.specs.Option.{ForSome};
 ghost use Rattle.trace_text.specs.Reading.{Reading};
 ghost use Rattle.trace_text.specs.Grammar.{IsTraceOf};
 ghost use Rattle.trace_text.specs.Built.{is_built};
-ghost use Rattle.trace_replay.specs.Streams.{Rose};
+ghost use Rattle.trace_replay.specs.Streams.{RoseByOne, IsReadInPart};
 ghost use Rattle.trace_replay.specs.BuiltReadings.{HasLayout};
 ghost use Rattle.trace_replay.specs.Headline.{Writes, IsWritten, IsRead, Answers, HasRoomFor, IsTold, ReplayWords, IsRefused, IsSilent, HasRoomForUsage, most_bytes};
 
@@ -26,9 +26,10 @@ pub enum Mode {
 /// The answer to all that a source gives.
 fn outcome_of<S: Source>(alloc: Global, source: &mut S) -> Result<Outcome, Cut>
     ensures writes { IfOk result (λ outcome. (bytes : List ℕ) → S.left source.old ≡ Some bytes → Writes bytes outcome.status outcome.text) }
-    ensures read { IfOk result (λ outcome. (bytes : List ℕ) → S.left source.old ≡ Some bytes → IsRead outcome.status (S.left source.new)) }
+    ensures read { IfOk result (λ outcome. (bytes : List ℕ) → S.left source.old ≡ Some bytes → IsRead bytes outcome.status (S.left source.new)) }
     ensures says { IfOk result (λ outcome. (outcome.status ≢ Status.ReadFault) × (outcome.status ≢ Status.WriteFault) × (outcome.status ≢ Status.OutOfMemory) × (outcome.status ≢ Status.Usage)) }
-    ensures failed { result ≡ Err Cut.Failed → Rose (S.faults source.old) (S.faults source.new) }
+    ensures failed { result ≡ Err Cut.Failed → RoseByOne (S.faults source.old) (S.faults source.new) }
+    ensures in_part { result ≡ Err Cut.Failed → (bytes : List ℕ) → S.left source.old ≡ Some bytes → IsReadInPart most_bytes bytes (S.left source.new) }
     ensures not_cut { result ≢ Err Cut.TooLong }
     ensures no_fault { result ≢ Err Cut.Failed → S.faults source.new ≡ S.faults source.old }
 {
@@ -58,9 +59,9 @@ pub fn replay<S: Source, K: Sink>(alloc: Global, mode: Mode, source: &mut S, sin
     requires { HasRoomFor (S.left source.old) (K.room sink.old) }
     ensures written { (bytes before : List ℕ) → S.left source.old ≡ Some bytes → K.taken sink.old ≡ Some before → IsWritten bytes result before (K.taken sink.new) }
     ensures answers { (bytes : List ℕ) → S.left source.old ≡ Some bytes → Answers bytes result }
-    ensures read { (bytes : List ℕ) → S.left source.old ≡ Some bytes → IsRead result (S.left source.new) }
-    ensures read_fault { result ≡ Status.ReadFault → Rose (S.faults source.old) (S.faults source.new) }
-    ensures write_fault { result ≡ Status.WriteFault → Rose (K.faults sink.old) (K.faults sink.new) }
+    ensures read { (bytes : List ℕ) → S.left source.old ≡ Some bytes → IsRead bytes result (S.left source.new) }
+    ensures read_fault { result ≡ Status.ReadFault → RoseByOne (S.faults source.old) (S.faults source.new) }
+    ensures write_fault { result ≡ Status.WriteFault → RoseByOne (K.faults sink.old) (K.faults sink.new) }
 
     // A read or a write that fails ends the command.
     ensures failed_read { result ≢ Status.ReadFault → S.faults source.new ≡ S.faults source.old }
@@ -70,7 +71,7 @@ pub fn replay<S: Source, K: Sink>(alloc: Global, mode: Mode, source: &mut S, sin
 
     // A trace of the built words that is short enough, whose layout stands, and no fault.
     ensures complete { (bytes : List ℕ) (reading : Reading) → S.left source.old ≡ Some bytes → length bytes ≤ most_bytes → IsTraceOf is_built bytes reading → HasLayout reading
-        → ¬ Rose (S.faults source.old) (S.faults source.new) → ¬ Rose (K.faults sink.old) (K.faults sink.new) → (result ≡ Status.Done) ⊎ (result ≡ Status.OutOfMemory) }
+        → ¬ RoseByOne (S.faults source.old) (S.faults source.new) → ¬ RoseByOne (K.faults sink.old) (K.faults sink.new) → (result ≡ Status.Done) ⊎ (result ≡ Status.OutOfMemory) }
 {
     match mode {
         Mode::Replay => match outcome_of(alloc, source) {
@@ -97,7 +98,7 @@ fn refuse<K: Sink>(alloc: Global, sink: &mut K) -> Status
     ensures written { (before : List ℕ) → K.taken sink.old ≡ Some before → IsRefused result before (K.taken sink.new) }
     ensures refusal { (result ≡ Status.Usage) ⊎ ((result ≡ Status.OutOfMemory) ⊎ (result ≡ Status.WriteFault)) }
     ensures silent { IsSilent result → K.taken sink.new ≡ K.taken sink.old }
-    ensures write_fault { result ≡ Status.WriteFault → Rose (K.faults sink.old) (K.faults sink.new) }
+    ensures write_fault { result ≡ Status.WriteFault → RoseByOne (K.faults sink.old) (K.faults sink.new) }
     ensures failed_write { result ≢ Status.WriteFault → K.faults sink.new ≡ K.faults sink.old }
 {
     match usage(alloc) {
@@ -127,7 +128,7 @@ pub fn run<S: Source, K: Sink>(
     // The words are those of `replay`: as there.
     ensures written { ReplayWords (map string_bytes words.now) → (bytes before : List ℕ) → S.left source.old ≡ Some bytes → K.taken sink.old ≡ Some before → IsWritten bytes result before (K.taken sink.new) }
     ensures answers { ReplayWords (map string_bytes words.now) → (bytes : List ℕ) → S.left source.old ≡ Some bytes → Answers bytes result }
-    ensures read { (bytes : List ℕ) → S.left source.old ≡ Some bytes → IsRead result (S.left source.new) }
+    ensures read { (bytes : List ℕ) → S.left source.old ≡ Some bytes → IsRead bytes result (S.left source.new) }
 
     // They are not: nothing is read.
     ensures refused { ¬ ReplayWords (map string_bytes words.now) → (before : List ℕ) → K.taken sink.old ≡ Some before → IsRefused result before (K.taken sink.new) }
@@ -137,9 +138,9 @@ pub fn run<S: Source, K: Sink>(
     ensures usage { result ≡ Status.Usage → ¬ ReplayWords (map string_bytes words.now) }
     ensures silent { IsSilent result → K.taken sink.new ≡ K.taken sink.old }
     ensures complete { ReplayWords (map string_bytes words.now) → (bytes : List ℕ) (reading : Reading) → S.left source.old ≡ Some bytes → length bytes ≤ most_bytes → IsTraceOf is_built bytes reading → HasLayout reading
-        → ¬ Rose (S.faults source.old) (S.faults source.new) → ¬ Rose (K.faults sink.old) (K.faults sink.new) → (result ≡ Status.Done) ⊎ (result ≡ Status.OutOfMemory) }
-    ensures read_fault { result ≡ Status.ReadFault → Rose (S.faults source.old) (S.faults source.new) }
-    ensures write_fault { result ≡ Status.WriteFault → Rose (K.faults sink.old) (K.faults sink.new) }
+        → ¬ RoseByOne (S.faults source.old) (S.faults source.new) → ¬ RoseByOne (K.faults sink.old) (K.faults sink.new) → (result ≡ Status.Done) ⊎ (result ≡ Status.OutOfMemory) }
+    ensures read_fault { result ≡ Status.ReadFault → RoseByOne (S.faults source.old) (S.faults source.new) }
+    ensures write_fault { result ≡ Status.WriteFault → RoseByOne (K.faults sink.old) (K.faults sink.new) }
     ensures failed_read { result ≢ Status.ReadFault → S.faults source.new ≡ S.faults source.old }
     ensures failed_write { result ≢ Status.WriteFault → K.faults sink.new ≡ K.faults sink.old }
 {

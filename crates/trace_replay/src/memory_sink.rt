@@ -1,6 +1,6 @@
 //! A sink over memory whose writes are short and may fail.
 ghost use Rattle.std.specs.Prelude.{◌≡◌, ◌≤◌, ◌<◌, ◌↔◌, [], Some, IfOk, OnOk, OnErr, IsErr, IsTrue, length};
-ghost use Rattle.trace_replay.specs.Streams.{Rose, Takes, Fills};
+ghost use Rattle.trace_replay.specs.Streams.{RoseByOne, Takes, Fills};
 ghost use Rattle.trace_replay.specs.FailingCalls.{counted, next_fails};
 ghost use Rattle.trace_replay.specs.MemoryStreams.{next_taken};
 
@@ -48,6 +48,7 @@ impl MemorySink {
     /// Makes room for so many bytes more.
     pub fn reserve(&mut self, bytes: usize) -> Result<(), AllocError>
         ensures ok { OnOk result (bytes ≤ self.new.room) }
+        ensures kept { self.old.room ≤ self.new.room }
         ensures err { OnErr result (self.new ≡ self.old) }
         ensures same { self.new ≡ record self.old { room = self.new.room } }
     {
@@ -75,7 +76,7 @@ impl Sink for MemorySink {
         ensures takes { Takes self.old.taken (Some self.new.taken) piece.now result }
         ensures fills { Fills self.old.room (Some self.new.room) result }
         ensures never_falls { self.old.calls.faults ≤ self.new.calls.faults }
-        ensures failed { OnErr result (Rose self.old.calls.faults self.new.calls.faults) }
+        ensures failed { OnErr result (RoseByOne self.old.calls.faults self.new.calls.faults) }
         ensures no_fault { OnOk result (self.new.calls.faults ≡ self.old.calls.faults) }
         ensures fails { IsErr result ↔ IsTrue (next_fails self.old.calls) }
         ensures calls { self.new.calls ≡ counted self.old.calls }

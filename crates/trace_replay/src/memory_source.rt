@@ -1,6 +1,6 @@
 //! A source over memory whose reads are short and may fail.
 ghost use Rattle.std.specs.Prelude.{◌≡◌, ◌≤◌, ◌↔◌, Some, IfOk, OnOk, OnErr, IsErr, IsTrue, length};
-ghost use Rattle.trace_replay.specs.Streams.{Rose, Gives, IsEndAt};
+ghost use Rattle.trace_replay.specs.Streams.{RoseByOne, Gives, IsEndAt};
 ghost use Rattle.trace_replay.specs.FailingCalls.{counted, next_fails};
 ghost use Rattle.trace_replay.specs.MemoryStreams.{next_given};
 
@@ -60,7 +60,7 @@ impl Source for MemorySource {
         ensures gives { Gives self.old.left (Some self.new.left) into.new result }
         ensures end { IsEndAt self.old.left into.new result }
         ensures never_falls { self.old.calls.faults ≤ self.new.calls.faults }
-        ensures failed { OnErr result (Rose self.old.calls.faults self.new.calls.faults) }
+        ensures failed { OnErr result (RoseByOne self.old.calls.faults self.new.calls.faults) }
         ensures no_fault { OnOk result (self.new.calls.faults ≡ self.old.calls.faults) }
         ensures fails { IsErr result ↔ IsTrue (next_fails self.old.calls) }
         ensures calls { self.new.calls ≡ counted self.old.calls }

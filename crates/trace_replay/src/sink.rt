@@ -1,7 +1,8 @@
 //! Where the text of an answer goes.
-ghost use Rattle.std.specs.Prelude.{◌≡◌, ◌<◌, ◌≤◌, ◌-◌, ℕ, List, Option, Some, None, length, vec_len, vec_capacity, min, take, IfOk, OnOk, OnErr, IfSome, [], ◌++◌};
+ghost use Rattle.std.specs.Prelude.{◌≡◌, ◌<◌, ◌≤◌, ◌-◌, ℕ, List, Option, Some, None, length, vec_len, vec_capacity, min, take, IfOk, OnOk, OnErr, IfSome, IsNone, [], ◌++◌};
 ghost use Rattle.std.specs.Option.{ForSome};
-ghost use Rattle.trace_replay.specs.Streams.{Rose, Takes, Fills};
+ghost use Rattle.std.specs.Io.KnownBytes.{Appends, Keeps};
+ghost use Rattle.trace_replay.specs.Streams.{RoseByOne, Takes, Fills};
 ghost use Rattle.trace_replay.specs.Held.{Held};
 
 use crate::source::Failed;
@@ -29,7 +30,7 @@ pub trait Sink {
         ensures fills { (left : ℕ) → room self.old ≡ Some left → Fills left (room self.new) result }
         ensures no_room { room self.old ≡ None → room self.new ≡ None }
         ensures never_falls { faults self.old ≤ faults self.new }
-        ensures failed { OnErr result (Rose (faults self.old) (faults self.new)) }
+        ensures failed { OnErr result (RoseByOne (faults self.old) (faults self.new)) }
         ensures no_fault { OnOk result (faults self.new ≡ faults self.old) };
 }
 
@@ -66,6 +67,7 @@ impl SteadySink {
     pub fn reserve(&mut self, bytes: usize) -> Result<(), AllocError>
         ensures taken { self.new.taken ≡ self.old.taken }
         ensures ok { OnOk result (bytes ≤ self.new.room) }
+        ensures kept { self.old.room ≤ self.new.room }
         ensures err { OnErr result (self.new ≡ self.old) }
     {
         self.bytes.reserve(bytes)?;
@@ -110,9 +112,12 @@ impl Sink for SteadySink {
 }
 
 /// One write of a writer, tried again where a signal interrupts it. `None` where it fails, or takes nothing of a piece.
+#[tactic(auto, using(crate::proofs::Gathered::kept_first, crate::proofs::Gathered::kept_after, crate::proofs::Gathered::appends_after))]
 fn write_retrying<W: Write>(writer: &mut W, piece: &[u8]) -> Option<usize>
     ensures within { IfSome result (λ count. count ≤ length piece.now) }
     ensures some { 0 < length piece.now → IfSome result (λ count. 0 < count) }
+    ensures took { IfSome result (λ count. Appends (W.contents writer.old) (W.contents writer.new) (take count piece.now)) }
+    ensures failed { IsNone result → Keeps (W.contents writer.old) (W.contents writer.new) }
 {
     for _ in 0..u64::MAX {
         match writer.write(piece) {
@@ -134,7 +139,10 @@ pub struct StreamSink<W> {
 
 impl<W: Write> StreamSink<W> {
     /// A sink that has had no fault yet. It takes no memory.
-    pub fn new(writer: W) -> StreamSink<W> {
+    pub fn new(writer: W) -> StreamSink<W>
+        ensures writer { result.writer ≡ writer }
+        ensures faults { result.faults ≡ 0 }
+    {
         StreamSink { writer, faults: 0 }
     }
 

@@ -1,6 +1,7 @@
 //! Where the bytes of a trace come from.
-ghost use Rattle.std.specs.Prelude.{◌≡◌, ◌<◌, ◌≤◌, ℕ, List, Option, Some, None, length, min, take, drop, IfOk, OnOk, OnErr, IfSome};
-ghost use Rattle.trace_replay.specs.Streams.{Rose, Gives, IsEndAt};
+ghost use Rattle.std.specs.Prelude.{◌≡◌, ◌<◌, ◌≤◌, ℕ, List, Option, Some, None, length, min, take, drop, IfOk, OnOk, OnErr, IfSome, IsNone};
+ghost use Rattle.trace_replay.specs.Streams.{RoseByOne, Gives, IsEndAt};
+ghost use Rattle.std.specs.Io.KnownBytes.{Consumes, IsAtEnd, Keeps};
 
 use std::alloc::{AllocError, Global};
 use std::io::{ErrorKind, Read};
@@ -24,7 +25,7 @@ pub trait Source {
         ensures gives { (bytes : List ℕ) → left self.old ≡ Some bytes → Gives bytes (left self.new) into.new result }
         ensures end { (bytes : List ℕ) → left self.old ≡ Some bytes → IsEndAt bytes into.new result }
         ensures never_falls { faults self.old ≤ faults self.new }
-        ensures failed { OnErr result (Rose (faults self.old) (faults self.new)) }
+        ensures failed { OnErr result (RoseByOne (faults self.old) (faults self.new)) }
         ensures no_fault { OnOk result (faults self.new ≡ faults self.old) };
 }
 
@@ -77,8 +78,12 @@ impl Source for SteadySource {
 }
 
 /// One read of a reader, tried again where a signal interrupts it. `None` where it fails.
+#[tactic(auto, using(crate::proofs::Gathered::kept_first, crate::proofs::Gathered::kept_after, crate::proofs::Gathered::consumes_after))]
 fn read_retrying<R: Read>(reader: &mut R, into: &mut [u8]) -> Option<usize>
-    ensures { IfSome result (λ count. count ≤ length into.new) }
+    ensures within { IfSome result (λ count. count ≤ length into.new) }
+    ensures gave { IfSome result (λ count. Consumes (R.remaining reader.old) (R.remaining reader.new) (take count into.new)) }
+    ensures end { IfSome result (λ count. count ≡ 0 → 0 < length into.new → IsAtEnd (R.remaining reader.new)) }
+    ensures failed { IsNone result → Keeps (R.remaining reader.old) (R.remaining reader.new) }
 {
     for _ in 0..u64::MAX {
         match reader.read(into) {
@@ -100,7 +105,10 @@ pub struct StreamSource<R> {
 
 impl<R: Read> StreamSource<R> {
     /// A source that has had no fault yet. It takes no memory.
-    pub fn new(reader: R) -> StreamSource<R> {
+    pub fn new(reader: R) -> StreamSource<R>
+        ensures reader { result.reader ≡ reader }
+        ensures faults { result.faults ≡ 0 }
+    {
         StreamSource { reader, faults: 0 }
     }
 }

@@ -14,7 +14,7 @@ returns-in-Ok g c =
     record {
       written = λ bytes taken told is. written bytes taken c.in-Ok.outcome.status c.in-Ok.outcome.text c.tell.result first after before now (c.in-Ok.ensures.writes bytes told) c.tell.ensures.told is;
       answers = λ bytes told. answers bytes c.in-Ok.outcome.status c.in-Ok.outcome.text c.tell.result first after before now (c.in-Ok.ensures.writes bytes told) c.tell.ensures.told;
-      read = λ bytes told. reads (g.S.Source.left c.outcome_of.new.source) c.in-Ok.outcome.status c.in-Ok.outcome.text c.tell.result first after before now (c.in-Ok.ensures.read bytes told) c.tell.ensures.told;
+      read = λ bytes told. reads bytes (g.S.Source.left c.outcome_of.new.source) c.in-Ok.outcome.status c.in-Ok.outcome.text c.tell.result first after before now (c.in-Ok.ensures.read bytes told) c.tell.ensures.told;
       read_fault = λ e. absurd (no_read_fault c.in-Ok.outcome.status c.in-Ok.outcome.text c.tell.result first after before now says.0 c.tell.ensures.told e);
       write_fault = write_fault c.in-Ok.outcome.status c.in-Ok.outcome.text c.tell.result first after before now says.1 c.tell.ensures.told;
       silent = λ silent. absurd (not_silent c.in-Ok.outcome.status c.in-Ok.outcome.text c.tell.result first after before now says.0 says.2 c.tell.ensures.told silent);
