@@ -5,3 +5,4 @@ pub mod FirstFits
 pub mod TakenBits
 pub mod ObjectLists
 pub mod Objects
+pub mod ObjectsFrom

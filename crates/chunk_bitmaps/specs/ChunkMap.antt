@@ -1,5 +1,5 @@
 -- The bits of a chunk: how many there are, and the objects, each with its bits.
-use Rattle.std.specs.Prelude.{◌≡◌, ℕ, suc, ◌+◌, ◌-◌, ◌≤◌, Bool, true, not, ◌&&◌, ◌==◌, List, [], length, map, filter, find, drop, Option, option_map}
+use Rattle.std.specs.Prelude.{◌≡◌, ℕ, suc, ◌+◌, ◌-◌, ◌≤◌, Bool, true, not, ◌&&◌, ◌==◌, nat_le, List, [], length, map, filter, find, drop, Option, option_map}
 use Rattle.vm_model.specs.declared.areas.Span.{Span}
 use Rattle.vm_model.specs.Space.{span, count_from, put_by, taken_by, fits}
 use Rattle.vm_model.specs.Bits.{leading_free}
@@ -28,6 +28,10 @@ without_object_at at m = record m { objects = filter (λ (s : Span). not (s.star
 -- how many bits the object has that begins at the place
 abbrev pub object_bits_at : (at : ℕ) → ChunkMap → Option ℕ
 object_bits_at at m = option_map (λ (s : Span). s.pages) (find (λ (s : Span). s.start == at) m.objects)
+
+-- the objects that begin at a place or behind it
+abbrev pub objects_from : (from : ℕ) → ChunkMap → List Span
+objects_from from m = filter (λ (s : Span). nat_le from s.start) m.objects
 
 -- the lowest fit at or after a place
 abbrev pub first_fit : List Bool → (from bits align : ℕ) → Option ℕ

@@ -1,14 +1,15 @@
 //! The allocation map and the boundary map of a chunk, as `mm/percpu.c` keeps them: `alloc_map` and `bound_map` of
 //! `struct pcpu_chunk`.
-ghost use Rattle.std.specs.Prelude.{◌≡◌, true, false, ◌↔◌, ◌+◌, ◌-◌, ◌*◌, ◌^◌, ◌<◌, ◌≤◌, ℕ, Option, Some, IfOk, IfSome, OnSome, IfNone, IsTrue, MatchOption, length, take, drop, []};
+ghost use Rattle.std.specs.Prelude.{◌≡◌, true, false, ◌↔◌, ◌+◌, ◌-◌, ◌*◌, ◌^◌, ◌<◌, ◌≤◌, ℕ, Option, Some, IfOk, IfSome, OnSome, IfNone, IsTrue, MatchOption, length, take, drop, [], ◌∷◌};
 ghost use Rattle.vm_model.specs.Space.{span, holds, paint, begins_free};
 ghost use Rattle.vm_model.specs.Bits.{leading_free};
 ghost use Rattle.chunk_bitmaps.specs.Bitmap.{IsNextBit};
-ghost use Rattle.chunk_bitmaps.specs.ChunkMap.{ChunkMap, empty_chunk, taken_bits, with_object_at, without_object_at, object_bits_at, first_fit, begins};
+ghost use Rattle.chunk_bitmaps.specs.ChunkMap.{ChunkMap, empty_chunk, taken_bits, with_object_at, without_object_at, object_bits_at, objects_from, first_fit, begins};
 
 use crate::bitmap::Bitmap;
 use std::alloc::{AllocError, Global};
 use std::marker::Model;
+use vm_model::Span;
 
 /// How many bits stand for a page of 4,096 bytes, 4 bytes each: the kernel's `PCPU_BITMAP_BLOCK_BITS`.
 pub const BLOCK_BITS: u32 = 1024;
@@ -135,6 +136,27 @@ impl ChunkBits {
             return None;
         }
         Some(self.bounds.find_next(true, at + 1, self.taken.len()) - at)
+    }
+
+    /// The first object that begins at a place or behind it, by its bits. It takes no memory.
+    pub fn next_object(&self, from: u32) -> Option<Span>
+        requires { from ≤ self.now.bits }
+        ensures next { MatchOption result (objects_from from self.now ≡ []) (λ s. objects_from from self.now ≡ s ∷ objects_from (s.start + s.pages) self.now) }
+        ensures within { IfSome result (λ s. (1 ≤ s.pages) × (from ≤ s.start) × (s.start + s.pages ≤ self.now.bits)) }
+    {
+        let len = self.taken.len();
+        let mut place = self.taken.find_next(true, from, len);
+        while place < len {
+            if begins_at(&self.taken, &self.bounds, place) {
+                let end = self.bounds.find_next(true, place + 1, len);
+                return Some(Span {
+                    start: place,
+                    pages: end - place,
+                });
+            }
+            place = self.taken.find_next(true, place + 1, len);
+        }
+        None
     }
 
     /// Takes so many free bits from a place on for an object: `pcpu_alloc_area` in the maps. It takes no memory.

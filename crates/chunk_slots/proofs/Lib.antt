@@ -15,3 +15,4 @@ pub mod Sides
 pub mod Placing
 pub mod InSlots
 pub mod NewChunks
+pub mod LiveRows

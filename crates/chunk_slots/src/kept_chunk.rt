@@ -1,9 +1,9 @@
 //! A chunk as its side keeps it.
-ghost use Rattle.std.specs.Prelude.{◌≡◌, ◌+◌, ◌-◌, ◌*◌, ◌/◌, ◌<◌, ◌≤◌, ◌^◌, ◌&&◌, not, if◌then◌else◌, ℕ, Some, IfOk, IfSome, IfNone, length, filter};
+ghost use Rattle.std.specs.Prelude.{◌≡◌, ◌+◌, ◌-◌, ◌*◌, ◌/◌, ◌<◌, ◌≤◌, ◌^◌, ◌&&◌, not, if◌then◌else◌, ℕ, Some, IfOk, IfSome, IfNone, length, filter, MatchOption, [], ◌∷◌};
 ghost use Rattle.vm_model.specs.Space.{lowest, count_from, is_among};
 ghost use Rattle.vm_model.specs.Bits.{slot_of, hint_of, block_bits, free_count};
 ghost use Rattle.vm_model.specs.Frames.{pages_of_bytes};
-ghost use Rattle.chunk_bitmaps.specs.ChunkMap.{taken_bits, object_bits_at, with_object_at};
+ghost use Rattle.chunk_bitmaps.specs.ChunkMap.{taken_bits, object_bits_at, with_object_at, objects_from};
 ghost use Rattle.vm_model.specs.PageSets.{has_page};
 ghost use Rattle.block_hints.specs.Populated.{blocked_bits};
 ghost use Rattle.chunk_slots.specs.KeptChunks.{KeptRow, fresh_row, taken_for, slot_in, empty_in, row_of, bytes_at, with_bits, without_bits, with_pages, has_populated, populated_in, pages_as, page_is_free};
@@ -15,7 +15,7 @@ use block_hints::HintedChunk;
 use chunk_bitmaps::{BLOCK_BITS, ChunkBits};
 use std::alloc::{AllocError, Global};
 use std::marker::Model;
-use vm_model::{ChunkRow, Hint, PageSet};
+use vm_model::{ChunkRow, Hint, PageSet, Span};
 
 /// The bytes of a page.
 const PAGE_BYTES: u32 = 4096;
@@ -248,6 +248,17 @@ impl KeptChunk {
         }
         let bits = self.bits.bits().object_at(off / 4)?;
         Some(4 * bits)
+    }
+
+    /// The first object that begins at a bit or behind it, by its bits.
+    pub(crate) fn next_object(&self, from: u32) -> Option<Span>
+        requires { from ≤ self.now.bits.bits }
+        ensures next { MatchOption result (objects_from from self.now.bits ≡ []) (λ s. objects_from from self.now.bits ≡ s ∷ objects_from (s.start + s.pages) self.now.bits) }
+        ensures within { IfSome result (λ s. (1 ≤ s.pages) × (from ≤ s.start) × (s.start + s.pages ≤ self.now.bits.bits)) }
+        ensures few { self.now.bits.bits ≤ 65536 }
+    {
+        let _few = self.pages;
+        self.bits.bits().next_object(from)
     }
 
     /// Pages become populated: `pcpu_chunk_populated`.

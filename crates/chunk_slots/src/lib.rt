@@ -10,6 +10,7 @@
 
 mod holders;
 mod kept_chunk;
+mod object_rows;
 mod pcpu_side;
 mod placed;
 mod rising;

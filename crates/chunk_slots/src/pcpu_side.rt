@@ -7,7 +7,9 @@ ghost use Rattle.vm_model.specs.Frames.{pages_of_bytes};
 ghost use Rattle.chunk_slots.specs.Rising.{index_by};
 ghost use Rattle.chunk_slots.specs.KeptChunks.{has_populated};
 ghost use Rattle.vm_model.specs.PageSets.{pages_in};
-ghost use Rattle.chunk_slots.specs.ChunkRegion.{ChunkRegion, setup_of, empty_region, at_of, told_of, place_for, with_placed, with_new_chunk, with_settled, without_placed, with_populated, without_chunk, IsHeld, CanPopulate, IsWhollyFree, live_bytes, at_offset, chunk_table, object_table, numbers_in_slot};
+ghost use Rattle.chunk_slots.specs.ChunkRegion.{ChunkRegion, setup_of, empty_region, at_of, told_of, place_for, with_placed, with_new_chunk, with_settled, without_placed, with_populated, without_chunk, IsHeld, CanPopulate, IsWhollyFree, live_bytes, at_offset, chunk_table, numbers_in_slot};
+
+mod live_objects;
 
 use crate::holders::{Holder, Holders};
 use crate::kept_chunk::KeptChunk;
@@ -17,7 +19,7 @@ use crate::sizes::slot_for as slot_for_size;
 use crate::slots::{InSlot, key_in_slot, nth_in_slot, relocate, take_fit};
 use std::alloc::{AllocError, Global};
 use std::marker::Model;
-use vm_model::{ChunkRow, Hint, ObjectRow, PageSet};
+use vm_model::{ChunkRow, Hint, PageSet};
 
 /// The per-CPU chunks by number and by slot, as the kernel's `pcpu_chunk_lists`, and the objects by chunk and offset.
 #[derive(Drop)]

@@ -1,5 +1,4 @@
-use Rattle.std.proofs.Common.{◌≡◌, ◌≤◌, suc, ◌+◌, ◌-◌, ◌∙◌, ◌&&◌, Some, true, false, length, ap, sym, arith, subst}
-use Rattle.vm_model.specs.Bits.{value_at}
+use Rattle.std.proofs.Common.{◌≡◌, suc, ◌+◌, ◌-◌, ◌∙◌, Some, true, false, length, ap, sym, arith, subst}
 use Rattle.chunk_bitmaps.specs.Bitmap.{IsNextBit}
 use Rattle.chunk_bitmaps.specs.ChunkMap.{up_to_next, begins}
 use Rattle.chunk_bitmaps.proofs.TakenBits.{bits_are}

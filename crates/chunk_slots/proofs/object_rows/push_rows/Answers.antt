@@ -1,0 +1,10 @@
+use Rattle.std.proofs.Common.{◌++◌, ap, arith}
+use Rattle.chunk_slots.specs.KeptObjects.{holder_in}
+use Rattle.chunk_slots.proofs.LiveRows.{live_from_first}
+use Rattle.chunk_slots.proofs.object_rows.push_rows.Goals as goal
+
+pub loop-span-init : goal.loop-span-init
+loop-span-init c = record {
+  within = omega arith;
+  rest = ap (λ rows. c.args.rows.now.items ++ rows) (live_from_first (holder_in c.args.holders.now) c.args.chunk.now);
+}
