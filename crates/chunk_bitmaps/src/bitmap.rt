@@ -13,7 +13,7 @@ const WORD: u32 = 64;
 
 /// Bits in words, bit `p` by the weight 2 ^ (p % 64) of word `p / 64`.
 #[derive(Drop)]
-pub(crate) struct Bitmap {
+pub struct Bitmap {
     words: Vec<u64>,
     bits: u32,
 }
@@ -48,7 +48,7 @@ fn mask_of(low: u32, count: u32) -> u64
 
 impl Bitmap {
     /// So many bits, all clear.
-    pub(crate) fn clear(alloc: Global, bits: u32) -> Result<Bitmap, AllocError>
+    pub fn clear(alloc: Global, bits: u32) -> Result<Bitmap, AllocError>
         requires { bits ≤ 2 ^ 31 }
         ensures { IfOk result (λ bitmap. bitmap ≡ replicate bits false) }
     {
@@ -57,7 +57,7 @@ impl Bitmap {
     }
 
     /// How many bits there are.
-    pub(crate) fn len(&self) -> u32
+    pub fn len(&self) -> u32
         ensures len { result ≡ length self.now }
         ensures small { result ≤ 2 ^ 31 }
     {
@@ -65,7 +65,7 @@ impl Bitmap {
     }
 
     /// Whether the bit is set: `test_bit`.
-    pub(crate) fn contains(&self, place: u32) -> bool
+    pub fn contains(&self, place: u32) -> bool
         requires { place < length self.now }
         ensures { result ≡ value_at self.now place }
     {
@@ -84,7 +84,7 @@ impl Bitmap {
 
     /// The first bit with the value from a place on and before the end, or the end: `find_next_bit` and
     /// `find_next_zero_bit`.
-    pub(crate) fn find_next(&self, value: bool, from: u32, end: u32) -> u32
+    pub fn find_next(&self, value: bool, from: u32, end: u32) -> u32
         requires order { from ≤ end }
         requires within { end ≤ length self.now }
         ensures { IsNextBit self.now value from end result }
@@ -102,7 +102,7 @@ impl Bitmap {
     }
 
     /// Sets or clears so many bits from a place on: `bitmap_set` and `bitmap_clear`.
-    pub(crate) fn fill(&mut self, start: u32, bits: u32, value: bool)
+    pub fn fill(&mut self, start: u32, bits: u32, value: bool)
         requires { start + bits ≤ length self.old }
         ensures { self.new ≡ paint (holds (span start bits)) value self.old }
     {

@@ -6,39 +6,6 @@ use Rattle.vm_model.specs.Space.{span, holds, paint_from, paint}
 use Rattle.vm_model.proofs.Paint.{length-paint_from}
 use Rattle.page_pool.specs.Words.{with_unwritten}
 
--- One cell is written.
-
-set_in_front : (xs ys : List ℤ) (k : ℕ) (x : ℤ) → k < length xs → slice_set xs k x ++ ys ≡ slice_set (xs ++ ys) k x
-set_in_front [] ys k x h = absurd (omega arith)
-set_in_front (y ∷ xs) ys zero x h = refl
-set_in_front (y ∷ xs) ys (suc k) x h = ap (λ zs. y ∷ zs) (set_in_front xs ys k x (omega arith))
-
-pub written_before : (written : List ℤ) (frames cell : ℕ) (word : ℤ) → cell < length written → with_unwritten (slice_set written cell word) frames ≡ slice_set (with_unwritten written frames) cell word
-written_before written frames cell word h =
-    ap (λ n. slice_set written cell word ++ replicate (1024 * frames - n) (pos 0)) (length-set written cell word) ∙ set_in_front written (replicate (1024 * frames - length written) (pos 0)) cell word h
-
-set_in_zeros : (gap rest : ℕ) (word : ℤ) → (replicate gap (pos 0) ++ word ∷ []) ++ replicate rest (pos 0) ≡ slice_set (replicate (gap + suc rest) (pos 0)) gap word
-set_in_zeros zero rest word = ap (λ n. slice_set (replicate n (pos 0)) 0 word) (let e : suc rest ≡ 0 + suc rest = omega arith in e)
-set_in_zeros (suc gap) rest word =
-    ap (λ zs. pos 0 ∷ zs) (set_in_zeros gap rest word) ∙ ap (λ n. slice_set (replicate n (pos 0)) (suc gap) word) (let e : suc (gap + suc rest) ≡ suc gap + suc rest = omega arith in e)
-
-set_behind : (xs : List ℤ) (gap rest : ℕ) (word : ℤ) → ((xs ++ replicate gap (pos 0)) ++ word ∷ []) ++ replicate rest (pos 0) ≡ slice_set (xs ++ replicate (gap + suc rest) (pos 0)) (length xs + gap) word
-set_behind [] gap rest word = set_in_zeros gap rest word ∙ ap (λ k. slice_set (replicate (gap + suc rest) (pos 0)) k word) (let e : gap ≡ 0 + gap = omega arith in e)
-set_behind (x ∷ xs) gap rest word =
-    ap (λ zs. x ∷ zs) (set_behind xs gap rest word) ∙ ap (λ k. slice_set ((x ∷ xs) ++ replicate (gap + suc rest) (pos 0)) k word) (let e : suc (length xs + gap) ≡ suc (length xs) + gap = omega arith in e)
-
-pub written_behind : (written : List ℤ) (frames cell : ℕ) (word : ℤ) → length written ≤ cell → cell < 1024 * frames
-    → with_unwritten ((written ++ replicate (cell - length written) (pos 0)) ++ word ∷ []) frames ≡ slice_set (with_unwritten written frames) cell word
-written_behind written frames cell word from to =
-    let gap = cell - length written in
-    let rest = 1024 * frames - suc cell in
-    let long : length ((written ++ replicate gap (pos 0)) ++ word ∷ []) ≡ suc cell =
-    omega (arith, length-append (written ++ replicate gap (pos 0)) (word ∷ []), length-append written (replicate gap (pos 0)), length-replicate gap (pos 0)) in
-    ap (λ n. ((written ++ replicate gap (pos 0)) ++ word ∷ []) ++ replicate (1024 * frames - n) (pos 0)) long
-    ∙ set_behind written gap rest word
-    ∙ ap (λ n. slice_set (written ++ replicate n (pos 0)) (length written + gap) word) (let e : gap + suc rest ≡ 1024 * frames - length written = omega arith in e)
-    ∙ ap (λ k. slice_set (with_unwritten written frames) k word) (let e : length written + gap ≡ cell = omega arith in e)
-
 -- Some cells are cleared.
 
 paint_from-append : (t : ℕ → Bool) (x : ℤ) (ys zs : List ℤ) (p : ℕ) → paint_from p t x (ys ++ zs) ≡ paint_from p t x ys ++ paint_from (p + length ys) t x zs

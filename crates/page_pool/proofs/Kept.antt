@@ -11,7 +11,6 @@ use Rattle.vm_model.proofs.Search.{length-count_from}
 use Rattle.vm_model.proofs.FramesGiven.{unmapped_in_order, length-give_frames, count-give_frames, free_frames-at_first, count_mapped-at_first}
 use Rattle.vm_model.proofs.Paint.{length-paint_from}
 use Rattle.page_pool.specs.FrameList.{FrameList, has_frame, times_used, AreShared}
-use Rattle.page_pool.proofs.Rows.{written_back}
 use Rattle.page_pool.proofs.Shared.{setup, shared_taken, shared_back, count-unmapped}
 use Rattle.page_pool.specs.Pages.{Pages, memory, free_of, IsKept}
 
@@ -93,33 +92,33 @@ mapped_fits p free mapped s kept unmapped enough =
     omega (arith, kept.count, kept.space, count_mapped s free.numbers p.frames unmapped enough, count_by-le-length (is_some {T = ℕ}) given, length-give_frames (pages_of s) free.numbers p.frames)
 
 -- pages that were mapped, in a part that is written back
-pub kept_mapped : (p : Pages) (free new_free : FrameList) (mapped n : ℕ) (s : Span) (new : List (Option ℕ)) → IsKept p free mapped → ((page : ℕ) → holds s page ≡ true → slice_get p.frames page ≡ Some None)
-    → s.pages ≤ length free.numbers → n ≡ length p.frames → new ≡ give_frames (pages_of s) free.numbers p.frames → new_free ≡ record free { numbers = drop s.pages free.numbers } → AreShared new new_free
-    → IsKept (record p { frames = take n (new ++ drop (length new) p.frames) }) new_free (mapped + s.pages)
-kept_mapped p free new_free mapped n s new kept unmapped enough whole given left shared =
+pub kept_mapped : (p : Pages) (free new_free : FrameList) (mapped : ℕ) (s : Span) (new : List (Option ℕ)) → IsKept p free mapped → ((page : ℕ) → holds s page ≡ true → slice_get p.frames page ≡ Some None)
+    → s.pages ≤ length free.numbers → new ≡ give_frames (pages_of s) free.numbers p.frames → new_free ≡ record free { numbers = drop s.pages free.numbers } → AreShared new new_free
+    → IsKept (record p { frames = new }) new_free (mapped + s.pages)
+kept_mapped p free new_free mapped s new kept unmapped enough given left shared =
     let long : length new ≡ length p.frames = ap length given ∙ length-give_frames (pages_of s) free.numbers p.frames in
     let count : count_by is_some new ≡ count_by is_some p.frames + s.pages = ap (count_by is_some) given ∙ count_mapped s free.numbers p.frames unmapped enough in
-    subst (λ fs. IsKept (record p { frames = fs }) new_free (mapped + s.pages)) (sym (written_back n new p.frames whole long)) (record {
+    record {
       shared = shared;
       all = ap (λ (f : FrameList). f.memory) left ∙ kept.all;
       count = omega (arith, kept.count);
       space = omega (arith, kept.space);
       alike = kept.alike ∙ sym long;
-    })
+    }
 
 -- pages that were unmapped, in a part that is written back
-pub kept_unmapped : (p : Pages) (free new_free : FrameList) (mapped n : ℕ) (s : Span) (new : List (Option ℕ)) (stale : List Bool) → IsKept p free mapped → n ≡ length p.frames
+pub kept_unmapped : (p : Pages) (free new_free : FrameList) (mapped : ℕ) (s : Span) (new : List (Option ℕ)) (stale : List Bool) → IsKept p free mapped
     → new ≡ paint (holds s) None p.frames → AreShared new new_free → new_free.memory ≡ free.memory → count_by is_some new + s.pages ≡ count_by is_some p.frames → stale ≡ paint (holds s) true p.stale
-    → IsKept (record p { frames = take n (new ++ drop (length new) p.frames); stale = stale }) new_free (mapped - s.pages)
-kept_unmapped p free new_free mapped n s new stale kept whole painted shared memory count marked =
+    → IsKept (record p { frames = new; stale = stale }) new_free (mapped - s.pages)
+kept_unmapped p free new_free mapped s new stale kept painted shared memory count marked =
     let long : length new ≡ length p.frames = ap length painted ∙ length-paint_from (holds s) None p.frames 0 in
-    subst (λ fs. IsKept (record p { frames = fs; stale = stale }) new_free (mapped - s.pages)) (sym (written_back n new p.frames whole long)) (record {
+    record {
       shared = shared;
       all = memory ∙ kept.all;
       count = omega (arith, kept.count);
       space = omega (arith, kept.space);
       alike = ap length marked ∙ length-paint_from (holds s) true p.stale 0 ∙ kept.alike ∙ sym long;
-    })
+    }
 
 -- pages that were flushed
 pub kept_flushed : (p : Pages) (free : FrameList) (mapped : ℕ) (s : Span) (stale : List Bool) → IsKept p free mapped → stale ≡ paint (holds s) false p.stale → IsKept (record p { stale = stale }) free mapped

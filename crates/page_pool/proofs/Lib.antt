@@ -1,5 +1,6 @@
 pub mod Rows
-pub mod Heaps
+pub mod LateWrites
+pub mod FreeBits
 pub mod Flags
 pub mod Shared
 pub mod Painting

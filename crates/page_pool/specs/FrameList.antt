@@ -1,35 +1,28 @@
--- Free frames, as a heap keeps them.
-use Rattle.std.specs.Prelude.{◌≡◌, ℕ, ◌^◌, ◌<◌, ◌≤◌, ◌==◌, nat_lt, Bool, false, not, List, Option, Some, None, filter, count_by}
-use Rattle.std.specs.List.{list_any}
-use Rattle.std.specs.Ordering.{nat_cmp}
-use Rattle.std.specs.BinaryHeap.{IsHeap}
-use Rattle.std.specs.declared.cmp.Reverse.{Reverse}
+-- The free frames of memory, as bits keep them.
+use Rattle.std.specs.Prelude.{◌≡◌, ℕ, ◌^◌, ◌<◌, ◌≤◌, ◌==◌, nat_lt, Bool, false, not, List, length, Option, Some, None, filter, count_by}
 use Rattle.vm_model.specs.Space.{count_from, one_if}
 use Rattle.vm_model.specs.Frames.{is_used}
+use Rattle.vm_model.specs.Bits.{value_at}
 
 -- the free frames of memory, lowest first
 pub record FrameList : Type 0 where
   pub numbers : List ℕ
   pub memory : ℕ
 
--- whether the frame is in the heap
-abbrev pub holds_frame : List (Reverse ℕ) → ℕ → Bool
-holds_frame items frame = list_any (λ (r : Reverse ℕ). r.0 == frame) items
+-- whether a frame is free, by bits that are set for those that are taken
+abbrev pub is_free : List Bool → ℕ → Bool
+is_free taken frame = not (value_at taken frame)
 
--- how often it is in the heap
-abbrev pub times_held : ℕ → List (Reverse ℕ) → ℕ
-times_held frame items = count_by (λ (r : Reverse ℕ). r.0 == frame) items
+-- what is free, lowest first
+abbrev pub lowest_first : List Bool → FrameList
+lowest_first taken = record { numbers = filter (is_free taken) (count_from (length taken) 0); memory = length taken }
 
--- what the heap holds, lowest first
-abbrev pub lowest_first : List (Reverse ℕ) → ℕ → FrameList
-lowest_first items memory = record { numbers = filter (holds_frame items) (count_from memory 0); memory = memory }
-
--- a heap of frames of memory, each at most once, with room for all
-pub record IsHeapOf (memory : ℕ) (items : List (Reverse ℕ)) (capacity : ℕ) : Type 0 where
-  pub ordered : IsHeap (λ (x : Reverse ℕ) (y : Reverse ℕ). nat_cmp y.0 x.0) items
-  pub once : (frame : ℕ) → times_held frame items ≤ one_if (nat_lt frame memory)
-  pub room : memory ≤ capacity
-  pub fits : memory < 2 ^ 32
+-- so many frames are free, and none of those below the given one
+pub record AreCounted (taken : List Bool) (free lowest : ℕ) : Type 0 where
+  pub count : free ≡ length (lowest_first taken).numbers
+  pub within : lowest ≤ length taken
+  pub fits : length taken < 2 ^ 32
+  pub below : (frame : ℕ) → frame < lowest → is_free taken frame ≡ false
 
 -- whether a page has this frame
 abbrev pub has_frame : ℕ → Option ℕ → Bool

@@ -3,46 +3,51 @@ ghost use Rattle.std.specs.Prelude.{◌≡◌, ◌<◌, ◌∷◌, false, IfOk, 
 ghost use Rattle.vm_model.specs.Space.{count_from, is_among, put_by};
 ghost use Rattle.page_pool.specs.FrameList.{FrameList};
 
+use chunk_bitmaps::Bitmap;
 use std::alloc::{AllocError, Global};
-use std::cmp::Reverse;
-use std::collections::BinaryHeap;
 use std::marker::Model;
 
-/// Frames in a heap, whose top is the lowest.
+/// The most frames that a bitmap has bits for.
+const MOST_FRAMES: u32 = 1 << 31;
+
+/// A bit for each frame that is set where it is taken, how many are free, and a frame below which none is.
 #[derive(Drop)]
 pub(crate) struct FreeFrames {
-    heap: BinaryHeap<Reverse<u32>>,
-    memory: u32,
+    taken: Bitmap,
+    free: u32,
+    lowest: u32,
 }
 
 impl Model for FreeFrames {
-    ghost use Rattle.std.specs.BinaryHeap.{heap_items, heap_capacity};
-    ghost use Rattle.page_pool.specs.FrameList.{FrameList, lowest_first, IsHeapOf};
+    ghost use Rattle.page_pool.specs.FrameList.{FrameList, lowest_first, AreCounted};
 
     ghost Value = { FrameList };
 
-    ghost view = { λ f. lowest_first (heap_items f.heap) f.memory };
+    ghost view = { λ f. lowest_first f.taken };
 
-    ghost invariant = { λ f. IsHeapOf f.memory (heap_items f.heap) (heap_capacity f.heap) };
+    ghost invariant = { λ f. AreCounted f.taken f.free f.lowest };
 }
 
 impl FreeFrames {
-    /// All frames of a memory.
+    /// All frames of a memory. An error comes also where there are more than 2 ^ 31.
     pub(crate) fn all(alloc: Global, memory: u32) -> Result<FreeFrames, AllocError>
         ensures { IfOk result (λ free. free ≡ record { numbers = count_from memory 0; memory = memory }) }
     {
-        let mut heap = BinaryHeap::with_capacity(alloc, memory as usize)?;
-        for frame in 0..memory {
-            heap.push(Reverse(frame))?;
+        if memory > MOST_FRAMES {
+            return Err(AllocError);
         }
-        Ok(FreeFrames { heap, memory })
+        Ok(FreeFrames {
+            taken: Bitmap::clear(alloc, memory)?,
+            free: memory,
+            lowest: 0,
+        })
     }
 
     /// How many frames are free.
     pub(crate) fn len(&self) -> u32
         ensures { result ≡ length self.now.numbers }
     {
-        self.heap.len() as u32
+        self.free
     }
 
     /// Takes the lowest free frame.
@@ -50,20 +55,21 @@ impl FreeFrames {
         requires { 0 < length self.old.numbers }
         ensures { self.old ≡ record self.new { numbers = result ∷ self.new.numbers } }
     {
-        match self.heap.pop() {
-            Some(Reverse(frame)) => frame,
-            None => unreachable!(),
-        }
+        let frame = self.taken.find_next(false, self.lowest, self.taken.len());
+        self.taken.fill(frame, 1, true);
+        self.free -= 1;
+        self.lowest = frame + 1;
+        frame
     }
 
-    /// Gives a frame back, which was taken. The room for it was there from the start.
+    /// Gives a frame back, which was taken.
     pub(crate) fn put_back(&mut self, frame: u32)
         requires memory { frame < self.old.memory }
         requires taken { is_among self.old.numbers frame ≡ false }
         ensures { self.new ≡ record self.old { numbers = put_by (λ n. n) frame self.old.numbers } }
     {
-        let Ok(()) = self.heap.push(Reverse(frame)) else {
-            unreachable!();
-        };
+        self.taken.fill(frame, 1, false);
+        self.free += 1;
+        self.lowest = self.lowest.min(frame);
     }
 }

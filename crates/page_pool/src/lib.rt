@@ -4,6 +4,7 @@
 mod cells;
 mod free_frames;
 pub mod laws;
+mod page_map;
 mod page_side;
 mod stale_pages;
 

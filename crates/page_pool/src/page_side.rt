@@ -10,6 +10,7 @@ mod words;
 
 use crate::cells::Cells;
 use crate::free_frames::FreeFrames;
+use crate::page_map::PageMap;
 use crate::stale_pages::StalePages;
 use std::alloc::{AllocError, Global};
 use std::marker::Model;
@@ -28,7 +29,7 @@ pub struct NoFrames {
 /// is unmapped until a flush, since a processor's TLB may still have its old frame.
 #[derive(Drop)]
 pub struct PageSide {
-    frames: Vec<Option<u32>>,
+    frames: PageMap,
     free: FreeFrames,
     mapped: u32,
     stale: StalePages,
@@ -41,13 +42,13 @@ impl Model for PageSide {
 
     ghost Value = { Pages };
 
-    ghost view = { λ s. record { frames = s.frames.items; stale = s.stale; cells = s.cells } };
+    ghost view = { λ s. record { frames = s.frames; stale = s.stale; cells = s.cells } };
 
-    ghost invariant = { λ s. IsKept (record { frames = s.frames.items; stale = s.stale; cells = s.cells }) s.free s.mapped };
+    ghost invariant = { λ s. IsKept (record { frames = s.frames; stale = s.stale; cells = s.cells }) s.free s.mapped };
 }
 
 /// Gives the pages of a span the lowest free frames, by rising page.
-fn give_lowest(frames: &mut [Option<u32>], free: &mut FreeFrames, span: Span)
+fn give_lowest(frames: &mut PageMap, free: &mut FreeFrames, span: Span)
     requires inside { end_of span ≤ length frames.old }
     requires space { length frames.old < 2 ^ 32 }
     requires enough { span.pages ≤ length free.old.numbers }
@@ -58,12 +59,12 @@ fn give_lowest(frames: &mut [Option<u32>], free: &mut FreeFrames, span: Span)
     ensures shared { AreShared frames.new free.new }
 {
     for page in span.start..span.start + span.pages {
-        frames[page as usize] = Some(free.take_lowest());
+        frames.set(page, Some(free.take_lowest()));
     }
 }
 
 /// Takes the frames of the pages of a span back.
-fn take_back(frames: &mut [Option<u32>], free: &mut FreeFrames, span: Span)
+fn take_back(frames: &mut PageMap, free: &mut FreeFrames, span: Span)
     requires inside { end_of span ≤ length frames.old }
     requires space { length frames.old < 2 ^ 32 }
     requires shared { AreShared frames.old free.old }
@@ -74,10 +75,10 @@ fn take_back(frames: &mut [Option<u32>], free: &mut FreeFrames, span: Span)
     ensures count { count_by is_some frames.new + span.pages ≡ count_by is_some frames.old }
 {
     for page in span.start..span.start + span.pages {
-        let Some(frame) = frames[page as usize] else {
+        let Some(frame) = frames.at(page) else {
             unreachable!();
         };
-        frames[page as usize] = None;
+        frames.set(page, None);
         free.put_back(frame);
     }
 }
@@ -89,7 +90,7 @@ impl PageSide {
         ensures first { IfOk result (λ side. side ≡ first_pages space frames) }
     {
         Ok(PageSide {
-            frames: vec![in alloc; None; space as usize]?,
+            frames: PageMap::unmapped(alloc, space)?,
             free: FreeFrames::all(alloc, frames)?,
             mapped: 0,
             stale: StalePages::none(alloc, space)?,
@@ -102,7 +103,7 @@ impl PageSide {
         ensures inside { IsTrue result ↔ (end_of span ≤ length self.now.frames) }
         ensures end { IsTrue result → end_of span < 2 ^ 32 }
     {
-        u64::from(span.start) + u64::from(span.pages) <= self.frames.len() as u64
+        u64::from(span.start) + u64::from(span.pages) <= u64::from(self.frames.len())
     }
 
     /// Whether the pages of a span lie in the space, unmapped and not stale, as `map` wants them. It takes time for each
@@ -116,7 +117,7 @@ impl PageSide {
             return false;
         }
         for page in span.start..span.start + span.pages {
-            if self.frames[page as usize].is_some() || self.stale.contains(page) {
+            if self.frames.at(page).is_some() || self.stale.contains(page) {
                 return false;
             }
         }
@@ -134,7 +135,7 @@ impl PageSide {
             return false;
         }
         for page in span.start..span.start + span.pages {
-            if self.frames[page as usize].is_none() {
+            if self.frames.at(page).is_none() {
                 return false;
             }
         }
@@ -191,9 +192,10 @@ impl PageSide {
     pub fn translate(&self, page: u32) -> Option<u32>
         ensures frame { result ≡ frame_of self.now.frames page }
     {
-        match self.frames.get(page as usize) {
-            Some(frame) => *frame,
-            None => None,
+        if page < self.frames.len() {
+            self.frames.at(page)
+        } else {
+            None
         }
     }
 

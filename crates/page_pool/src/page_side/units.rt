@@ -24,7 +24,7 @@ impl PageSide {
         ensures { self.new ≡ with_frames_for ((base + unit + page) ∷ []) self.old }
     {
         let frame = self.free.take_lowest();
-        self.frames[(base + unit + page) as usize] = Some(frame);
+        self.frames.set(base + unit + page, Some(frame));
         self.mapped += 1;
     }
 
@@ -69,12 +69,12 @@ impl PageSide {
         requires { base + unit + page < length self.old.frames }
         ensures { self.new ≡ without_frame (base + unit + page) self.old }
     {
-        let mapped = self.frames[(base + unit + page) as usize];
+        let mapped = self.frames.at(base + unit + page);
         self.stale.mark_page(base + unit + page);
         let Some(frame) = mapped else {
             return;
         };
-        self.frames[(base + unit + page) as usize] = None;
+        self.frames.set(base + unit + page, None);
         self.free.put_back(frame);
         self.mapped -= 1;
     }

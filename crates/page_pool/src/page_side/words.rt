@@ -29,7 +29,7 @@ impl PageSide {
         ensures frame { frame_of self.now.frames (base + unit + page) ≡ Some result }
         ensures memory { 1024 * result + 1024 ≤ length self.now.cells }
     {
-        match self.frames[(base + unit + page) as usize] {
+        match self.frames.at(base + unit + page) {
             Some(frame) => frame,
             None => unreachable!(),
         }

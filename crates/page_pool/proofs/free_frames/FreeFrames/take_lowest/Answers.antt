@@ -1,28 +1,42 @@
-use Rattle.std.proofs.Common.{length, ap, sym, ◌∙◌, arith}
-use Rattle.std.specs.BinaryHeap.{heap_items}
-use Rattle.page_pool.specs.FrameList.{FrameList}
-use Rattle.page_pool.proofs.Heaps.{length-lowest_first, once_popped, once_rest, lowest_first-popped}
+use Rattle.std.proofs.Common.{◌≡◌, ◌<◌, ◌+◌, ◌-◌, ◌∙◌, ap, sym, subst, arith, length, List, Bool, false, ℕ}
+use Rattle.page_pool.specs.FrameList.{FrameList, lowest_first, AreCounted}
+use Rattle.chunk_bitmaps.specs.Bitmap.{IsNextBit}
+use Rattle.page_pool.proofs.FreeBits.{IsLowest, is_lowest, taken_from, counted_taken}
 use Rattle.page_pool.proofs.free_frames.FreeFrames.take_lowest.Goals as goal
 
-pub unreachable-requires : goal.unreachable-requires
-unreachable-requires c =
+-- the bit that the search finds is that of the lowest free frame
+found : (bits : List Bool) (now : FrameList) (free lowest end frame : ℕ) → lowest_first bits ≡ now → AreCounted bits free lowest → end ≡ length bits → IsNextBit bits false lowest end frame → 0 < length now.numbers → IsLowest bits frame
+found bits now free lowest end frame view counted all next some =
+    is_lowest bits free lowest frame counted (subst (λ n. IsNextBit bits false lowest n frame) all next) (let same = ap (λ (f : FrameList). length f.numbers) view in omega arith)
+
+pub find_next-frame-requires : goal.find_next-frame-requires
+find_next-frame-requires c = let within = c.self.invariant.within in let all = c.len.ensures.len in record { order = omega arith; within = omega arith }
+
+pub fill-requires : goal.fill-requires
+fill-requires c =
+    let is = found c.self.inside.taken c.args.self.now c.self.inside.free c.self.inside.lowest c.len.result c.find_next-frame.result c.self.view_is c.self.invariant c.len.ensures.len c.find_next-frame.ensures c.requires in
+    let within = is.within in omega arith
+
+pub overflow_sub-self : goal.overflow_sub-self
+overflow_sub-self c =
+    let some = c.requires in
+    let count = c.self.invariant.count in
     let same = ap (λ (f : FrameList). length f.numbers) c.self.view_is in
-    omega (arith, c.in-None.ensures.none, length-lowest_first c.self.inside.memory (heap_items c.self.inside.heap) c.self.invariant.once)
+    omega arith
+
+pub overflow_add-self : goal.overflow_add-self
+overflow_add-self c = let within = c.find_next-frame.ensures.within in let small = c.len.ensures.small in omega arith
 
 pub invariant_of-self : goal.invariant_of-self
 invariant_of-self c =
-    let memory = c.self.inside.memory in
-    let old = heap_items c.self.inside.heap in
-    let new = heap_items c.pop.new.self in
-    record {
-      ordered = (c.in-Some.ensures.heap_order c.self.invariant.ordered).0;
-      once = once_rest memory c.in-Some.field-0 new (once_popped memory c.in-Some.field-0 old new c.in-Some.ensures.permutation c.self.invariant.once);
-      room = omega arith;
-      fits = omega arith;
-    }
+    let is = found c.self.inside.taken c.args.self.now c.self.inside.free c.self.inside.lowest c.len.result c.find_next-frame.result c.self.view_is c.self.invariant c.len.ensures.len c.find_next-frame.ensures c.requires in
+    let some = c.requires in
+    let count = c.self.invariant.count in
+    let same = ap (λ (f : FrameList). length f.numbers) c.self.view_is in
+    subst (λ (bits : List Bool). AreCounted bits (c.self.inside.free - 1) (c.find_next-frame.result + 1)) (sym c.fill.ensures)
+    (counted_taken c.self.inside.taken c.self.inside.free c.self.inside.lowest (c.self.inside.free - 1) c.find_next-frame.result c.self.invariant is (omega arith))
 
 pub returns : goal.returns
 returns c =
-    sym c.self.view_is
-    ∙ lowest_first-popped c.self.inside.memory c.in-Some.field-0 (heap_items c.self.inside.heap) (heap_items c.pop.new.self) c.in-Some.ensures.permutation c.self.invariant.once
-    (c.in-Some.ensures.below_top c.self.invariant.ordered)
+    let is = found c.self.inside.taken c.args.self.now c.self.inside.free c.self.inside.lowest c.len.result c.find_next-frame.result c.self.view_is c.self.invariant c.len.ensures.len c.find_next-frame.ensures c.requires in
+    sym c.self.view_is ∙ taken_from c.self.inside.taken c.fill.new.self c.find_next-frame.result is c.fill.ensures

@@ -8,4 +8,4 @@ flush-requires c = let same = ap (λ (p : Pages). length p.frames) c.self.view_i
 
 pub invariant_of-self : goal.invariant_of-self
 invariant_of-self c =
-    kept_flushed (record { frames = c.self.inside.frames.items; stale = c.self.inside.stale; cells = c.self.inside.cells }) c.self.inside.free c.self.inside.mapped c.args.span _ c.self.invariant c.flush.ensures
+    kept_flushed (record { frames = c.self.inside.frames; stale = c.self.inside.stale; cells = c.self.inside.cells }) c.self.inside.free c.self.inside.mapped c.args.span _ c.self.invariant c.flush.ensures

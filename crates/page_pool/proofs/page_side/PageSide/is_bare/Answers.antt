@@ -8,10 +8,10 @@ loop-page-init c = λ page low high. absurd (omega arith)
 
 pub loop-page-preserved : goal.loop-page-preserved
 loop-page-preserved c =
-    let p : Pages = record { frames = c.self.inside.frames.items; stale = c.self.inside.stale; cells = c.self.inside.cells } in
+    let p : Pages = record { frames = c.self.inside.frames; stale = c.self.inside.stale; cells = c.self.inside.cells } in
     let same = ap (λ (v : Pages). length v.frames) c.self.view_is in
     looked_more (IsBare p) c.args.span.start c.loop-page.page c.loop-page.invariant (record {
-      unmapped = unmapped_at c.self.inside.frames.items c.loop-page.page c.index.result.now (omega arith) c.index.ensures (sym c.is_some.ensures ∙ c.if-is_some.false);
+      unmapped = unmapped_at c.self.inside.frames c.loop-page.page c.at.result (omega arith) c.at.ensures (sym c.is_some.ensures ∙ c.if-is_some.false);
       not_stale = not_stale_at c.self.inside.stale c.loop-page.page (omega arith) (sym c.contains.ensures ∙ c.if-contains.false);
     })
 

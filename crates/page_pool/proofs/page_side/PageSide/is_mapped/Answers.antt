@@ -10,10 +10,10 @@ loop-page-init c = λ page low high. absurd (omega arith)
 
 pub loop-page-preserved : goal.loop-page-preserved
 loop-page-preserved c =
-    let p : Pages = record { frames = c.self.inside.frames.items; stale = c.self.inside.stale; cells = c.self.inside.cells } in
+    let p : Pages = record { frames = c.self.inside.frames; stale = c.self.inside.stale; cells = c.self.inside.cells } in
     let same = ap (λ (v : Pages). length v.frames) c.self.view_is in
     looked_more (IsMapped p) c.args.span.start c.loop-page.page c.loop-page.invariant
-    (mapped_at c.self.inside.frames.items c.loop-page.page c.index.result.now (omega arith) c.index.ensures (c.is_none.ensures ∙ ap not c.if-is_none.false))
+    (mapped_at c.self.inside.frames c.loop-page.page c.at.result (omega arith) c.at.ensures (c.is_none.ensures ∙ ap not c.if-is_none.false))
 
 pub returns-clause-mapped : goal.returns-clause-mapped
 returns-clause-mapped c found =
@@ -27,6 +27,6 @@ returns-then-is_none-clause-only c = λ inside each.
     let here : holds c.args.span page ≡ true = grind (arith, nat_tests) in
     let mapped = each page here in
     let at = subst (λ (p : Pages). slice_get p.frames page ≡ Some (Some mapped.0)) (sym c.self.view_is) mapped.1 in
-    let some = some_at c.self.inside.frames.items page mapped.0 c.index.result.now (omega arith) c.index.ensures at in
-    let none : is_some c.index.result.now ≡ false = c.is_none.ensures ∙ ap not c.if-is_none.true in
+    let some = some_at c.self.inside.frames page mapped.0 c.at.result (omega arith) c.at.ensures at in
+    let none : is_some c.at.result ≡ false = c.is_none.ensures ∙ ap not c.if-is_none.true in
     cc

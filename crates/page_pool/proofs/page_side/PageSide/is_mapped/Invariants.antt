@@ -3,4 +3,4 @@ use Rattle.page_pool.specs.Pages.{IsMapped}
 use Rattle.page_pool.proofs.page_side.PageSide.is_mapped.Given as goal
 
 abbrev pub invariant-loop-page : goal.invariant-loop-page
-invariant-loop-page l = (page : ℕ) → l.fn.span.start ≤ page → page < l.page → IsMapped (record { frames = l.self-inside.frames.items; stale = l.self-inside.stale; cells = l.self-inside.cells }) page
+invariant-loop-page l = (page : ℕ) → l.fn.span.start ≤ page → page < l.page → IsMapped (record { frames = l.self-inside.frames; stale = l.self-inside.stale; cells = l.self-inside.cells }) page

@@ -1,9 +1,8 @@
-use Rattle.std.proofs.Common.{◌≡◌, None, replicate, rules, arith}
+use Rattle.std.proofs.Common.{arith}
 use Rattle.page_pool.proofs.Kept.{kept_first}
 use Rattle.page_pool.proofs.page_side.PageSide.new.Goals as goal
 
 pub invariant_of-result : goal.invariant_of-result
 invariant_of-result c =
-    let unmapped : c.in_ok-vec.field-0.items ≡ replicate c.args.space None = search rules in
-    kept_first c.args.space c.args.frames (record { frames = c.in_ok-vec.field-0.items; stale = c.in_ok-none.field-0; cells = c.in_ok-zero.field-0 }) c.in_ok-all.field-0 (omega arith)
-    unmapped c.in_ok-none.ensures c.in_ok-zero.ensures c.in_ok-all.ensures
+    kept_first c.args.space c.args.frames (record { frames = c.in_ok-unmapped.field-0; stale = c.in_ok-none.field-0; cells = c.in_ok-zero.field-0 }) c.in_ok-all.field-0 (omega arith)
+    c.in_ok-unmapped.ensures c.in_ok-none.ensures c.in_ok-zero.ensures c.in_ok-all.ensures

@@ -30,7 +30,7 @@ overflow_cast-asked-2 c =
 pub returns-then-free-asked-clause-refused : goal.returns-then-free-asked-clause-refused
 returns-then-free-asked-clause-refused c =
     let count = length-pages_at c.args.base c.args.units.now (pages_in c.args.pages) ∙ ap (λ n. length c.args.units.now * n) (sym c.count_of.ensures) in
-    let free = kept_free (record { frames = c.self.inside.frames.items; stale = c.self.inside.stale; cells = c.self.inside.cells }) c.self.inside.free c.self.inside.mapped c.self.invariant
+    let free = kept_free (record { frames = c.self.inside.frames; stale = c.self.inside.stale; cells = c.self.inside.cells }) c.self.inside.free c.self.inside.mapped c.self.invariant
     ∙ ap (λ (p : Pages). length (free_of p)) c.self.view_is in
     let refusal : ℕ → ℕ → NoFrames = λ asked free. record { asked = asked; free = free } in
     ap (λ n. refusal n c.len-free.result) (sym count) ∙ ap (refusal (length (pages_at c.args.base c.args.units.now (pages_in c.args.pages)))) (c.len-free.ensures ∙ free)
@@ -38,7 +38,7 @@ returns-then-free-asked-clause-refused c =
 pub returns-then-free-asked-clause-too_few : goal.returns-then-free-asked-clause-too_few
 returns-then-free-asked-clause-too_few c =
     let count = length-pages_at c.args.base c.args.units.now (pages_in c.args.pages) ∙ ap (λ n. length c.args.units.now * n) (sym c.count_of.ensures) in
-    let free = kept_free (record { frames = c.self.inside.frames.items; stale = c.self.inside.stale; cells = c.self.inside.cells }) c.self.inside.free c.self.inside.mapped c.self.invariant
+    let free = kept_free (record { frames = c.self.inside.frames; stale = c.self.inside.stale; cells = c.self.inside.cells }) c.self.inside.free c.self.inside.mapped c.self.invariant
     ∙ ap (λ (p : Pages). length (free_of p)) c.self.view_is in
     omega arith
 
@@ -47,7 +47,7 @@ loop-unit-init c =
     let set = pages_in c.args.pages in
     let all = pages_at c.args.base c.args.units.now set in
     let count = length-pages_at c.args.base c.args.units.now (pages_in c.args.pages) ∙ ap (λ n. length c.args.units.now * n) (sym c.count_of.ensures) in
-    let free = kept_free (record { frames = c.self.inside.frames.items; stale = c.self.inside.stale; cells = c.self.inside.cells }) c.self.inside.free c.self.inside.mapped c.self.invariant
+    let free = kept_free (record { frames = c.self.inside.frames; stale = c.self.inside.stale; cells = c.self.inside.cells }) c.self.inside.free c.self.inside.mapped c.self.invariant
     ∙ ap (λ (p : Pages). length (free_of p)) c.self.view_is in
     populating_first all c.args.self.now (bare_once all c.args.self.now c.requires.bare c.requires.distinct) (omega arith)
 
@@ -80,6 +80,6 @@ returns-clause-mapped c =
 pub returns-clause-enough : goal.returns-clause-enough
 returns-clause-enough c =
     let count = length-pages_at c.args.base c.args.units.now (pages_in c.args.pages) ∙ ap (λ n. length c.args.units.now * n) (sym c.count_of.ensures) in
-    let free = kept_free (record { frames = c.self.inside.frames.items; stale = c.self.inside.stale; cells = c.self.inside.cells }) c.self.inside.free c.self.inside.mapped c.self.invariant
+    let free = kept_free (record { frames = c.self.inside.frames; stale = c.self.inside.stale; cells = c.self.inside.cells }) c.self.inside.free c.self.inside.mapped c.self.invariant
     ∙ ap (λ (p : Pages). length (free_of p)) c.self.view_is in
     omega arith

@@ -5,6 +5,6 @@ use Rattle.page_pool.proofs.page_side.PageSide.unmap.Goals as goal
 
 pub invariant_of-self : goal.invariant_of-self
 invariant_of-self c =
-    kept_unmapped (record { frames = c.self.inside.frames.items; stale = c.self.inside.stale; cells = c.self.inside.cells }) c.self.inside.free c.take_back.new.free c.self.inside.mapped
-    c.self.inside.frames.len c.args.span c.take_back.new.frames c.mark.new.self c.self.invariant (omega arith) (c.take_back.ensures.frames ∙ ap (paint (holds c.args.span) None) c.deref_mut.ensures.value)
-    c.take_back.ensures.shared c.take_back.ensures.memory (c.take_back.ensures.count ∙ ap (count_by is_some) c.deref_mut.ensures.value) c.mark.ensures
+    kept_unmapped (record { frames = c.self.inside.frames; stale = c.self.inside.stale; cells = c.self.inside.cells }) c.self.inside.free c.take_back.new.free c.self.inside.mapped
+    c.args.span c.take_back.new.frames c.mark.new.self c.self.invariant c.take_back.ensures.frames
+    c.take_back.ensures.shared c.take_back.ensures.memory c.take_back.ensures.count c.mark.ensures
