@@ -1,12 +1,13 @@
 -- A pass that is alone stays so when it makes a step, and no other can make one.
-use Rattle.std.proofs.Common.{◌≡◌, ◌≢◌, ℕ, ◌⊎◌, inl, inr, true, List, [], set, sym, ap, ◌∙◌, subst, ⊎_elim, None}
+use Rattle.std.proofs.Common.{◌≡◌, ◌≢◌, ℕ, ◌⊎◌, inl, inr, true, List, [], ◌∷◌, ◌++◌, set, sym, ap, ◌∙◌, subst, ⊎_elim, None}
 use mathlib.Core.Option.{some}
 use lib.ListN.{get_elem?}
 use Rattle.atomic_table.specs.Table.{State}
 use Rattle.atomic_table.proofs.Lists.{at_set, set_else}
+use Rattle.vm_model.specs.declared.calls.CountLine.{CountLine}
 use Rattle.percpu_counters.specs.declared.table.Shape.{Shape}
 use Rattle.percpu_counters.specs.declared.table.Tally.{Tally}
-use Rattle.percpu_counters.specs.Rule.{Kept, IsIdle, IsAlone}
+use Rattle.percpu_counters.specs.Rule.{Kept, IsIdle, IsAlone, AmountsFit}
 
 module _ (s : Shape) (t : State (Unit {0}) Tally) (now : Kept s t) (id : ℕ) (v w : Tally) (at : get_elem? t.views id ≡ some v) (place x : ℕ)
     (knows : w.words ≡ set v.words place x) (same : w.alone ≡ v.alone) (busy : IsIdle v → ⊥) where
@@ -31,6 +32,12 @@ module _ (s : Shape) (t : State (Unit {0}) Tally) (now : Kept s t) (id : ℕ) (v
       (λ (o : (j ≢ id) × (get_elem? t.views j ≡ some u)). now.hands j u o.1 none)
       (at_set t.views id j w u here)
 
-  -- the word that is found is the one that it knows
-  pub found : (found : ℕ) → v.alone ≡ true → t.words ≡ v.words
-  found n alone = (now.alone id v at alone).words
+  pub still_small : AmountsFit w.adds → (j : ℕ) (u : Tally) → get_elem? after.views j ≡ some u → AmountsFit u.adds
+  still_small mine j u here = ⊎_elim
+      (λ (m : (j ≡ id) × (w ≡ u)). subst (λ (z : Tally). AmountsFit z.adds) m.1 mine)
+      (λ (o : (j ≢ id) × (get_elem? t.views j ≡ some u)). now.small j u o.1)
+      (at_set t.views id j w u here)
+
+pub AmountsFit-append : (adds more : List CountLine) → AmountsFit adds → AmountsFit more → AmountsFit (adds ++ more)
+AmountsFit-append [] more fit rest = rest
+AmountsFit-append (a ∷ adds) more fit rest = (fit.0, AmountsFit-append adds more fit.1 rest)

@@ -1,7 +1,7 @@
 -- A fold keeps the sums.
 use Rattle.std.proofs.Common.{◌≡◌, ◌≢◌, ℕ, zero, suc, ◌+◌, ◌*◌, ◌/◌, ◌%◌, ◌^◌, ◌<◌, ◌≤◌, ◌⊎◌, inl, inr, Bool, List, [], ◌∷◌, length, get_or, set, refl, sym, ap, ◌∙◌, subst, arith, Option, Some, None, length-set, eq-eqb, ne_eqb, if◌then◌else◌}
 use mathlib.Core.Logic.{dite}
-use mathlib.Core.Option.{some}
+use mathlib.Core.Option.{some, some-injective, some-ne-none}
 use native.Mathlib.Decide.{ℕ_discrete, dec_le}
 use lib.ListN.{get_elem?}
 use Rattle.atomic_table.specs.Table.{State, Me, keeps, Allows}
@@ -9,8 +9,8 @@ use Rattle.atomic_table.proofs.Lists.{set_again}
 use Rattle.vm_model.specs.declared.calls.CountLine.{CountLine}
 use Rattle.percpu_counters.specs.declared.table.Shape.{Shape}
 use Rattle.percpu_counters.specs.declared.table.Tally.{Tally}
-use Rattle.percpu_counters.specs.Rule.{sum_over, row_sum, row_of, cell_of, word_count, recorded, in_hand, hand_to, amount_in, IsAlike, IsIdle, IsFound, Kept, lifted_at, settled_at}
-use Rattle.percpu_counters.proofs.Alone.{still_alone, still_hands}
+use Rattle.percpu_counters.specs.Rule.{sum_over, row_sum, row_of, cell_of, word_count, recorded, in_hand, hand_to, amount_in, IsAlike, IsIdle, IsFound, IsFew, AmountsFit, Kept, lifted_at, settled_at}
+use Rattle.percpu_counters.proofs.Alone.{still_alone, still_hands, still_small}
 use Rattle.percpu_counters.proofs.Puts.{sum_over-set, row_in, row_out, further}
 
 -- what a row loses a hand gains, or the other way round, up to a multiple of 2^64
@@ -63,7 +63,9 @@ module _ (s : Shape) (t : State (Unit {0}) Tally) (now : Kept s t) (id : ℕ) (v
     wide = length-set t.words j x ∙ now.wide;
     sums = λ k below. sums_of k below (ℕ_discrete k c);
     rooms = let e = sum_over-set (λ (u : Tally). length u.adds + u.room) t.views id v w at in let l : length w.adds ≡ length v.adds = ap length same_adds in let r = now.rooms in omega arith;
+    few = now.few;
     hands = still_hands s t now id v w at j x knows same_alone busy hands_mine;
+    small = still_small s t now id v w at j x knows same_alone busy (subst AmountsFit (sym same_adds) (now.small id v at));
     alone = still_alone s t now id v w at j x knows same_alone busy;
   }
 
@@ -151,3 +153,16 @@ looks s slots id m i t now deep at range = (
     set-same [] i = refl
     set-same (x ∷ xs) zero = refl
     set-same (x ∷ xs) (suc i) = ap (λ (ys : List ℕ). x ∷ ys) (set-same xs i)
+
+-- a look tells how many adds a pass made and may make
+
+share_at_most : (vs : List Tally) (i : ℕ) (v : Tally) → get_elem? vs i ≡ some v → length v.adds + v.room ≤ sum_over (λ (u : Tally). length u.adds + u.room) vs
+share_at_most [] i v at = absurd (some-ne-none v (sym at))
+share_at_most (u ∷ us) zero v at = let e = ap (λ (z : Tally). length z.adds + z.room) (some-injective u v at) in omega arith
+share_at_most (u ∷ us) (suc i) v at = let e = share_at_most us i v at in omega arith
+
+pub learns : (s : Shape) (slots id : ℕ) (m : Me (Unit {0}) Tally) (i : ℕ) → Allows (Kept s) slots id m i (λ n. n) (λ n m'. (m' ≡ m) × IsFew m.0)
+unfolding looks
+learns s slots id m i t now deep at range =
+    let look = looks s slots id m i t now deep at range in
+    (m.0, keeps, tt, look.3, (refl, (let e = share_at_most t.views id m.0 at in omega (arith, now.few, now.rooms))))

@@ -5,3 +5,6 @@ mod Sizes
 mod Exact
 mod WholeAdds
 mod Opens
+mod Closing
+mod Totals
+mod Splits

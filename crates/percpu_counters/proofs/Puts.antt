@@ -1,5 +1,5 @@
 -- An add keeps the sums.
-use Rattle.std.proofs.Common.{◌≡◌, ℕ, zero, suc, ◌+◌, ◌*◌, ◌/◌, ◌%◌, ◌^◌, ◌<◌, ◌≤◌, ◌⊎◌, inl, inr, Bool, List, [], ◌∷◌, ◌++◌, length, get_or, set, refl, sym, ap, ◌∙◌, subst, ⊎_elim, arith, length-append, length-set, get_or-set_other, get_or-set_same, mul-le-mul_right, eq-eqb, ne_eqb, if◌then◌else◌}
+use Rattle.std.proofs.Common.{◌≡◌, ℕ, zero, suc, ◌+◌, ◌*◌, ◌/◌, ◌%◌, ◌^◌, ◌<◌, ◌≤◌, ◌⊎◌, inl, inr, Bool, List, [], ◌∷◌, ◌++◌, length, get_or, set, refl, sym, ap, ◌∙◌, subst, ⊎_elim, arith, length-append, length-set, get_or-set_other, get_or-set_same, mul-le-mul_right, eq-eqb, ne_eqb, if◌then◌else◌, FitsSigned, w32}
 use mathlib.Core.Logic.{dite}
 use mathlib.Core.Option.{some, some-injective, some-ne-none}
 use native.Mathlib.Decide.{ℕ_discrete, dec_le}
@@ -10,7 +10,7 @@ use Rattle.vm_model.specs.declared.calls.CountLine.{CountLine}
 use Rattle.percpu_counters.specs.declared.table.Shape.{Shape}
 use Rattle.percpu_counters.specs.declared.table.Tally.{Tally}
 use Rattle.percpu_counters.specs.Rule.{sum_over, row_sum, cell_of, word_count, bits_of, given_to, recorded, in_hand, IsAlike, IsIdle, IsFound, Kept, put_at}
-use Rattle.percpu_counters.proofs.Alone.{still_alone, still_hands}
+use Rattle.percpu_counters.proofs.Alone.{still_alone, still_hands, still_small, AmountsFit-append}
 
 pub row_out : (words : List ℕ) (i n j x : ℕ) → (j < i) ⊎ (i + n ≤ j) → row_sum (set words j x) i n ≡ row_sum words i n
 row_out words i zero j x out = refl
@@ -32,7 +32,7 @@ sum_over-set f [] i v w at = absurd (some-ne-none v (sym at))
 sum_over-set f (u ∷ us) zero v w at = let e : f u ≡ f v = ap f (some-injective u v at) in omega arith
 sum_over-set f (u ∷ us) (suc i) v w at = let e = sum_over-set f us i v w at in omega arith
 
-sum_over-snoc : {V : Type 0} (f : V → ℕ) (vs : List V) (v : V) → sum_over f (vs ++ v ∷ []) ≡ sum_over f vs + f v
+pub sum_over-snoc : {V : Type 0} (f : V → ℕ) (vs : List V) (v : V) → sum_over f (vs ++ v ∷ []) ≡ sum_over f vs + f v
 sum_over-snoc f [] v = omega arith
 sum_over-snoc f (u ∷ us) v = let e = sum_over-snoc f us v in omega arith
 
@@ -45,7 +45,7 @@ grows r r' w b hand given e a =
     let p : ℕ = a.0 in let q : ℕ = a.1 in let same : r + hand + 18446744073709551616 * p ≡ given + 18446744073709551616 * q = a.2 in
     (p + (w + b) / 18446744073709551616, q, omega arith)
 
-module _ (s : Shape) (t : State (Unit {0}) Tally) (now : Kept s t) (id : ℕ) (v : Tally) (a : CountLine) (at : get_elem? t.views id ≡ some v) (which : a.counter < s.counters) (who : a.cpu < s.cpus) (room : 0 < v.room) where
+module _ (s : Shape) (t : State (Unit {0}) Tally) (now : Kept s t) (id : ℕ) (v : Tally) (a : CountLine) (at : get_elem? t.views id ≡ some v) (which : a.counter < s.counters) (who : a.cpu < s.cpus) (room : 0 < v.room) (fits : FitsSigned w32 a.amount) where
   abbrev n : ℕ
   n = s.cpus + 1
 
@@ -99,29 +99,31 @@ module _ (s : Shape) (t : State (Unit {0}) Tally) (now : Kept s t) (id : ℕ) (v
     wide = length-set t.words j ((x + bits_of a) % 18446744073709551616) ∙ now.wide;
     sums = λ k below. sums_of k below (ℕ_discrete k a.counter);
     rooms = let e = sum_over-set (λ (u : Tally). length u.adds + u.room) t.views id v w at in let l = length-append v.adds (a ∷ []) in let r = now.rooms in omega arith;
+    few = now.few;
     hands = still_hands s t now id v w at j ((x + bits_of a) % 18446744073709551616) refl refl busy
         (λ none. let long : length (v.adds ++ a ∷ []) ≡ 0 = ap length none in absurd (let l = length-append v.adds (a ∷ []) in omega arith));
+    small = still_small s t now id v w at j ((x + bits_of a) % 18446744073709551616) refl refl busy (AmountsFit-append v.adds (a ∷ []) (now.small id v at) (fits, tt));
     alone = still_alone s t now id v w at j ((x + bits_of a) % 18446744073709551616) refl refl busy;
   }
 
   pub found_added : IsFound v j x
   found_added alone = ap (λ (ws : List ℕ). get_or ws j 0) (now.alone id v at alone).words
 
-adds : (s : Shape) (slots id : ℕ) (m : Me (Unit {0}) Tally) (a : CountLine) → a.counter < s.counters → a.cpu < s.cpus → 0 < m.0.room
+adds : (s : Shape) (slots id : ℕ) (m : Me (Unit {0}) Tally) (a : CountLine) → a.counter < s.counters → a.cpu < s.cpus → 0 < m.0.room → FitsSigned w32 a.amount
     → Allows (Kept s) slots id m (cell_of s a.counter a.cpu) (λ n. (n + bits_of a) % 2 ^ 64) (λ n m'. (m' ≡ (put_at (cell_of s a.counter a.cpu) n a m.0, m.1)) × IsFound m.0 (cell_of s a.counter a.cpu) n)
-adds s slots id m a which who room t now deep at range = (
+adds s slots id m a which who room fits t now deep at range = (
   put_at (cell_of s a.counter a.cpu) (get_or t.words (cell_of s a.counter a.cpu) 0) a m.0,
   keeps,
   tt,
-  keeps_added s t now id m.0 a at which who room,
-  (refl, found_added s t now id m.0 a at which who room),
+  keeps_added s t now id m.0 a at which who room fits,
+  (refl, found_added s t now id m.0 a at which who room fits),
 )
 
 pub inside_all : (s : Shape) (a : CountLine) → a.counter < s.counters → a.cpu < s.cpus → cell_of s a.counter a.cpu < word_count s
 inside_all s a which who = let far = further a.counter s.counters (s.cpus + 1) which in let m : ℕ = s.counters * (s.cpus + 1) in let o : ℕ = a.counter * (s.cpus + 1) in let far' : o + (s.cpus + 1) ≤ m = far in let e : o + 1 + a.cpu < m + 1 = omega arith in e
 
-pub adds_as : (s s0 : Shape) (slots id : ℕ) (m : Me (Unit {0}) Tally) (a a0 : CountLine) (i b : ℕ) → s0 ≡ s → a0 ≡ a → bits_of a ≡ b → i ≡ cell_of s a.counter a.cpu → a.counter < s.counters → a.cpu < s.cpus → 0 < m.0.room
+pub adds_as : (s s0 : Shape) (slots id : ℕ) (m : Me (Unit {0}) Tally) (a a0 : CountLine) (i b : ℕ) → s0 ≡ s → a0 ≡ a → bits_of a ≡ b → i ≡ cell_of s a.counter a.cpu → a.counter < s.counters → a.cpu < s.cpus → 0 < m.0.room → FitsSigned w32 a.amount
     → Allows (Kept s0) slots id m i (λ n. (n + b) % 2 ^ 64) (λ n m'. (m' ≡ (put_at i n a0 m.0, m.1)) × IsFound m.0 i n)
-adds_as s s0 slots id m a a0 i b shape same bits is which who room =
+adds_as s s0 slots id m a a0 i b shape same bits is which who room fits =
     subst (λ (z : Shape × CountLine × ℕ × ℕ). Allows (Kept z.0) slots id m z.3 (λ n. (n + z.2) % 2 ^ 64) (λ n m'. (m' ≡ (put_at z.3 n z.1 m.0, m.1)) × IsFound m.0 z.3 n)) (λ k. (sym shape k, sym same k, bits k, sym is k))
-    (adds s slots id m a which who room)
+    (adds s slots id m a which who room fits)

@@ -37,7 +37,7 @@ large_placed batch cpu value c reached =
     kept : Cells
     kept = record c { cells = set c.cells cpu value }
 
--- a place of another counter's words is in no other row
+-- a place of another counter's words is in no other count_at
 elsewhere : (s : Shape) (counter other place : ℕ) → counter ≢ other → row_of s counter ≤ place → place < row_of s counter + (s.cpus + 1) → (q : ℕ) → row_of s other ≤ q → q < row_of s other + (s.cpus + 1) → place ≢ q
 elsewhere s counter other place apart from to q from' to' same = dite (dec_le counter other)
     (λ le. absurd (let f = further counter other (s.cpus + 1) (omega arith) in let o : ℕ = row_of s counter in let o' : ℕ = row_of s other in let f' : o + (s.cpus + 1) ≤ o' = f in omega arith))
@@ -48,8 +48,8 @@ module _ (s : Shape) (a : CountLine) (old : Me (Unit {0}) Tally) (n : ℕ) (whic
   abbrev cell : ℕ
   cell = cell_of s a.counter a.cpu
 
-  abbrev row : ℕ
-  row = row_of s a.counter
+  abbrev count_at : ℕ
+  count_at = row_of s a.counter
 
   abbrev sum : ℕ
   sum = (n + bits_of a) % 2 ^ 64
@@ -61,7 +61,7 @@ module _ (s : Shape) (a : CountLine) (old : Me (Unit {0}) Tally) (n : ℕ) (whic
   longer = length-append old.0.adds (a ∷ [])
 
   -- the counters are exact where the one of the add is, and the other words are as they were
-  exact_all : (words' : List ℕ) → AreExact s old.0.adds old.0.words → ((place : ℕ) → place ≢ cell → place ≢ row → get_or words' place 0 ≡ get_or old.0.words place 0)
+  exact_all : (words' : List ℕ) → AreExact s old.0.adds old.0.words → ((place : ℕ) → place ≢ cell → place ≢ count_at → get_or words' place 0 ≡ get_or old.0.words place 0)
       → IsRowOf s a.counter words' (length old.0.adds + 1) (cells_after s a.counter (old.0.adds ++ a ∷ [])) → AreExact s (old.0.adds ++ a ∷ []) words'
   exact_all words' exact others mine counter below = dite (ℕ_discrete counter a.counter)
       (λ same. subst (λ (k : ℕ). IsRowOf s k words' (length (old.0.adds ++ a ∷ [])) (cells_after s k (old.0.adds ++ a ∷ []))) (sym same)
@@ -71,7 +71,7 @@ module _ (s : Shape) (a : CountLine) (old : Me (Unit {0}) Tally) (n : ℕ) (whic
       (row_frame s counter old.0.words words' (length old.0.adds) (cells_after s counter old.0.adds)
       (λ place from to. others place
       (elsewhere s counter a.counter place apart from to cell (in_row a.cpu who).0 (in_row a.cpu who).1)
-      (elsewhere s counter a.counter place apart from to row (let o : ℕ = row in let e : o ≤ o = omega arith in e) (let o : ℕ = row in let e : o < o + (s.cpus + 1) = omega arith in e)))
+      (elsewhere s counter a.counter place apart from to count_at (let o : ℕ = count_at in let e : o ≤ o = omega arith in e) (let o : ℕ = count_at in let e : o < o + (s.cpus + 1) = omega arith in e)))
       (exact counter below))))
 
   pub has_stayed : (new : Me (Unit {0}) Tally) → new ≡ (put_at cell n a old.0, old.1) → old.0.hand ≡ None → nat_abs (cast_signed w64 sum) < s.batch → HasAdded s a old new
@@ -95,16 +95,16 @@ module _ (s : Shape) (a : CountLine) (old : Me (Unit {0}) Tally) (n : ℕ) (whic
         );
   })
 
-  pub has_folded : (one two new : Me (Unit {0}) Tally) (x m : ℕ) → one ≡ (put_at cell n a old.0, old.1) → two ≡ (lifted_at cell x a.counter one.0, one.1) → new ≡ (settled_at row m two.0, two.1)
-      → IsFound one.0 cell x → IsFound two.0 row m → m < 18446744073709551616 → s.batch ≤ nat_abs (cast_signed w64 sum) → HasAdded s a old new
+  pub has_folded : (one two new : Me (Unit {0}) Tally) (x m : ℕ) → one ≡ (put_at cell n a old.0, old.1) → two ≡ (lifted_at cell x a.counter one.0, one.1) → new ≡ (settled_at count_at m two.0, two.1)
+      → IsFound one.0 cell x → IsFound two.0 count_at m → m < 18446744073709551616 → s.batch ≤ nat_abs (cast_signed w64 sum) → HasAdded s a old new
   has_folded one two new x m put lifted settled found_x found_m low_m reached =
       let first : Me (Unit {0}) Tally = (put_at cell n a old.0, old.1) in
       let second : Me (Unit {0}) Tally = (lifted_at cell x a.counter first.0, first.1) in
       let second_is : two ≡ second = lifted ∙ ap (λ (z : Me (Unit {0}) Tally). (lifted_at cell x a.counter z.0, z.1)) put in
-      let third : Me (Unit {0}) Tally = (settled_at row m second.0, second.1) in
-      let third_is : new ≡ third = settled ∙ ap (λ (z : Me (Unit {0}) Tally). (settled_at row m z.0, z.1)) second_is in
+      let third : Me (Unit {0}) Tally = (settled_at count_at m second.0, second.1) in
+      let third_is : new ≡ third = settled ∙ ap (λ (z : Me (Unit {0}) Tally). (settled_at count_at m z.0, z.1)) second_is in
       let seen_x : IsFound first.0 cell x = subst (λ (z : Me (Unit {0}) Tally). IsFound z.0 cell x) put found_x in
-      let seen_m : IsFound second.0 row m = subst (λ (z : Me (Unit {0}) Tally). IsFound z.0 row m) second_is found_m in
+      let seen_m : IsFound second.0 count_at m = subst (λ (z : Me (Unit {0}) Tally). IsFound z.0 count_at m) second_is found_m in
       subst (HasAdded s a old) (sym third_is) (record {
         adds = refl;
         room = refl;
@@ -121,12 +121,12 @@ module _ (s : Shape) (a : CountLine) (old : Me (Unit {0}) Tally) (n : ℕ) (whic
             let taken : x ≡ sum = seen_x alone ∙ get_or-set_same old.0.words cell sum 0 inside in
             let w1 = set old.0.words cell sum in
             let w2 = set w1 cell 0 in
-            let w3 = set w2 row ((m + x) % 2 ^ 64) in
-            let differ : row ≢ cell = (λ e. let o : ℕ = row in let e' : o ≡ o + 1 + a.cpu = e in omega arith) in
-            let counted : m ≡ get_or old.0.words row 0 = seen_m alone ∙ get_or-set_other w1 cell row 0 0 differ ∙ get_or-set_other old.0.words cell row sum 0 differ in (
-              length-set w2 row ((m + x) % 2 ^ 64) ∙ length-set w1 cell 0 ∙ length-set old.0.words cell sum,
+            let w3 = set w2 count_at ((m + x) % 2 ^ 64) in
+            let differ : count_at ≢ cell = (λ e. let o : ℕ = count_at in let e' : o ≡ o + 1 + a.cpu = e in omega arith) in
+            let counted : m ≡ get_or old.0.words count_at 0 = seen_m alone ∙ get_or-set_other w1 cell count_at 0 0 differ ∙ get_or-set_other old.0.words cell count_at sum 0 differ in (
+              length-set w2 count_at ((m + x) % 2 ^ 64) ∙ length-set w1 cell 0 ∙ length-set old.0.words cell sum,
               exact_all w3 exact
-                  (λ place apart other. get_or-set_other w2 row place ((m + x) % 2 ^ 64) 0 other ∙ get_or-set_other w1 cell place 0 0 apart ∙ get_or-set_other old.0.words cell place sum 0 apart)
+                  (λ place apart other. get_or-set_other w2 count_at place ((m + x) % 2 ^ 64) 0 other ∙ get_or-set_other w1 cell place 0 0 apart ∙ get_or-set_other old.0.words cell place sum 0 apart)
                   (subst (IsRowOf s a.counter w3 (length old.0.adds + 1)) (sym (cells_after-same s old.0.adds a ∙ large_placed s.batch a.cpu value c large))
                   (folds s old.0.words (length old.0.adds) c a n mine who inside (found alone) low amount few batch w3 m x refl taken counted low_m)),
             );

@@ -1,6 +1,6 @@
 -- What holds of the words between any two steps.
-use Rattle.std.specs.Prelude.{◌≡◌, ◌≢◌, ℕ, zero, suc, ◌+◌, ◌*◌, ◌-◌, ◌%◌, ◌^◌, ◌<◌, true, List, [], ◌∷◌, ◌++◌, length, slice_index, slice_set, replicate, Option, Some, None, ◌==◌, if◌then◌else◌}
-use Rattle.std.specs.Int.{cast_unsigned, w64}
+use Rattle.std.specs.Prelude.{◌≡◌, ◌≢◌, ℕ, zero, suc, ◌+◌, ◌*◌, ◌-◌, ◌%◌, ◌^◌, ◌<◌, ◌≤◌, true, false, List, [], ◌∷◌, ◌++◌, length, slice_index, slice_set, replicate, Option, Some, None, ◌==◌, if◌then◌else◌, FitsSigned}
+use Rattle.std.specs.Int.{cast_unsigned, w32, w64}
 use mathlib.Core.Option.{some}
 use lib.ListN.{get_elem?}
 use Rattle.atomic_table.specs.Table.{State}
@@ -54,6 +54,11 @@ starting s = record { adds = []; room = s.adds; alone = true; hand = None; words
 abbrev pub IsAlike : ℕ → ℕ → Type 0
 IsAlike a b = (p q : ℕ) × (a + 18446744073709551616 * p ≡ b + 18446744073709551616 * q)
 
+-- each amount is a signed number of 32 bits
+abbrev pub AmountsFit : List CountLine → Type 0
+AmountsFit [] = Unit {0}
+AmountsFit (a ∷ adds) = FitsSigned w32 a.amount × AmountsFit adds
+
 -- it added nothing, and may add nothing
 pub record IsIdle (v : Tally) : Type 0 where
   pub adds : v.adds ≡ []
@@ -68,7 +73,9 @@ pub record Kept (s : Shape) (t : State (Unit {0}) Tally) : Type 0 where
   pub wide : length t.words ≡ word_count s
   pub sums : (k : ℕ) → k < s.counters → IsAlike (row_sum t.words (row_of s k) (s.cpus + 1) + sum_over (in_hand k) t.views) (sum_over (recorded k) t.views)
   pub rooms : sum_over (λ (v : Tally). length v.adds + v.room) t.views ≡ s.adds
+  pub few : s.adds ≤ 100000
   pub hands : (j : ℕ) (v : Tally) → get_elem? t.views j ≡ some v → v.adds ≡ [] → v.hand ≡ None
+  pub small : (j : ℕ) (v : Tally) → get_elem? t.views j ≡ some v → AmountsFit v.adds
   pub alone : (j : ℕ) (v : Tally) → get_elem? t.views j ≡ some v → v.alone ≡ true → IsAlone t j v
 
 -- a pass that is alone finds the word that it knows
@@ -90,3 +97,18 @@ amount_in None = 0
 
 abbrev pub settled_at : (word found : ℕ) → Tally → Tally
 settled_at word found v = record v { hand = None; words = slice_set v.words word ((found + amount_in v.hand) % 2 ^ 64) }
+
+-- a pass that gave room to another, and the other
+abbrev pub with_less : (room : ℕ) → Tally → Tally
+with_less room v = record v { room = v.room - room; alone = false; words = [] }
+
+abbrev pub with_room : (room : ℕ) → Tally
+with_room room = record { adds = []; room = room; alone = false; hand = None; words = [] }
+
+-- a pass with what another added, and with its room
+abbrev pub with_both : Tally → Tally → Tally
+with_both v w = record { adds = v.adds ++ w.adds; room = v.room + w.room; alone = false; hand = None; words = [] }
+
+-- what a look at all tells: how many adds a pass made and may make
+abbrev pub IsFew : Tally → Type 0
+IsFew v = length v.adds + v.room ≤ 100000

@@ -13,6 +13,7 @@ pub struct Counters {
     pub(crate) shape: Shape,
     ghost shaped: { table.shared.key ≡ shape },
     ghost words: { table.shared.table_id.words ≡ word_count shape },
+    ghost slots: { table.shared.table_id.slots ≡ 0 },
     ghost few: { shape.adds ≤ 100000 },
 }
 

@@ -4,7 +4,9 @@
 #![tactic(auto)]
 
 mod adds;
+mod close;
 mod counters;
+mod passes;
 mod steps;
 mod table;
 

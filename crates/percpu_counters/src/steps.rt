@@ -1,8 +1,10 @@
 //! Single steps on the words.
-ghost use Rattle.std.specs.Prelude.{◌≡◌, ◌<◌, length, Some, None};
-ghost use Rattle.percpu_counters.specs.Rule.{row_of, cell_of, word_count, put_at, lifted_at, settled_at, IsFound};
+ghost use Rattle.std.specs.Prelude.{◌≡◌, ◌<◌, ◌≤◌, [], length, Some, None};
+ghost use Rattle.percpu_counters.specs.Rule.{row_of, cell_of, word_count, put_at, lifted_at, settled_at, IsFound, with_less, with_room, with_both, IsFew};
 
-use crate::table::{Adding, Lift, Look, Place, Put, Settle, Shape, Words};
+use crate::table::{
+    Adding, Cut, Cutting, Learn, Lift, Look, Place, Put, Settle, Shape, Unite, Words,
+};
 use vm_model::CountLine;
 
 /// Adds to the cell of a processor. Returns what it had before.
@@ -68,4 +70,29 @@ pub(crate) fn look(words: &Words, place: &mut Place, shape: Shape, counter: u16,
 {
     let at = counter as usize * (shape.cpus as usize + 1) + 1 + cpu as usize;
     words.load::<Look>(place, at)
+}
+
+/// Room of a pass goes to a new one.
+pub(crate) fn cut<C: Cutting>(words: &Words, place: &mut Place, shape: Shape, room: u32) -> Place
+    requires shape { (C.room ≡ room) × (words.now.key ≡ shape) }
+    requires table { (place.old.table_id ≡ words.now.table_id) × (words.now.table_id.words ≡ word_count shape) }
+    requires room { room ≤ place.old.me.0.room }
+    requires empty { place.old.me.0.hand ≡ None }
+    ensures table { (place.new.table_id ≡ place.old.table_id) × (result.table_id ≡ place.old.table_id) }
+    ensures views { (place.new.me ≡ (with_less room place.old.me.0, place.old.me.1)) × (result.me ≡ (with_room room, [])) }
+{
+    words.split_seat::<Cut<C>>(place)
+}
+
+/// What another pass added, and its room, goes to a pass.
+pub(crate) fn unite(words: &Words, place: &mut Place, other: Place, shape: Shape)
+    requires shape { words.now.key ≡ shape }
+    requires table { (place.old.table_id ≡ words.now.table_id) × (other.table_id ≡ words.now.table_id) × (words.now.table_id.words ≡ word_count shape) }
+    requires empty { (place.old.me.0.hand ≡ None) × (other.me.0.hand ≡ None) × (other.me.1 ≡ []) }
+    ensures table { place.new.table_id ≡ place.old.table_id }
+    ensures view { place.new.me ≡ (with_both place.old.me.0 other.me.0, place.old.me.1) }
+    ensures few { IsFew place.new.me.0 }
+{
+    words.join_seat::<Unite>(place, other);
+    words.load::<Learn>(place, 0);
 }

@@ -1,8 +1,8 @@
 //! The words of the counters, and what each pass knows of them.
-ghost use Rattle.std.specs.Prelude.{◌≡◌};
+ghost use Rattle.std.specs.Prelude.{◌≡◌, ℕ};
 ghost use Rattle.vm_model.specs.declared.calls.CountLine.{CountLine};
 
-use atomic_table::{Play, Seat, Shared, TableRule};
+use atomic_table::{Join, Play, Seat, Shared, Split, TableRule};
 use std::collections::LinkedList;
 use std::marker::{Brand, PhantomData};
 use vm_model::CountLine;
@@ -96,4 +96,46 @@ impl Play<(), Tally> for Look {
     ghost use Rattle.percpu_counters.specs.Rule.{IsFound};
 
     ghost then = { λ st m n m'. (m' ≡ m) × IsFound m.0 st.word n };
+}
+
+/// How much room goes to a new pass. Each call picks it.
+pub trait Cutting {
+    ghost room: { ℕ };
+}
+
+impl Cutting for Brand {
+    ghost room = { 0 };
+}
+
+/// Room goes to a new pass.
+pub struct Cut<C> {
+    of: PhantomData<C>,
+}
+
+impl<C: Cutting> Split<Tally> for Cut<C> {
+    ghost use Rattle.percpu_counters.specs.Rule.{with_less, with_room};
+
+    ghost left = { λ v. with_less C.room v };
+
+    ghost right = { λ v. with_room C.room };
+}
+
+/// What another pass added, and its room, goes to a pass.
+pub struct Unite;
+
+impl Join<Tally> for Unite {
+    ghost use Rattle.percpu_counters.specs.Rule.{with_both, with_room};
+
+    ghost both = { with_both };
+
+    ghost spent = { with_room 0 };
+}
+
+/// A look that tells how many adds a pass made and may make.
+pub struct Learn;
+
+impl Play<(), Tally> for Learn {
+    ghost use Rattle.percpu_counters.specs.Rule.{IsFew};
+
+    ghost then = { λ st m n m'. (m' ≡ m) × IsFew m.0 };
 }
