@@ -37,7 +37,7 @@ large_placed batch cpu value c reached =
     kept : Cells
     kept = record c { cells = set c.cells cpu value }
 
--- a place of another counter's words is in no other count_at
+-- a place of one counter's words is none of another's
 elsewhere : (s : Shape) (counter other place : ℕ) → counter ≢ other → row_of s counter ≤ place → place < row_of s counter + (s.cpus + 1) → (q : ℕ) → row_of s other ≤ q → q < row_of s other + (s.cpus + 1) → place ≢ q
 elsewhere s counter other place apart from to q from' to' same = dite (dec_le counter other)
     (λ le. absurd (let f = further counter other (s.cpus + 1) (omega arith) in let o : ℕ = row_of s counter in let o' : ℕ = row_of s other in let f' : o + (s.cpus + 1) ≤ o' = f in omega arith))
