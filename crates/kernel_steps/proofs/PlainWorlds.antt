@@ -21,7 +21,7 @@ use Rattle.vm_model.specs.History.{World, Local, started, moved_to, made_by, ope
 use Rattle.map_laws.proofs.Lists.{set_cases, append_cases}
 use Rattle.map_laws.proofs.Frames.{IsFramed, IsStep, IsLasting, lasts, not_over, has_call}
 use Rattle.map_laws.proofs.Places.{OnNext, answers_call, either_next, either_place}
-use Rattle.section_core.specs.Locals.{AreBuilt, IsBuiltCall}
+use Rattle.callers.specs.CallerParts.{AreBuilt, IsBuiltCall}
 use Rattle.section_core.specs.Lawful.{IsRunning}
 
 -- a search for pages, and not for the groups of a chunk

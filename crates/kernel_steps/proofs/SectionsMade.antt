@@ -24,7 +24,7 @@ use Rattle.map_parts.proofs.WholeRuns.{runs_are_parts}
 use Rattle.map_laws.proofs.ReachedSteps.{steps_reached}
 use Rattle.section_core.specs.declared.region.Stepped.{Stepped}
 use Rattle.section_core.specs.declared.region.Stepped.TheVariants.{Moved, Stays, Ended}
-use Rattle.section_core.specs.Sections.{IsMoved, HasStayed, Answers}
+use Rattle.section_core.specs.MadeSections.{IsMoved, HasStayed, Answers}
 use Rattle.section_core.specs.Lawful.{IsRunning, IsLawful}
 use Rattle.kernel_steps.specs.Kernels.{KernelState, IsStanding, IsSomewhere, IsSteppedAs, SectionAs, movers}
 
@@ -222,6 +222,25 @@ pub nothing_there : (c : Setup) (opening : List Call) (calls : List (List Call))
 nothing_there c opening calls w k caller l st here none =
     let at : slice_get w.locals caller ≡ Some l = ap (λ ls. slice_get ls caller) (sym st.locals) ∙ here in
     sym (ap (moves_in w) at ∙ ap (can_move w.map) (asks_nothing (ask l.setup l.place) none))
+
+-- a caller that can't move stays at a turn, or has ended
+pub still_stays : (c : Setup) (opening : List Call) (calls : List (List Call)) (w : World) (k : KernelState) (caller n : ℕ) (l : Local) → IsStanding c opening calls w k
+    → slice_get k.locals caller ≡ Some l → wants l ≡ Some n → moves_in w (slice_get w.locals caller) ≡ false → IsSteppedAs w caller Stays
+still_stays c opening calls w k caller n l st here wanted still =
+    let at : slice_get w.locals caller ≡ Some l = ap (λ ls. slice_get ls caller) (sym st.locals) ∙ here in
+    (l, at, (sym (ap (moves_in w) at) ∙ still, not_nothing c opening calls w st.running l n wanted))
+
+pub still_ended : (c : Setup) (opening : List Call) (calls : List (List Call)) (w : World) (k : KernelState) (caller : ℕ) (l : Local) → IsStanding c opening calls w k
+    → slice_get k.locals caller ≡ Some l → wants l ≡ None → IsSteppedAs w caller Ended
+still_ended c opening calls w k caller l st here none = (l, ap (λ ls. slice_get ls caller) (sym st.locals) ∙ here, asks_nothing (ask l.setup l.place) none)
+
+-- the world is the same after a step of a caller that can't move
+pub still_world : (c : Setup) (opening : List Call) (calls : List (List Call)) (w : World) (k : KernelState) (caller : ℕ) → IsStanding c opening calls w k → moves_in w (slice_get w.locals caller) ≡ false → IsStanding c opening calls (step w caller) k
+still_world c opening calls w k caller st still = subst (λ v. IsStanding c opening calls v k) (sym (by (slice_get w.locals caller) refl still)) st
+  where
+    by : (o : Option Local) → slice_get w.locals caller ≡ o → moves_in w o ≡ false → step w caller ≡ w
+    by None e h = ap (step_of w) e
+    by (Some l) e h = world_stays c opening calls w st.running caller l e h
 
 pub within_there : (k : KernelState) (caller n : ℕ) (l : Local) → IsSomewhere k → slice_get k.locals caller ≡ Some l → wants l ≡ Some n → n < length k.regions
 within_there k caller n l is here wanted =

@@ -10,33 +10,15 @@ use Rattle.vm_model.specs.Calls.{Answered, can_place}
 use Rattle.vm_model.specs.History.{World, Local, started, placing_calls, opening_world, callers_from, opening_answers, finish, most_events}
 use Rattle.vm_model.specs.Parts.{regions_of}
 use Rattle.map_laws.proofs.ReachedSteps.{steps_reached}
-use Rattle.section_core.specs.Locals.{AreBuilt, IsBuiltCall}
-use Rattle.kernel_steps.specs.Kernels.{KernelState, IsStanding, CanStart, CanJoin, start_of, opening_of, callers_of}
-
--- calls of the built words place no object
-not_placing : (call : Call) → IsBuiltCall call → can_place call ≡ false
-not_placing (Vmalloc bytes align) is = refl
-not_placing (Vfree target) is = refl
-not_placing (MapRam cpu pages) is = refl
-not_placing (UnmapRam target) is = refl
-not_placing UnmapAliases is = refl
-not_placing _ is = absurd is
-
-none_placing : (calls : List Call) → AreBuilt calls → count_by can_place calls ≡ 0
-none_placing [] is = refl
-none_placing (call ∷ calls) is = sum_by-cons (λ x. cond (can_place x) 1 0) call calls ∙ ap (λ b. cond b 1 0 + count_by can_place calls) (not_placing call (is 0 call refl)) ∙ (let rest = none_placing calls (λ i x h. is (suc i) x h) in omega arith)
-
-pub no_room : (sections : List (List Call)) → ((k : ℕ) (own : List Call) → slice_get sections k ≡ Some own → AreBuilt own) → placing_calls sections ≡ 0
-no_room [] is = refl
-no_room (own ∷ sections) is =
-    sum_by-cons (λ calls. count_by can_place calls) own sections ∙ (let first = none_placing own (is 0 own refl) in let rest = no_room sections (λ k x h. is (suc k) x h) in omega arith)
+use Rattle.callers.specs.CallerParts.{AreBuilt, IsBuiltCall}
+use Rattle.kernel_steps.specs.Kernels.{KernelState, IsStanding, CanStart, IsBefore, CanJoin, start_of, opening_of, callers_of}
 
 -- before the first call of the opening
-pub stands_before : (c : Setup) (opening : List Call) (calls : List (List Call)) (k : KernelState) → CanStart c (opening ∷ calls) → k.regions ≡ regions_of c (at_first c 0) → k.locals ≡ started c [] 0 opening ∷ [] → k.moved ≡ []
+pub stands_before : (c : Setup) (opening : List Call) (calls : List (List Call)) (room : ℕ) (k : KernelState) → IsBefore c (opening ∷ calls) room → k.regions ≡ regions_of c (at_first c room) → k.locals ≡ started c [] 0 opening ∷ [] → k.moved ≡ []
     → IsStanding c opening calls (opening_world c opening calls) k
-stands_before c opening calls k can regions locals moved = record {
-  running = record { trace = can.trace; opening_built = can.built 0 opening refl; callers_built = λ i own h. can.built (suc i) own h; reached = inl ([], tt, refl) };
-  regions = regions ∙ ap (λ n. regions_of c (at_first c n)) (sym (no_room (opening ∷ calls) can.built));
+stands_before c opening calls room k is regions locals moved = record {
+  running = record { trace = is.can.trace; opening_built = is.can.built 0 opening refl; callers_built = λ i own h. is.can.built (suc i) own h; reached = inl ([], tt, refl) };
+  regions = regions ∙ ap (λ n. regions_of c (at_first c n)) is.room;
   locals = locals;
   moved = moved;
 }
@@ -69,6 +51,11 @@ pub section_short : (calls : List (List Call)) (k : ℕ) (own : List Call) → s
 section_short [] k own h = cc
 section_short (x ∷ calls) zero own h = let same : x ≡ own = cc in let n = ap length same in omega (arith, sum_by-cons {X = List Call} length x calls)
 section_short (x ∷ calls) (suc k) own h = let rest = section_short calls k own h in omega (arith, sum_by-cons {X = List Call} length x calls)
+
+-- the calls of all sections, the opening's among them
+pub few_together : (sections : List (List Call)) → 1 ≤ length sections → length (opening_of sections) + sum_by length (callers_of sections) ≤ 100000 → sum_by length sections ≤ 100000
+few_together [] some few = absurd (omega arith)
+few_together (opening ∷ calls) some few = omega (arith, sum_by-cons {X = List Call} length opening calls)
 
 pub first_answers : (locals : List Local) (l : Local) → slice_get locals 0 ≡ Some l → l.answers ≡ opening_answers locals
 first_answers [] l h = cc

@@ -19,7 +19,7 @@ use Rattle.std.proofs.lemmas.List.Elements.{All-nil, All-cons}
 use Rattle.kernel_steps.specs.Kernels.{KernelState, IsStanding, IsSomewhere, IsOfBlocks, movers}
 use Rattle.section_core.proofs.LawfulCallers.{sound}
 use Rattle.section_core.proofs.Counted.{reached_counted, events_of, length-numbers_of}
-use Rattle.section_core.proofs.AnswersGiven.{take_one}
+use Rattle.callers.proofs.AnswersGiven.{take_one}
 use Rattle.kernel_steps.proofs.PlainWorlds.{plain_world}
 use Rattle.section_core.proofs.LawfulRegions.{free_there, pages_there}
 use Rattle.section_core.proofs.Memory.{memory_reached}

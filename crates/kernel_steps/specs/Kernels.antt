@@ -5,7 +5,7 @@ use Rattle.vm_model.specs.Setup.{Setup}
 use Rattle.vm_model.specs.Events.{Event}
 use Rattle.vm_model.specs.Places.{ask, AskNothing}
 use Rattle.vm_model.specs.Given.{can_move}
-use Rattle.vm_model.specs.History.{World, Local, opening_world, with_callers, finish, most_events, callers_from, opening_answers}
+use Rattle.vm_model.specs.History.{World, Local, opening_world, with_callers, finish, most_events, callers_from, opening_answers, placing_calls}
 use Rattle.vm_model.specs.Parts.{Region, CpuBlocks, regions_of, wants, moves}
 use Rattle.vm_model.specs.PlainMap.{Block}
 use Rattle.vm_model.specs.declared.rows.BlockRow.{BlockRow}
@@ -14,7 +14,7 @@ use Rattle.map_blocks.specs.BlockRows.{block_table, part_table}
 use Rattle.section_core.specs.declared.region.Stepped.{Stepped}
 use Rattle.section_core.specs.declared.region.Stepped.TheVariants.{Moved, Stays, Ended}
 use Rattle.vm_model.specs.Rules.{IsTrace}
-use Rattle.section_core.specs.Locals.{AreBuilt}
+use Rattle.callers.specs.CallerParts.{AreBuilt}
 use Rattle.section_core.specs.Lawful.{IsRunning}
 
 -- the regions and the callers by their numbers, and the caller of each event
@@ -65,6 +65,11 @@ pub record CanStart (c : Setup) (sections : List (List Call)) : Type 0 where
   pub some : 1 ≤ length sections
   pub trace : IsTrace c (opening_of sections) (callers_of sections)
   pub built : (k : ℕ) (own : List Call) → slice_get sections k ≡ Some own → AreBuilt own
+
+-- the same, and how many objects their calls can place
+pub record IsBefore (c : Setup) (sections : List (List Call)) (room : ℕ) : Type 0 where
+  pub can : CanStart c sections
+  pub room : room ≡ placing_calls sections
 
 -- where the opening has ended, and the callers stand before their first calls
 abbrev pub start_of : Setup → List (List Call) → World

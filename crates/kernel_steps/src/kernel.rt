@@ -1,5 +1,5 @@
 //! The kernel: all regions and all callers, one step after another.
-ghost use Rattle.std.specs.Prelude.{◌∷◌, ◌≡◌, ◌≢◌, ◌<◌, ◌≤◌, ℕ, List, All, Some, length, take, drop, slice_get, reverse, IfOk, IfSome, OnOk, OnErr};
+ghost use Rattle.std.specs.Prelude.{◌∷◌, ◌≡◌, ◌≢◌, ◌<◌, ◌≤◌, ℕ, true, false, List, All, Some, length, take, drop, slice_get, reverse, IfOk, IfSome, OnOk, OnErr};
 ghost use Rattle.vm_model.specs.declared.calls.Call.{Call};
 ghost use Rattle.vm_model.specs.Setup.{Setup};
 ghost use Rattle.vm_model.specs.Space.{sort_by};
@@ -17,14 +17,14 @@ ghost use Rattle.vm_model.specs.Parts.{regions_of, wants, moves, after};
 ghost use Rattle.vm_model.specs.Run.{section_by};
 ghost use Rattle.section_core.specs.declared.region.Stepped.TheVariants.{Moved};
 ghost use Rattle.section_core.specs.Lawful.{IsRunning, IsLawful};
-ghost use Rattle.kernel_steps.specs.Kernels.{KernelState, IsStanding, IsSteppedAs, SectionAs, CanStart, CanJoin, IsOfBlocks, start_of, opening_of, callers_of};
+ghost use Rattle.kernel_steps.specs.Kernels.{KernelState, IsStanding, IsSteppedAs, SectionAs, CanStart, IsBefore, CanJoin, IsOfBlocks, start_of, opening_of, callers_of};
 
 use augmented_tree::FreeSide;
+use callers::region_number::{FIRST_BLOCKS, FREE_BLOCKS, LIVE_AREAS, PAGE_MAP, WAITING_SPANS};
+use callers::{AnswerList, Local, first_callers, placing_calls};
 use history_book::number;
 use lazy_purge::LazySide;
-use section_core::{
-    AnswerList, Local, Region, Stepped, first_callers, first_regions, moves, section,
-};
+use section_core::{Region, Stepped, first_regions, moves, section};
 use std::alloc::{AllocError, Global};
 use std::marker::Model;
 use std::sync::Arc;
@@ -83,29 +83,31 @@ impl Kernel {
         ensures { IfOk result (λ kernel. IsStanding (setup_of config) (opening_of sections) (callers_of sections) (start_of (setup_of config) sections) kernel) }
     {
         let config = Arc::new(alloc, config)?;
+        let room = placing_calls(&sections);
         let mut sections = sections.into_vec();
         let opening = sections.remove(0);
-        let mut kernel = Kernel::before(alloc, &config, opening)?;
+        let mut kernel = Kernel::before(alloc, &config, opening, room)?;
         kernel.finish()?;
         let answers = Arc::new(alloc, kernel.locals[0].answers(alloc)?)?;
         kernel.join(first_callers(alloc, &config, &answers, sections)?)?;
         Ok(kernel)
     }
 
-    /// The opening before its first call.
+    /// The opening before its first call, with room for so many objects.
     fn before(
         alloc: Global,
         config: &Arc<Config, Global>,
         opening: CallerCalls,
+        room: u32,
     ) -> Result<Kernel, AllocError>
-        requires { (calls : List (List Call)) × CanStart (setup_of (arc_value config.now)) (opening ∷ calls) }
-        ensures { IfOk result (λ kernel. (calls : List (List Call)) → CanStart (setup_of (arc_value config.now)) (opening ∷ calls) → IsStanding (setup_of (arc_value config.now)) opening calls (opening_world (setup_of (arc_value config.now)) opening calls) kernel) }
+        requires { (calls : List (List Call)) × IsBefore (setup_of (arc_value config.now)) (opening ∷ calls) room }
+        ensures { IfOk result (λ kernel. (calls : List (List Call)) → IsBefore (setup_of (arc_value config.now)) (opening ∷ calls) room → IsStanding (setup_of (arc_value config.now)) opening calls (opening_world (setup_of (arc_value config.now)) opening calls) kernel) }
     {
         let none = Arc::new(alloc, AnswerList::of(Vec::new(alloc)))?;
         let first = Local::start(alloc, Arc::try_clone(config)?, 0, none, opening)?;
         Ok(Kernel {
             alloc,
-            regions: first_regions(alloc, config)?,
+            regions: first_regions(alloc, config, room)?,
             locals: vec![in alloc; first]?,
             moved: Vec::new(alloc),
         })
@@ -121,16 +123,33 @@ impl Kernel {
         Ok(())
     }
 
+    /// Which of the two it is that keeps a caller from moving: a turn that another has, or that all its calls are answered.
+    fn stands_still(&self, caller: u16) -> Stepped
+        requires { caller < length self.now.locals }
+        ensures still { result ≢ Moved }
+        ensures stepped { (c : Setup) (opening : List Call) (calls : List (List Call)) (w : World) → IsStanding c opening calls w self.now → moves_in w (slice_get w.locals caller) ≡ false → IsSteppedAs w caller result }
+    {
+        match self.locals[caller as usize].wants() {
+            Some(_) => Stepped::Stays,
+            None => Stepped::Ended,
+        }
+    }
+
     /// One event of a caller, by its number. It stays where its next section takes a turn that another has, and it has
-    /// ended where all its calls are answered; then nothing changes. An error changes nothing either.
+    /// ended where all its calls are answered; then nothing changes, and no memory is wanted. An error changes nothing
+    /// either.
     pub fn step(&mut self, caller: u16) -> Result<Stepped, AllocError>
         requires { caller < length self.old.locals }
         ensures ok { OnOk result ((c : Setup) (opening : List Call) (calls : List (List Call)) (w : World) → IsStanding c opening calls w self.old → IsStanding c opening calls (step w caller) self.new) }
         ensures stepped { IfOk result (λ stepped. (c : Setup) (opening : List Call) (calls : List (List Call)) (w : World) → IsStanding c opening calls w self.old → IsSteppedAs w caller stepped) }
         ensures unchanged { IfOk result (λ stepped. stepped ≢ Moved → self.new ≡ self.old) }
         ensures callers { length self.new.locals ≡ length self.old.locals }
+        ensures memory { OnErr result ((c : Setup) (opening : List Call) (calls : List (List Call)) (w : World) → IsStanding c opening calls w self.old → moves_in w (slice_get w.locals caller) ≡ true) }
         ensures err { OnErr result (self.new ≡ self.old) }
     {
+        if !self.can_move(caller) {
+            return Ok(self.stands_still(caller));
+        }
         self.moved.reserve(1)?;
         let stepped = section_of(&mut self.regions, &mut self.locals, caller as usize)?;
         match stepped {
@@ -211,8 +230,8 @@ impl Kernel {
         ensures { IfOk result (λ tables. (config : Config) (opening : List Call) (calls : List (List Call)) (w : World) → IsStanding (setup_of config) opening calls w self.now → tables ≡ tables_of (setup_of config) w) }
     {
         let alloc = self.alloc;
-        let free = self.regions[3].free();
-        let pages = self.regions[6].pages();
+        let free = self.regions[FREE_BLOCKS as usize].free();
+        let pages = self.regions[PAGE_MAP as usize].pages();
         let largest = free.largest();
         Ok(Tables {
             entries: EntryList::of(self.entries()?),
@@ -221,10 +240,13 @@ impl Kernel {
             mapped: pages.mapped(),
             stale: pages.stale(),
             free: SpanList::of(free_blocks(alloc, free)?),
-            areas: self.regions[4].busy().areas()?,
-            waiting: SpanList::of(waiting_spans(alloc, self.regions[5].lazy())?),
-            blocks: BlockList::of(block_rows(alloc, &self.regions[8..])?),
-            parts: PartList::of(part_rows(alloc, &self.regions[8..])?),
+            areas: self.regions[LIVE_AREAS as usize].busy().areas()?,
+            waiting: SpanList::of(waiting_spans(
+                alloc,
+                self.regions[WAITING_SPANS as usize].lazy(),
+            )?),
+            blocks: BlockList::of(block_rows(alloc, &self.regions[FIRST_BLOCKS as usize..])?),
+            parts: PartList::of(part_rows(alloc, &self.regions[FIRST_BLOCKS as usize..])?),
             chunks: ChunkList::of(Vec::new(alloc)),
             objects: ObjectList::of(Vec::new(alloc)),
             tree_blocks: free.len(),

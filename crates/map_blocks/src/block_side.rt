@@ -1,5 +1,5 @@
 //! One processor's blocks.
-ghost use Rattle.std.specs.Prelude.{All, ◌≡◌, ◌≢◌, ◌≤◌, ◌<◌, ◌+◌, ◌-◌, ◌^◌, ◌∷◌, ◌++◌, [], ℕ, true, false, not, ◌==◌, Some, None, length, map, filter, find, slice_get, IsTrue, IsNone, ◌↔◌, IfOk, IfSome, IfNone, OnSome, OnOk, OnErr};
+ghost use Rattle.std.specs.Prelude.{All, ◌≡◌, ◌≢◌, ◌≤◌, ◌<◌, ◌+◌, ◌-◌, ◌^◌, ◌∷◌, ◌++◌, [], ℕ, true, false, not, ◌==◌, Some, None, length, map, filter, find, count_by, slice_get, IsTrue, IsNone, ◌↔◌, IfOk, IfSome, IfNone, OnSome, OnOk, OnErr};
 ghost use Rattle.std.specs.Ordering.{nat_cmp};
 ghost use Rattle.std.specs.BTreeMap.{insert_entry};
 ghost use Rattle.vm_model.specs.Space.{holds, span};
@@ -94,6 +94,16 @@ fn fragmented_starts(
         }
     }
     Ok(starts)
+}
+
+/// How many of the blocks of a queue are fragmented.
+fn fragmented_count(blocks: &BTreeMap<u32, KeptBlock>, queue: &[u32]) -> usize
+    ensures { result ≡ count_by (is_broken blocks.now.entries) queue.now }
+{
+    queue
+        .iter()
+        .filter(|start| is_fragmented_at(blocks, **start))
+        .count()
 }
 
 /// Takes the starts of the fragmented blocks out of a queue.
@@ -312,6 +322,13 @@ impl BlockSide {
             return Some(part.block);
         }
         None
+    }
+
+    /// How many blocks `take_fragmented` would take away. It takes no memory.
+    pub fn fragmented(&self) -> usize
+        ensures { result ≡ length (rows.fragmented self.now) }
+    {
+        fragmented_count(&self.blocks, &self.queue)
     }
 
     /// Takes the blocks away of which each part has ended and some page was never in one, as the kernel's

@@ -1,5 +1,5 @@
 -- The sections over the blocks of a processor.
-use Rattle.std.proofs.Common.{◌==◌, ◌&&◌, ◌≡◌, ℕ, suc, ◌+◌, ◌<◌, Bool, true, false, not, if◌then◌else◌, List, [], ◌∷◌, ◌++◌, length, filter, replicate, slice_index, slice_set, Option, Some, None, add-one, refl, ap, sym, ◌∙◌, arith}
+use Rattle.std.proofs.Common.{◌==◌, ◌&&◌, ◌≡◌, ℕ, suc, ◌+◌, ◌<◌, true, not, if◌then◌else◌, List, [], ◌∷◌, ◌++◌, length, filter, replicate, slice_index, slice_set, Option, Some, None, add-one, refl, ap, sym, subst, ◌∙◌, ◌≢◌, IsSomeAnd, arith}
 use Rattle.std.proofs.lemmas.List.{length-replicate, length-set, get_or-set_same}
 use Rattle.std.proofs.lemmas.Bool.Decides.{nat_tests}
 use Rattle.std.proofs.lemmas.List.Elements.{filter-append}
@@ -8,21 +8,22 @@ use Rattle.vm_model.specs.declared.calls.Reply.{Reply}
 use Rattle.vm_model.specs.declared.calls.Reply.TheVariants as reply
 use Rattle.vm_model.specs.Space.{address_of, is_among}
 use Rattle.vm_model.specs.Setup.{Setup, cpus}
-use Rattle.vm_model.specs.PlainMap.{PlainMap, Block, Life, InHand, Lives, Ended}
+use Rattle.vm_model.specs.PlainMap.{Block, InHand, Lives, Ended}
 use Rattle.vm_model.specs.Blocks as model
 use Rattle.vm_model.specs.Blocks.{PartAt, first_page, blocks_of, change_block, with_part, with_life, set_life, without_spent, spends, is_spent, dirty_hull}
-use Rattle.vm_model.specs.Events.{Section, ForPages, CutPart, NoPart, AddBlock, SettlePart, BeginUnmap, PartNotLive, Retire, Fragment, Dirty}
-use Rattle.vm_model.specs.Places.{Place, Then, ForBlock, MadeNothing, MadePart, Finding, CuttingPart, AddingBlock, MappingPart, SettlingPart, BeginningUnmap, UnmappingPart, Retiring, UnlinkingBlock, PurgeFragmenting, LookingAtDirty}
-use Rattle.vm_model.specs.Given.{cutting, beginning}
+use Rattle.vm_model.specs.Events.{ForPages, CutPart, NoPart, AddBlock, SettlePart, BeginUnmap, PartNotLive, Retire, Fragment, Dirty}
+use Rattle.vm_model.specs.Places.{Then, ForBlock, MadeNothing, MadePart, Finding, CuttingPart, AddingBlock, MappingPart, SettlingPart, BeginningUnmap, UnmappingPart, Retiring, UnlinkingBlock, PurgeFragmenting, LookingAtDirty, ask}
+use Rattle.vm_model.specs.Given.{given, cutting, beginning}
 use Rattle.vm_model.specs.Next.{Next, Go, Answer, next}
 use Rattle.vm_model.specs.History.{Local, moved_to}
-use Rattle.vm_model.specs.Parts.{Region, CpuBlocks, map_with}
+use Rattle.vm_model.specs.Parts.{CpuBlocks, map_with}
 use Rattle.map_parts.proofs.CpuRegion.{blocks_of-change}
 use Rattle.map_parts.proofs.Filters.{filter_comm}
 use Rattle.map_blocks.specs.BlockRows as rows
 use Rattle.map_blocks.specs.BlockRows.{BlockRows, sized, with_cut, with_block, with_settled, with_held, with_ended, without_blocks}
-use Rattle.section_core.specs.Regions.{blocks_region}
-use Rattle.section_core.specs.Sections.{IsMoved, AreOwn}
+use Rattle.section_core.specs.RegionSides.{blocks_region}
+use Rattle.section_core.specs.MadeSections.{IsMoved, MayGrow, TakesMemory}
+use Rattle.section_core.specs.StandsWell.{AreOwn}
 use Rattle.section_core.proofs.Moved.{moved_as}
 
 -- a region of a processor's blocks
@@ -124,6 +125,12 @@ module _ (l : Local) (side : BlockRows) (own : AreOwn l.setup side) where
       (ap (λ starts. Some (Fragment side.cpu starts)) (sym (sized_as (λ c. model.fragmented c side.cpu side.blocks)))) (ap (λ p. next l.setup p (Fragment side.cpu (rows.fragmented side))) (sym place)) local
       (region_by side.cpu side.pages _ _ side.next (slice_index numbers side.cpu) (ap (filter (λ (b : Block). not ((b.cpu == side.cpu) && is_among (rows.fragmented side) b.start))) stays
       ∙ filter_comm (λ (b : Block). not ((b.cpu == side.cpu) && is_among (rows.fragmented side) b.start)) (λ (b : Block). b.cpu == side.cpu) side.blocks) (sym next_is))
+
+  -- only a processor with a fragmented block has a purge want memory
+  pub fragments_with_memory : (gone : List ℕ) (extra : Option Span) (after : Then) → l.place ≡ PurgeFragmenting side.cpu gone extra after → rows.fragmented side ≢ [] → TakesMemory l (blocks_region side)
+  fragments_with_memory gone extra after place some =
+      subst (λ s. IsSomeAnd s MayGrow)
+      (sym (ap (λ p. given l.setup (map_with l.setup (blocks_region side)) (ask l.setup p)) place ∙ ap (λ starts. Some (Fragment side.cpu starts)) (sym (sized_as (λ c. model.fragmented c side.cpu side.blocks))))) some
 
   pub looks : (ranges : List Span) (l' : Local) → l.place ≡ LookingAtDirty side.cpu ranges → l' ≡ moved_to l (next l.setup l.place (Dirty side.cpu (dirty_hull side.cpu side.blocks))) → IsMoved l (blocks_region side) l' (blocks_region side)
   looks ranges l' place local =

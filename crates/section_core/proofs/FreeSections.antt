@@ -12,10 +12,10 @@ use Rattle.vm_model.specs.History.{Local, moved_to}
 use Rattle.vm_model.specs.Parts.{FreeRuns, map_with}
 use Rattle.vm_model.proofs.PaintRuns.{map-paint, lowest_is_free}
 use Rattle.map_parts.proofs.TakenPages.{taken_of_runs, taken_in}
-use Rattle.section_core.specs.declared.place.Aim.{Aim}
-use Rattle.section_core.specs.declared.place.Aim.TheVariants as aim
-use Rattle.section_core.specs.Places.{aim_of}
-use Rattle.section_core.specs.Sections.{IsMoved, MayGrow, TakesMemory}
+use Rattle.callers.specs.declared.place.Aim.{Aim}
+use Rattle.callers.specs.declared.place.Aim.TheVariants as aim
+use Rattle.callers.specs.CarriedPlaces.{aim_of}
+use Rattle.section_core.specs.MadeSections.{IsMoved, MayGrow, TakesMemory}
 use Rattle.section_core.proofs.Moved.{moved_as}
 
 module _ (l : Local) (bits : List Bool) (wide : length bits ≡ l.setup.space) where

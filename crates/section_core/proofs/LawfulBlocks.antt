@@ -1,5 +1,5 @@
 -- What the blocks of a processor and a caller that wants them are, in a world of a run.
-use Rattle.std.proofs.Common.{filter_map, ◌==◌, ◌||◌, option_map, ◌≡◌, ℕ, zero, suc, ◌+◌, ◌-◌, ◌<◌, ◌≤◌, ◌^◌, Bool, true, false, All, List, [], ◌∷◌, length, map, flat_map, replicate, slice_get, slice_index, Option, Some, None, IfSome, refl, ap, sym, ◌∙◌, subst, arith}
+use Rattle.std.proofs.Common.{filter_map, ◌==◌, ◌||◌, option_map, ◌≡◌, ℕ, zero, suc, ◌+◌, ◌<◌, ◌≤◌, Bool, true, false, All, List, [], ◌∷◌, length, map, slice_get, slice_index, Option, Some, None, refl, ap, sym, ◌∙◌, subst, arith}
 use Rattle.std.proofs.lemmas.Bool.Decides.{nat_tests}
 use Rattle.std.proofs.lemmas.Option.{slice_get_within}
 use Rattle.std.proofs.lemmas.List.{length-map}
@@ -8,20 +8,19 @@ use Rattle.vm_model.specs.declared.calls.Call.{Call}
 use Rattle.vm_model.specs.declared.areas.Span.{Span}
 use Rattle.vm_model.specs.Space.{holds, covers, span, end_of, hull, one_if, count_from}
 use Rattle.vm_model.specs.Setup.{Setup, cpus}
-use Rattle.vm_model.specs.PlainMap.{PlainMap, Block, Part, Live, InHand, is_ended}
-use Rattle.vm_model.specs.Blocks.{PartAt, first_page, rounded, size_of, parts_size, range_of, ended_parts, dirty_range, dirty_hull, blocks_of, life_of_part}
-use Rattle.vm_model.specs.Areas.{spans_of}
+use Rattle.vm_model.specs.PlainMap.{PlainMap, Block, Part, Live, is_ended}
+use Rattle.vm_model.specs.Blocks.{PartAt, first_page, rounded, size_of, range_of, ended_parts, dirty_range, dirty_hull, blocks_of}
 use Rattle.vm_model.specs.Carried.{count_of}
 use Rattle.vm_model.specs.Legal.{IsBare}
-use Rattle.vm_model.specs.Places.{Place, CuttingPart, AddingBlock, SettlingPart, Retiring, LookingAtDirty, ask}
+use Rattle.vm_model.specs.Places.{Place, PurgeFragmenting, CuttingPart, AddingBlock, SettlingPart, BeginningUnmap, Retiring, LookingAtDirty}
 use Rattle.vm_model.specs.History.{World, Local, most_events}
 use Rattle.vm_model.specs.Parts.{Region, CpuBlocks, regions_of, cpu_blocks, wants}
 use Rattle.vm_model.specs.Run.{StandTogether}
-use Rattle.map_parts.specs.Kept.{KeepsApart, IsSoundLocal, IsSoundPart, IsSoundPlace, HasPart}
+use Rattle.map_parts.specs.Kept.{IsSoundLocal, IsSoundPart, IsSoundPlace}
 use Rattle.map_parts.proofs.Filters.{filter_twice}
 use Rattle.map_laws.proofs.BlockFacts.{IsBlockArea, IsPartFine, IsBlockFine, IsBlockAt, IsPartIn, block_out, block_starts, count_cons, stacked_at, same_test, to_same}
 use Rattle.map_laws.proofs.BlockMoves.{same_start, part_within}
-use Rattle.map_laws.proofs.Chosen.{IsIn, filter_has, filter_in, sum_by-filter-le, sum_has}
+use Rattle.map_laws.proofs.Chosen.{IsIn, filter_has, filter_in}
 use Rattle.map_laws.proofs.EndProofs.{histories_short}
 use Rattle.map_laws.proofs.Frames.{IsFramed}
 use Rattle.map_laws.proofs.MapLegal.{held_life}
@@ -32,8 +31,9 @@ use Rattle.map_laws.proofs.TraceWorlds.{IsTraceWorld, trace_reached, own_names, 
 use Rattle.map_blocks.specs.BlockRows.{BlockRows, IsHeld}
 use Rattle.map_blocks.specs.BlockRows.{IsUnused as IsNoBlocks}
 use Rattle.section_core.specs.Lawful.{IsRunning, IsLawful}
-use Rattle.section_core.specs.Sections.{AreOwn, IsBlocksWell}
-use Rattle.section_core.proofs.LawfulCallers.{AreInOneState, in_one_state, sound, marked_within, hull_within, region_number, blocks_at}
+use Rattle.section_core.specs.StandsWell.{AreOwn, IsBlocksWell, IsOfProcessor}
+use Rattle.section_core.proofs.LawfulCallers.{AreInOneState, in_one_state, sound, marked_within, region_number, blocks_at}
+use Rattle.callers.proofs.Hulls.{hull_within}
 use Rattle.section_core.proofs.NextParts.{few_parts}
 
 -- the side of a processor in a map
@@ -222,14 +222,28 @@ module _ (c : Setup) (opening : List Call) (calls : List (List Call)) (w : World
         hull_within c.space (filter_map dirty_range (blocks_of cpu w.map.blocks)) s (all_ranges c.space (blocks_of cpu w.map.blocks) range_within)
         (sym (ap (λ blocks. hull (filter_map dirty_range blocks)) twice) ∙ e)
 
+    -- a place that wants these blocks names their processor
+    number : wants l ≡ Some (8 + cpu) → (p : Place) → l.place ≡ p → (n : ℕ) → wants (record l { place = p }) ≡ Some (8 + n) → n ≡ cpu
+    number wanted p e n is =
+        let same : Some (8 + n) ≡ Some (8 + cpu) = sym is ∙ ap (λ q. wants (record l { place = q })) (sym e) ∙ wanted in
+        let eight : 8 + n ≡ 8 + cpu = cc in omega arith
+
+    pub own_processor : wants l ≡ Some (8 + cpu) → IsOfProcessor l.place cpu
+    own_processor wanted = by_place l.place refl
+      where
+        by_place : (p : Place) → l.place ≡ p → IsOfProcessor p cpu
+        by_place (PurgeFragmenting own gone extra after) e = number wanted (PurgeFragmenting own gone extra after) e own refl
+        by_place (CuttingPart own pages) e = number wanted (CuttingPart own pages) e own refl
+        by_place (AddingBlock at) e = number wanted (AddingBlock at) e at.cpu refl
+        by_place (SettlingPart at) e = number wanted (SettlingPart at) e at.cpu refl
+        by_place (BeginningUnmap own page serial) e = number wanted (BeginningUnmap own page serial) e own refl
+        by_place (Retiring at r) e = number wanted (Retiring at r) e at.cpu refl
+        by_place (LookingAtDirty own ranges) e = number wanted (LookingAtDirty own ranges) e own refl
+        by_place _ e = tt
+
     pub blocks_well : wants l ≡ Some (8 + cpu) → IsBlocksWell l.setup l.place (side_of w.map c.block_pages cpu)
     blocks_well wanted = subst (λ d. IsBlocksWell d l.place (side_of w.map c.block_pages cpu)) (sym same_setup) (by_place l.place refl)
       where
-        number : (p : Place) → l.place ≡ p → (n : ℕ) → wants (record l { place = p }) ≡ Some (8 + n) → n ≡ cpu
-        number p e n is =
-            let same : Some (8 + n) ≡ Some (8 + cpu) = sym is ∙ ap (λ q. wants (record l { place = q })) (sym e) ∙ wanted in
-            let eight : 8 + n ≡ 8 + cpu = cc in omega arith
-
         by_place : (p : Place) → l.place ≡ p → IsBlocksWell c p (side_of w.map c.block_pages cpu)
         by_place (CuttingPart own pages) e =
             let proper = subst (λ p. IsProper c p) e (proper_here c is.trace.setup w framed world k l here) in
@@ -241,8 +255,8 @@ module _ (c : Setup) (opening : List Call) (calls : List (List Call)) (w : World
             (omega arith, (let within = area_within at.block stands.0 in omega arith), no_blocks at e)
         by_place (SettlingPart at) e =
             let part = subst (IsSoundPlace c w.map k) e mine.place in let space = is.trace.setup.space_high in
-            (held_here at (number (SettlingPart at) e at.cpu refl) part, (let fits = (part_fits at part).2 in omega arith))
-        by_place (Retiring at r) e = held_here at (number (Retiring at r) e at.cpu refl) (subst (IsSoundPlace c w.map k) e mine.place)
+            (held_here at (number wanted (SettlingPart at) e at.cpu refl) part, (let fits = (part_fits at part).2 in omega arith))
+        by_place (Retiring at r) e = held_here at (number wanted (Retiring at r) e at.cpu refl) (subst (IsSoundPlace c w.map k) e mine.place)
         by_place (LookingAtDirty own ranges) e = λ s h. dirty_within s h
         by_place _ e = tt
 
@@ -277,8 +291,11 @@ module _ (l : Local) (side : BlockRows) (st : StandTogether wants IsLawful l (Cp
   pub own_there : AreOwn l.setup side
   own_there = subst (AreOwn l.setup) (sym found.2) (are_own state.c state.opening state.calls state.w state.running state.k l state.here side.cpu found.0)
 
-  pub wanted_blocks : wants l ≡ Some (8 + side.cpu)
+  wanted_blocks : wants l ≡ Some (8 + side.cpu)
   wanted_blocks = state.wanted ∙ ap (λ n. Some n) found.1
+
+  pub processor_there : IsOfProcessor l.place side.cpu
+  processor_there = own_processor state.c state.opening state.calls state.w state.running state.k l state.here side.cpu found.0 wanted_blocks
 
   pub blocks_well_there : IsBlocksWell l.setup l.place side
   blocks_well_there = subst (IsBlocksWell l.setup l.place) (sym found.2) (blocks_well state.c state.opening state.calls state.w state.running state.k l state.here side.cpu found.0 wanted_blocks)

@@ -1,44 +1,27 @@
 -- A caller of a run: what it holds and flushes, and the state that it shares with its region.
-use Rattle.std.proofs.Common.{None, Option, Bool, ◌∷◌, ◌||◌, All, [], ◌*◌, option_map, ◌≡◌, ◌≢◌, ℕ, zero, suc, ◌+◌, ◌-◌, ◌<◌, ◌≤◌, ◌^◌, true, false, not, List, length, map, slice_get, Some, refl, ap, sym, ◌∙◌, subst, arith}
+use Rattle.std.proofs.Common.{Bool, ◌∷◌, ◌||◌, All, [], option_map, ◌≡◌, ℕ, zero, suc, ◌+◌, ◌-◌, ◌<◌, ◌≤◌, ◌^◌, true, false, not, List, length, map, slice_get, Some, refl, ap, sym, ◌∙◌, subst, arith}
 use Rattle.std.proofs.lemmas.List.{length-map}
 use Rattle.std.proofs.lemmas.Bool.Decides.{nat_tests}
-use Rattle.vm_model.specs.Carried.{held, flushed, fresh, leaving}
-use Rattle.vm_model.specs.Legal.{OnEach}
+use Rattle.vm_model.specs.Carried.{held, flushed}
 use Rattle.std.proofs.lemmas.Option.{slice_get-map, slice_get_within}
 use Rattle.vm_model.specs.declared.calls.Call.{Call}
 use Rattle.vm_model.specs.declared.areas.Span.{Span}
-use Rattle.vm_model.specs.Space.{times, span, holds, covers, runs, end_of, is_open, count_from, hull, wider}
+use Rattle.vm_model.specs.Space.{span, holds, covers, runs, end_of, is_open, count_from}
 use Rattle.vm_model.specs.Setup.{Setup, cpus}
 use Rattle.vm_model.specs.PlainMap.{PlainMap, Mark, Held, Flushing, is_free, taken, free_runs}
-use Rattle.vm_model.specs.Legal.{IsMarked}
-use Rattle.vm_model.specs.Places.{ask, Place, Then, Dropping, MappingArea, SettlingArea, UnmappingArea, Waiting, PurgeFlushing, PurgeReturning}
 use Rattle.vm_model.specs.History.{World, Local, most_events}
 use Rattle.vm_model.specs.Carried.{IsKept}
-use Rattle.vm_model.specs.Parts.{Region, Desk, PurgeTurn, AllocTurn, FreeRuns, LiveAreas, WaitingSpans, Pages, Percpu, CpuBlocks, regions_of, cpu_blocks, number_of, wants}
+use Rattle.vm_model.specs.Parts.{Region, Desk, PurgeTurn, AllocTurn, FreeRuns, LiveAreas, WaitingSpans, Pages, Percpu, CpuBlocks, regions_of, cpu_blocks, wants}
 use Rattle.vm_model.specs.Run.{StandTogether}
 use Rattle.vm_model.proofs.Runs.{covers-runs}
 use Rattle.map_parts.specs.Kept.{KeepsApart, IsSoundLocal}
 use Rattle.map_parts.proofs.ReachedKept.{reached_worlds_keep_apart}
 use Rattle.map_laws.proofs.CarriedKept.{carried_kept}
-use Rattle.map_laws.proofs.MapLaws.{areas_apart}
-use Rattle.map_laws.proofs.Chosen.{sum_has}
-use Rattle.vm_model.specs.Areas.{spans_of}
-use Rattle.vm_model.specs.declared.areas.Area.{Area}
 use Rattle.map_laws.proofs.EndProofs.{histories_short}
-use Rattle.map_laws.proofs.Spans.{covers_one, covers_append, holds_times, none_covers, times-one, times-append}
-use Rattle.section_core.specs.Places.{Carried, place_of}
-use Rattle.section_core.specs.declared.place.Place.{Place as Code}
-use Rattle.section_core.specs.declared.place.Place.TheVariants as code
-use Rattle.vm_model.specs.Space.{HasEnd}
+use Rattle.map_laws.proofs.Spans.{covers_one, covers_append}
 use Rattle.lazy_purge.specs.Waits.{HasPage}
-use Rattle.std.proofs.lemmas.List.Elements.{All-nil, All-cons, All-head, All-tail, All-weaker}
-use Rattle.vm_model.specs.Areas.{mapped_part}
-use Rattle.vm_model.specs.declared.areas.AreaKind.{AreaKind}
-use Rattle.section_core.specs.Sections.{AreRunsOf, IsDroppable, IsDroppedWell, AreReturnable, AreReturnedWell, IsMappable, IsMappedWell, IsUnmappable, IsUnmappedWell, IsFlushedWell, CanWait, IsWaitingWell, IsSettledWell}
-use Rattle.section_core.proofs.Memory.{memory_reached, pages_reached}
-use Rattle.page_pool.specs.Pages as page_pool
-use Rattle.vm_model.specs.Legal as map_bare
-use Rattle.vm_model.specs.declared.areas.AreaKind.TheVariants as kind
+use Rattle.std.proofs.lemmas.List.Elements.{All-nil, All-cons, All-head, All-tail}
+use Rattle.section_core.specs.StandsWell.{AreRunsOf}
 use Rattle.section_core.specs.Lawful.{IsRunning, IsLawful}
 use Rattle.section_core.proofs.Counted.{reached_counted, events_of-le}
 
@@ -85,18 +68,6 @@ or_true false = refl
 
 pub covers_tail : (s : Span) (spans : List Span) (page : ℕ) → covers spans page ≡ true → covers (s ∷ spans) page ≡ true
 covers_tail s spans page h = covers_append page (s ∷ []) spans ∙ ap (λ b. covers (s ∷ []) page || b) h ∙ or_true (covers (s ∷ []) page)
-
--- the hull of spans that end by n ends by n
-wider_within : (n : ℕ) (s : Span) (o : Option Span) → end_of s ≤ n → ((t : Span) → o ≡ Some t → end_of t ≤ n) → end_of (wider s o) ≤ n
-wider_within n s None low all = low
-wider_within n s (Some t) low all = let other = all t refl in grind (arith, nat_tests)
-
-pub hull_within : (n : ℕ) (spans : List Span) (s : Span) → All (λ (t : Span). end_of t ≤ n) spans → hull spans ≡ Some s → end_of s ≤ n
-hull_within n [] s all h = cc
-hull_within n (t ∷ spans) s all h =
-    let EndsBy : Span → Type 0 = λ t. end_of t ≤ n in
-    let same : wider t (hull spans) ≡ s = cc in
-    subst (λ u. end_of u ≤ n) same (wider_within n t (hull spans) (All-head EndsBy t spans all) (λ u e. hull_within n spans u (All-tail EndsBy t spans all) e))
 
 -- a caller of a run
 module _ (c : Setup) (opening : List Call) (calls : List (List Call)) (w : World) (is : IsRunning c opening calls w) (k : ℕ) (l : Local) (here : slice_get w.locals k ≡ Some l) where
@@ -180,34 +151,3 @@ few_more l r st = let s = in_one_state l r st in few_events s.c s.opening s.call
 -- who stands with a region wants it
 pub wanted_number : (l : Local) (r : Region) → StandTogether wants IsLawful l r → wants l ≡ Some (number_of_region r)
 wanted_number l r st = let s = in_one_state l r st in s.wanted ∙ ap (λ n. Some n) (region_number s.c s.w.map s.number r s.there)
-
--- no place wants the alloc turn or the chunks
-pub never_chunks : (c : Setup) (p : Code) (carried : Carried) (n : ℕ) → number_of (ask c (place_of p carried)) ≡ Some n → (n ≢ 2) × (n ≢ 7)
-never_chunks c (code.PurgeFragmenting cpu extra after) carried n e = let eight : 8 + cpu ≡ n = cc in (λ h. absurd (omega arith), λ h. absurd (omega arith))
-never_chunks c (code.CuttingPart cpu pages) carried n e = let eight : 8 + cpu ≡ n = cc in (λ h. absurd (omega arith), λ h. absurd (omega arith))
-never_chunks c (code.AddingBlock start cpu pages) carried n e = let eight : 8 + cpu ≡ n = cc in (λ h. absurd (omega arith), λ h. absurd (omega arith))
-never_chunks c (code.SettlingPart cpu part) carried n e = let eight : 8 + cpu ≡ n = cc in (λ h. absurd (omega arith), λ h. absurd (omega arith))
-never_chunks c (code.BeginningUnmap cpu page serial) carried n e = let eight : 8 + cpu ≡ n = cc in (λ h. absurd (omega arith), λ h. absurd (omega arith))
-never_chunks c (code.Retiring cpu part r) carried n e = let eight : 8 + cpu ≡ n = cc in (λ h. absurd (omega arith), λ h. absurd (omega arith))
-never_chunks c (code.LookingAtDirty cpu) carried n e = let eight : 8 + cpu ≡ n = cc in (λ h. absurd (omega arith), λ h. absurd (omega arith))
-never_chunks c code.Over carried n e = (λ h. cc, λ h. cc)
-never_chunks c (code.Refusing r) carried n e = (λ h. cc, λ h. cc)
-never_chunks c (code.Finding s) carried n e = (λ h. cc, λ h. cc)
-never_chunks c (code.FindingAgain s) carried n e = (λ h. cc, λ h. cc)
-never_chunks c (code.MappingArea s k) carried n e = (λ h. cc, λ h. cc)
-never_chunks c (code.Dropping s) carried n e = (λ h. cc, λ h. cc)
-never_chunks c (code.SettlingArea s k) carried n e = (λ h. cc, λ h. cc)
-never_chunks c (code.Removing start serial) carried n e = (λ h. cc, λ h. cc)
-never_chunks c (code.UnmappingArea a) carried n e = (λ h. cc, λ h. cc)
-never_chunks c (code.Waiting s r) carried n e = (λ h. cc, λ h. cc)
-never_chunks c (code.PurgeTaking extra after) carried n e = (λ h. cc, λ h. cc)
-never_chunks c (code.PurgeUnlinking extra after) carried n e = (λ h. cc, λ h. cc)
-never_chunks c (code.PurgeWaiting extra after) carried n e = (λ h. cc, λ h. cc)
-never_chunks c (code.PurgeCollecting extra after) carried n e = (λ h. cc, λ h. cc)
-never_chunks c (code.PurgeFlushing s after) carried n e = (λ h. cc, λ h. cc)
-never_chunks c (code.PurgeReturning after) carried n e = (λ h. cc, λ h. cc)
-never_chunks c (code.PurgeGiving after) carried n e = (λ h. cc, λ h. cc)
-never_chunks c (code.SettlingBlock s cpu pages) carried n e = (λ h. cc, λ h. cc)
-never_chunks c (code.MappingPart cpu part) carried n e = (λ h. cc, λ h. cc)
-never_chunks c (code.UnmappingPart cpu part) carried n e = (λ h. cc, λ h. cc)
-never_chunks c (code.UnlinkingBlock start r) carried n e = (λ h. cc, λ h. cc)

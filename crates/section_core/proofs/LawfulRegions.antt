@@ -1,38 +1,34 @@
 -- What a caller that wants the free pages, the live areas, the page map or the waiting spans needs of them, in a world of a run.
-use Rattle.std.proofs.Common.{None, Option, Bool, ◌∷◌, option_to_list, ◌++◌, All, [], ◌*◌, option_map, ◌≡◌, ℕ, zero, suc, ◌+◌, ◌-◌, ◌<◌, ◌≤◌, ◌^◌, true, false, not, List, length, map, slice_get, Some, refl, ap, sym, ◌∙◌, subst, arith}
-use Rattle.std.proofs.lemmas.List.{length-map}
+use Rattle.std.proofs.Common.{None, ◌∷◌, option_to_list, ◌++◌, All, [], ◌*◌, ◌≡◌, ℕ, ◌+◌, ◌-◌, ◌<◌, ◌≤◌, ◌^◌, true, false, List, length, slice_get, Some, refl, ap, sym, ◌∙◌, subst, arith}
 use Rattle.std.proofs.lemmas.Bool.Decides.{nat_tests}
 use Rattle.vm_model.specs.Carried.{held, flushed, fresh, leaving}
 use Rattle.vm_model.specs.Legal.{OnEach}
-use Rattle.std.proofs.lemmas.Option.{slice_get-map, slice_get_within}
+use Rattle.std.proofs.lemmas.Option.{slice_get_within}
 use Rattle.vm_model.specs.declared.calls.Call.{Call}
 use Rattle.vm_model.specs.declared.areas.Span.{Span}
-use Rattle.vm_model.specs.Space.{times, span, holds, covers, runs, end_of, is_open, count_from, hull, wider}
-use Rattle.vm_model.specs.Setup.{Setup, cpus}
-use Rattle.vm_model.specs.PlainMap.{PlainMap, Mark, Held, Flushing, is_free, taken, free_runs}
+use Rattle.vm_model.specs.Space.{times, span, holds, covers, end_of}
+use Rattle.vm_model.specs.Setup.{Setup}
+use Rattle.vm_model.specs.PlainMap.{PlainMap, Mark, Held, Flushing, is_free, free_runs}
 use Rattle.vm_model.specs.Legal.{IsMarked}
 use Rattle.vm_model.specs.Places.{Place, Then, Dropping, MappingArea, SettlingArea, SettlingBlock, UnmappingArea, MappingPart, UnmappingPart, Waiting, PurgeWaiting, PurgeFlushing, PurgeReturning, block_spans}
 use Rattle.vm_model.specs.History.{World, Local, most_events}
 use Rattle.vm_model.specs.Carried.{IsKept}
-use Rattle.vm_model.specs.Parts.{Region, Desk, PurgeTurn, AllocTurn, FreeRuns, LiveAreas, WaitingSpans, Pages, Percpu, CpuBlocks, regions_of, cpu_blocks, wants}
+use Rattle.vm_model.specs.Parts.{Region, FreeRuns, LiveAreas, WaitingSpans, Pages, regions_of, wants}
 use Rattle.vm_model.specs.Run.{StandTogether}
-use Rattle.vm_model.proofs.Runs.{covers-runs}
-use Rattle.map_parts.specs.Kept.{KeepsApart, IsSoundLocal}
-use Rattle.map_parts.proofs.ReachedKept.{reached_worlds_keep_apart}
-use Rattle.map_laws.proofs.CarriedKept.{carried_kept}
+use Rattle.map_parts.specs.Kept.{IsSoundLocal}
 use Rattle.map_laws.proofs.MapLaws.{areas_apart}
 use Rattle.map_laws.proofs.Chosen.{sum_has}
 use Rattle.vm_model.specs.Areas.{spans_of}
 use Rattle.vm_model.specs.declared.areas.Area.{Area}
 use Rattle.map_laws.proofs.EndProofs.{histories_short}
-use Rattle.map_laws.proofs.Spans.{covers_one, covers_append, holds_times, none_covers, times-one, times-append}
-use Rattle.section_core.specs.Places.{IsWhole, IsFlushed, EndsWithin}
+use Rattle.map_laws.proofs.Spans.{covers_one, holds_times, none_covers, times-one, times-append}
+use Rattle.callers.specs.CarriedPlaces.{IsWhole, IsFlushed, EndsWithin}
 use Rattle.vm_model.specs.Space.{HasEnd}
 use Rattle.lazy_purge.specs.Waits.{HasPage}
 use Rattle.std.proofs.lemmas.List.Elements.{All-nil, All-cons, All-weaker, All-append}
 use Rattle.vm_model.specs.Areas.{mapped_part}
 use Rattle.vm_model.specs.declared.areas.AreaKind.{AreaKind}
-use Rattle.section_core.specs.Sections.{AreRunsOf, IsDroppable, IsDroppedWell, AreReturnable, AreReturnedWell, IsMappable, IsMappedWell, IsUnmappable, IsUnmappedWell, IsFlushedWell, CanWait, IsWaitingWell, IsSettledWell}
+use Rattle.section_core.specs.StandsWell.{AreRunsOf, IsDroppable, IsDroppedWell, AreReturnable, AreReturnedWell, IsMappable, IsMappedWell, IsUnmappable, IsUnmappedWell, IsFlushedWell, CanWait, IsWaitingWell, IsSettledWell}
 use Rattle.section_core.proofs.NextAreas.{few_areas}
 use Rattle.section_core.proofs.Memory.{memory_reached, pages_reached}
 use Rattle.page_pool.specs.Pages as page_pool
@@ -42,9 +38,9 @@ use Rattle.section_core.specs.Lawful.{IsRunning, IsLawful}
 use Rattle.vm_model.specs.Blocks.{PartAt, first_page, mapped_pages, rounded}
 use Rattle.map_parts.specs.Kept.{IsSoundPlace}
 use Rattle.section_core.proofs.LawfulCallers as callers
-use Rattle.section_core.proofs.LawfulCallers.{AreInOneState, in_one_state, region_number, hull_within, holds_last, holds_front}
+use Rattle.callers.proofs.Hulls.{hull_within}
+use Rattle.section_core.proofs.LawfulCallers.{AreInOneState, in_one_state, region_number, holds_last, holds_front}
 use Rattle.section_core.proofs.LawfulBlocks.{part_fits}
-use Rattle.section_core.proofs.Counted.{reached_counted, events_of-le}
 
 -- the part of an area that is mapped lies in it
 part_end : (kd : AreaKind) (s : Span) → end_of (mapped_part kd s) ≤ end_of s
@@ -64,7 +60,7 @@ pages_in : (first pages size page : ℕ) → pages ≤ size → holds (span firs
 pages_in first pages size page low h = grind (arith, nat_tests)
 
 -- the spans of blocks have pages
-pub blocks_have_pages : (c : Setup) (gone : List ℕ) → 1 ≤ c.block_pages → All HasPage (block_spans c gone)
+blocks_have_pages : (c : Setup) (gone : List ℕ) → 1 ≤ c.block_pages → All HasPage (block_spans c gone)
 blocks_have_pages c [] some = All-nil HasPage
 blocks_have_pages c (start ∷ gone) some = All-cons HasPage (span start c.block_pages) (block_spans c gone) some (blocks_have_pages c gone some)
 
@@ -189,7 +185,7 @@ module _ (c : Setup) (opening : List Call) (calls : List (List Call)) (w : World
   unmapped_well = by_place l.place refl
     where
       by_place : (p : Place) → l.place ≡ p → IsWhole l.setup p → IsUnmappedWell p pages
-      by_place (UnmappingArea a) at some = unmappable a at some
+      by_place (UnmappingArea a) at some = (some, unmappable a at some)
       by_place (UnmappingPart part) at some = part_unmappable part at
       by_place _ at some = tt
 
@@ -229,6 +225,7 @@ module _ (c : Setup) (opening : List Call) (calls : List (List Call)) (w : World
       let marked : (page : ℕ) → covers spans page ≡ true → slice_get w.map.marks page ≡ Some (Held l.caller)
       = λ page h. held_here page (ap (λ own. covers own page) at ∙ h) in
       record {
+        some = some;
         ends = let space : l.setup.space ≤ 1048576 = subst (λ (d : Setup). d.space ≤ 1048576) (sym sound.setup) is.trace.setup.space_high in
             All-weaker (λ (s : Span). end_of s ≤ l.setup.space) HasEnd (λ s low. omega arith) spans (all_within spans (Held l.caller) some marked);
         disjoint = λ page.

@@ -1,14 +1,13 @@
-pub mod AnswersGiven
 pub mod Moved
 pub mod FreeSections
 pub mod BlockSections
 pub mod Counted
 pub mod LawfulCallers
-pub mod Hulls
-pub mod CarriedLists
 pub mod NextAreas
 pub mod NextParts
 pub mod LawfulBlocks
 pub mod LawfulRegions
 pub mod Memory
+pub mod Standing
+pub mod TurnSections
 pub mod Starts

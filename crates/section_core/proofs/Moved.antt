@@ -8,7 +8,7 @@ use Rattle.vm_model.specs.Next.{Next, next}
 use Rattle.vm_model.specs.History.{Local, moved_to}
 use Rattle.vm_model.specs.Parts.{Region, map_with, region_in, left_by}
 use Rattle.vm_model.proofs.OneNext.{gives}
-use Rattle.section_core.specs.Sections.{IsMoved}
+use Rattle.section_core.specs.MadeSections.{IsMoved}
 
 pub moved_as : (l : Local) (r : Region) (p : Place) (s : Section) (n : Next) (l' : Local) (r' : Region) → l.place ≡ p → given l.setup (map_with l.setup r) (ask l.setup p) ≡ Some s
     → next l.setup p s ≡ n → l' ≡ moved_to l n → r' ≡ region_in (effect_as l.setup (map_with l.setup r) l.caller s) r → IsMoved l r l' r'

@@ -1,14 +1,13 @@
 -- The next area has at most eight times the number of all events as its serial, since a section settles at most eight.
-use Rattle.std.proofs.Common.{◌≡◌, ℕ, zero, suc, ◌+◌, ◌*◌, ◌≤◌, Bool, true, false, List, [], ◌∷◌, ◌++◌, length, map, refl, ap, sym, ◌∙◌, subst, arith, length-append}
+use Rattle.std.proofs.Common.{◌≡◌, ℕ, suc, ◌+◌, ◌*◌, ◌≤◌, Bool, true, false, List, [], ◌∷◌, length, refl, ap, sym, subst, arith, length-append}
 use Rattle.std.proofs.lemmas.List.{length-map}
 use Rattle.vm_model.specs.declared.calls.Call.{Call}
 use Rattle.vm_model.specs.declared.areas.Span.{Span}
-use Rattle.vm_model.specs.declared.areas.AreaKind.TheVariants as kind
 use Rattle.vm_model.specs.Space.{span}
 use Rattle.vm_model.specs.Setup.{Setup, groups_at}
 use Rattle.vm_model.specs.PlainMap.{PlainMap}
 use Rattle.vm_model.specs.Areas.{group_kinds, group_areas}
-use Rattle.vm_model.specs.Events.{Section, Event, Settle}
+use Rattle.vm_model.specs.Events.{Section, Settle}
 use Rattle.vm_model.specs.Places.{Place, SettlingArea, SettlingBlock, SettlingGroups, ask}
 use Rattle.vm_model.specs.Legal.{IsLegalAs}
 use Rattle.vm_model.specs.Effects.{effect_as}

@@ -1,12 +1,9 @@
 -- Where regions and callers start.
-use Rattle.std.proofs.Common.{slice_index, ◌<◌, ◌≡◌, ℕ, zero, suc, ◌+◌, false, not, List, [], ◌∷◌, ◌++◌, length, map, replicate, remove, slice_get, Some, refl, ap, sym, ◌∙◌, arith, append_assoc, length-append, add-one}
+use Rattle.std.proofs.Common.{slice_index, ◌<◌, ◌≡◌, ℕ, zero, suc, ◌+◌, false, not, List, [], ◌∷◌, ◌++◌, map, replicate, refl, ap, sym, ◌∙◌, arith, append_assoc, add-one}
 use Rattle.std.proofs.lemmas.List.{map-append}
-use Rattle.vm_model.specs.declared.calls.Call.{Call}
 use Rattle.vm_model.specs.Space.{runs, count_from}
 use Rattle.vm_model.specs.Setup.{Setup, cpus}
 use Rattle.vm_model.specs.PlainMap.{Free, is_free, at_first}
-use Rattle.vm_model.specs.Calls.{Answered}
-use Rattle.vm_model.specs.History.{Local, started, callers_from}
 use Rattle.vm_model.specs.Parts.{Region, CpuBlocks, cpu_blocks}
 
 map-replicate : {X Y : Type 0} (f : X → Y) (n : ℕ) (x : X) → map f (replicate n x) ≡ replicate n (f x)
@@ -16,21 +13,6 @@ map-replicate f (suc n) x = ap (λ ys. f x ∷ ys) (map-replicate f n x)
 -- every page is free at first
 pub free_at_first : (n : ℕ) → runs (map (λ mark. not (is_free mark)) (replicate n Free)) ≡ runs (replicate n false)
 free_at_first n = ap runs (map-replicate (λ mark. not (is_free mark)) n Free)
-
--- the first of a list, and the others
-pub removed_first : {X : Type 0} (xs ys : List X) (x : X) → ys ≡ remove xs 0 → slice_get xs 0 ≡ Some x → xs ≡ x ∷ ys
-removed_first [] ys x e h = cc
-removed_first (z ∷ xs) ys x e h = let same : z ≡ x = cc in ap (λ w. w ∷ xs) same ∙ ap (λ w. x ∷ w) (sym e)
-
-pub callers_next : (c : Setup) (answers : List Answered) (callers callers' : List Local) (rest rest' : List (List Call)) (calls : List Call) → rest ≡ calls ∷ rest' → callers' ≡ callers ++ started c answers (length callers + 1) calls ∷ []
-    → callers ++ callers_from c answers (suc (length callers)) rest ≡ callers' ++ callers_from c answers (suc (length callers')) rest'
-callers_next c answers callers callers' rest rest' calls e pushed =
-    let more : length callers' ≡ suc (length callers) = ap length pushed ∙ length-append callers (started c answers (length callers + 1) calls ∷ []) ∙ add-one (length callers) in
-    ap (λ r. callers ++ callers_from c answers (suc (length callers)) r) e
-    ∙ ap (λ n. callers ++ started c answers n calls ∷ callers_from c answers (suc (suc (length callers))) rest') (sym (add-one (length callers)))
-    ∙ sym (append_assoc callers (started c answers (length callers + 1) calls ∷ []) (callers_from c answers (suc (suc (length callers))) rest'))
-    ∙ ap (λ xs. xs ++ callers_from c answers (suc (suc (length callers))) rest') (sym pushed)
-    ∙ ap (λ n. callers' ++ callers_from c answers (suc n) rest') (sym more)
 
 -- eight regions in a row, and more behind them
 pub same_regions : (items items' more : List Region) (a b c d e f g h a' b' c' d' e' f' g' h' : Region) → items ≡ a ∷ b ∷ c ∷ d ∷ e ∷ f ∷ g ∷ h ∷ [] → items' ≡ items ++ more → a ≡ a' → b ≡ b' → c ≡ c' → d ≡ d' → e ≡ e' → f ≡ f' → g ≡ g' → h ≡ h'

@@ -6,7 +6,7 @@ use Rattle.vm_model.specs.History.{World, Local}
 use Rattle.vm_model.specs.LegalHistory.{IsReached}
 use Rattle.vm_model.specs.Rules.{IsTrace}
 use Rattle.vm_model.specs.Parts.{Region, state_of}
-use Rattle.section_core.specs.Locals.{AreBuilt}
+use Rattle.callers.specs.CallerParts.{AreBuilt}
 
 -- a world of a trace whose calls are of the built words
 pub record IsRunning (c : Setup) (opening : List Call) (calls : List (List Call)) (w : World) : Type 0 where

@@ -1,5 +1,4 @@
-pub mod Places
-pub mod Locals
-pub mod Regions
-pub mod Sections
+pub mod RegionSides
+pub mod MadeSections
+pub mod StandsWell
 pub mod Lawful

@@ -1,21 +1,18 @@
-//! The allocators of a space as regions, and callers: one lock section of one caller over one region.
+//! The allocators of a space as regions, and the sections of callers over them: one lock section of one caller over one
+//! region.
+//!
+//! `section` makes the next section of a caller over the region that it wants, where both stand in one state of a run
+//! (`StandTogether`, `IsLawful`): it moves and leaves the two values of the model's `after`, or stays exactly where `moves`
+//! is false (`answer`). It wants memory only where the section that it would make is one that may grow something
+//! (`memory`, `TakesMemory`), and then changes nothing (`err`). `first_regions` gives the model's first regions.
 #![tactic(auto)]
 
-pub mod answers;
-mod begin;
-mod block_sections;
-mod busy_sections;
-mod carried;
-mod free_sections;
-mod lazy_sections;
-pub mod local;
-mod page_sections;
-mod place;
+mod areas;
+mod desk;
+mod parts;
+mod purge;
 pub mod region;
 mod sections;
-mod turn_sections;
 
-pub use answers::{AnswerList, Answered, Made};
-pub use local::{Local, first_callers};
 pub use region::{Region, Stepped, first_regions};
 pub use sections::{moves, section};

@@ -10,7 +10,7 @@ ghost use Rattle.vm_model.specs.Parts.{regions_of, cpu_blocks, FreeRuns, LiveAre
 ghost use Rattle.vm_model.specs.PlainMap.{Block};
 ghost use Rattle.unit_layout.specs.Config.{setup_of};
 ghost use Rattle.vm_model.specs.Rules.{IsSetup};
-ghost use Rattle.section_core.specs.Regions.{region_of};
+ghost use Rattle.section_core.specs.RegionSides.{region_of};
 
 use augmented_tree::FreeSide;
 use busy_areas::BusySide;
@@ -55,7 +55,7 @@ impl Model for Region {
 
     ghost Value = { parts.Region };
 
-    ghost use Rattle.section_core.specs.Regions.{region_of};
+    ghost use Rattle.section_core.specs.RegionSides.{region_of};
 
     ghost view = { λ r. region_of r.side };
 }
@@ -137,10 +137,11 @@ fn push_blocks(alloc: Global, config: &Config, regions: &mut Vec<Region>) -> Res
     Ok(())
 }
 
-/// The regions of a space where nothing has happened: every page is free, and nothing is mapped.
-pub fn first_regions(alloc: Global, config: &Config) -> Result<Vec<Region>, AllocError>
+/// The regions of a space where nothing has happened: every page is free, nothing is mapped, and there is room for so many
+/// objects.
+pub fn first_regions(alloc: Global, config: &Config, room: u32) -> Result<Vec<Region>, AllocError>
     requires { IsSetup (setup_of config.now) }
-    ensures { IfOk result (λ regions. regions.items ≡ regions_of (setup_of config.now) (at_first (setup_of config.now) 0)) }
+    ensures { IfOk result (λ regions. regions.items ≡ regions_of (setup_of config.now) (at_first (setup_of config.now) room)) }
 {
     let free = FreeSide::whole(alloc, config.space)?;
     let pages = PageSide::new(alloc, config.space, config.frames)?;
@@ -152,14 +153,14 @@ pub fn first_regions(alloc: Global, config: &Config) -> Result<Vec<Region>, Allo
         Region::of(Side::Busy(BusySide::new(alloc))),
         Region::of(Side::Lazy(LazySide::new(alloc))),
         Region::of(Side::Pages(pages)),
-        Region::of(Side::Percpu(0)),
+        Region::of(Side::Percpu(room)),
     ]?;
     push_blocks(alloc, config, &mut regions)?;
     Ok(regions)
 }
 
 /// How a step ended.
-#[derive(Clone, Copy, Debug, PartialEq, Eq)]
+#[derive(Clone, Copy)]
 pub enum Stepped {
     /// The caller made its next section.
     Moved,

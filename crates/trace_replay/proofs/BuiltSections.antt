@@ -7,7 +7,7 @@ use Rattle.vm_model.specs.declared.calls.Call.{Call}
 use Rattle.vm_model.specs.Rules.{AreRuled, IsTrace}
 use Rattle.trace_text.specs.Reading.{Reading, calls_of}
 use Rattle.trace_text.specs.Told.{all_calls}
-use Rattle.section_core.specs.Locals.{AreBuilt}
+use Rattle.callers.specs.CallerParts.{AreBuilt}
 use Rattle.kernel_steps.specs.Kernels.{CanStart}
 use Rattle.trace_replay.specs.BuiltReadings.{IsBuilt}
 use Rattle.trace_replay.specs.Headline.{setup, opening_calls, own_calls}

@@ -19,7 +19,7 @@ use Rattle.trace_text.proofs.GroupLine.{processors-more}
 use Rattle.trace_text.proofs.SectionProofs.{calls_of-append}
 use Rattle.trace_text.proofs.NameProofs.{named-read}
 use Rattle.trace_text.proofs.TargetCalls as targets
-use Rattle.section_core.specs.Locals.{IsBuiltCall, AreBuilt}
+use Rattle.callers.specs.CallerParts.{IsBuiltCall, AreBuilt}
 use Rattle.trace_replay.specs.BuiltReadings.{AreAllRuled, opening_before}
 use Rattle.trace_replay.proofs.BuiltLines.{in_range, place, rule}
 

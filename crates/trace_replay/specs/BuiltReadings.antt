@@ -7,7 +7,7 @@ use Rattle.unit_layout.specs.Config.{setup_of}
 use Rattle.unit_layout.specs.Refusals.{refusal}
 use Rattle.trace_text.specs.Reading.{Reading, Made, calls_of, cpus_of}
 use Rattle.trace_text.specs.Told.{config_of, layout_spec}
-use Rattle.section_core.specs.Locals.{AreBuilt}
+use Rattle.callers.specs.CallerParts.{AreBuilt}
 
 -- the opening's calls, as the calls of this section may name them
 abbrev pub opening_before : ℕ → List Made → List Call

@@ -1,8 +1,8 @@
-use Rattle.std.proofs.Common.{sym, ◌∙◌, ap, subst, arith, ◌<◌}
+use Rattle.std.proofs.Common.{◌∙◌, ap, subst, ◌<◌}
 use Rattle.unit_layout.specs.Config.{setup_of}
 use Rattle.vm_model.specs.Setup.{cpus}
 use Rattle.map_blocks.specs.BlockRows.{BlockRows}
-use Rattle.section_core.specs.Regions.{blocks_region}
+use Rattle.section_core.specs.RegionSides.{blocks_region}
 use Rattle.section_core.proofs.Starts.{blocks_pushed}
 use Rattle.section_core.proofs.region.push_blocks.Goals as goal
 

@@ -5,16 +5,16 @@ use Rattle.unit_layout.specs.declared.config.Config.{Config}
 use Rattle.vm_model.specs.PlainMap.{at_first}
 use Rattle.vm_model.specs.Parts.{regions_of}
 use Rattle.vm_model.specs.History.{Local, started, opening_world}
-use Rattle.section_core.specs.declared.answers.Answered.{Answered as Code}
-use Rattle.section_core.specs.Locals.{answer_of}
+use Rattle.callers.specs.declared.answers.Answered.{Answered as Code}
+use Rattle.callers.specs.CallerParts.{answer_of}
 use Rattle.kernel_steps.proofs.Starts.{stands_before}
 use Rattle.kernel_steps.proofs.kernel.Kernel.before.Goals as goal
 
 pub start-requires-clause-built : goal.start-requires-clause-built
-start-requires-clause-built c = c.requires.1.built 0 c.args.opening refl
+start-requires-clause-built c = c.requires.1.can.built 0 c.args.opening refl
 
 pub start-requires-clause-few : goal.start-requires-clause-few
-start-requires-clause-few c = let few = c.requires.1.trace.few in omega arith
+start-requires-clause-few c = let few = c.requires.1.can.trace.few in omega arith
 
 pub invariant_of-result : goal.invariant_of-result
 invariant_of-result c =
@@ -23,11 +23,11 @@ invariant_of-result c =
       c.args.opening,
       calls,
       opening_world (setup_of (arc_value c.args.config.now)) c.args.opening calls,
-      stands_before (setup_of (arc_value c.args.config.now)) c.args.opening calls (record { regions = c.in_ok-first_regions.field-0.items; locals = c.in_ok-vec.field-0.items; moved = c.new-3.result.items }) c.requires.1 (c.in_ok-first_regions.ensures ∙ ap (λ (x : Config). regions_of (setup_of x) (at_first (setup_of x) 0)) c.deref.ensures)
+      stands_before (setup_of (arc_value c.args.config.now)) c.args.opening calls c.args.room (record { regions = c.in_ok-first_regions.field-0.items; locals = c.in_ok-vec.field-0.items; moved = c.new-3.result.items }) c.requires.1 (c.in_ok-first_regions.ensures ∙ ap (λ (x : Config). regions_of (setup_of x) (at_first (setup_of x) c.args.room)) c.deref.ensures)
           (c.in_ok-vec.ensures.items ∙ ap (λ (l : Local). l ∷ []) (c.in_ok-first.ensures ∙ ap (λ (x : Config). started (setup_of x) (map answer_of (arc_value c.in_ok-none.none)) 0 c.args.opening) c.in_ok-try_clone.ensures ∙ ap (λ (answers : List Code). started (setup_of (arc_value c.args.config.now)) (map answer_of answers) 0 c.args.opening) (c.in_ok-none.ensures.ok ∙ c.of.ensures ∙ c.new.ensures.items))) c.new-3.ensures.items,
     )
 
 pub returns : goal.returns
 returns c = λ calls can.
-    stands_before (setup_of (arc_value c.args.config.now)) c.args.opening calls (record { regions = c.in_ok-first_regions.field-0.items; locals = c.in_ok-vec.field-0.items; moved = c.new-3.result.items }) can (c.in_ok-first_regions.ensures ∙ ap (λ (x : Config). regions_of (setup_of x) (at_first (setup_of x) 0)) c.deref.ensures)
+    stands_before (setup_of (arc_value c.args.config.now)) c.args.opening calls c.args.room (record { regions = c.in_ok-first_regions.field-0.items; locals = c.in_ok-vec.field-0.items; moved = c.new-3.result.items }) can (c.in_ok-first_regions.ensures ∙ ap (λ (x : Config). regions_of (setup_of x) (at_first (setup_of x) c.args.room)) c.deref.ensures)
     (c.in_ok-vec.ensures.items ∙ ap (λ (l : Local). l ∷ []) (c.in_ok-first.ensures ∙ ap (λ (x : Config). started (setup_of x) (map answer_of (arc_value c.in_ok-none.none)) 0 c.args.opening) c.in_ok-try_clone.ensures ∙ ap (λ (answers : List Code). started (setup_of (arc_value c.args.config.now)) (map answer_of answers) 0 c.args.opening) (c.in_ok-none.ensures.ok ∙ c.of.ensures ∙ c.new.ensures.items))) c.new-3.ensures.items

@@ -1,0 +1,4 @@
+pub mod AnswersGiven
+pub mod Hulls
+pub mod CarriedLists
+pub mod CallersStarted

@@ -1,0 +1,11 @@
+use Rattle.std.proofs.Common.{◌≡◌, ◌≤◌, map, take, length}
+use Rattle.std.specs.Vec.{vec_capacity}
+use Rattle.callers.specs.CallerParts.{answer_of, answers_with}
+use Rattle.callers.proofs.local.answers_noted.Given as goal
+
+abbrev pub invariant-loop-index : goal.invariant-loop-index
+invariant-loop-index l = record {
+  told : map answer_of l.answers.items ≡ take l.index (answers_with l.calls l.book.rows l.made);
+  count : length l.answers.items ≡ l.index;
+  room : length l.made ≤ vec_capacity l.answers;
+}

@@ -1,0 +1,2 @@
+pub mod CarriedPlaces
+pub mod CallerParts

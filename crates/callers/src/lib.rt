@@ -1,0 +1,21 @@
+//! Callers: where a caller stands in its calls, what it carries to its next section, and how its calls begin and are
+//! answered.
+//!
+//! A `Local` is seen by contracts as the model's caller. `Local::start` and `first_callers` give the model's first callers;
+//! `wants` tells the number of the region that the next section is over (`region_number` has their names), and `place` where
+//! the caller stands. Each other call that takes `&mut self` is one event: the caller then stands where the model's `next`
+//! leads, and only `take_fragmented` may want memory.
+#![tactic(auto)]
+
+pub mod answers;
+mod begin;
+mod carried;
+pub mod local;
+mod place;
+mod placing;
+pub mod region_number;
+
+pub use answers::{AnswerList, Answered, Made};
+pub use local::{Local, first_callers};
+pub use place::{After, Aim, Place, Search};
+pub use placing::placing_calls;

@@ -1,0 +1,34 @@
+-- The code's regions as those of the definitions.
+use Rattle.std.specs.Prelude.{[]}
+use Rattle.vm_model.specs.Parts as parts
+use Rattle.vm_model.specs.Parts.{Region, PurgeTurn, AllocTurn, FreeRuns, LiveAreas, WaitingSpans, CpuBlocks}
+use Rattle.augmented_tree.specs.FreeBlocks.{FreeBlocks}
+use Rattle.busy_areas.specs.LiveRows.{LiveRows}
+use Rattle.page_pool.specs.Pages.{Pages as Held}
+use Rattle.map_blocks.specs.BlockRows.{BlockRows}
+use Rattle.section_core.specs.declared.region.Side.{Side}
+use Rattle.section_core.specs.declared.region.Side.TheVariants.{Desk, Purge, Alloc, Free, Busy, Lazy, Pages, Percpu, Blocks}
+
+-- the region of each side
+abbrev pub free_region : FreeBlocks → Region
+free_region side = FreeRuns side.blocks
+
+abbrev pub areas_region : LiveRows → Region
+areas_region side = LiveAreas side.areas side.next
+
+abbrev pub pages_region : Held → Region
+pages_region side = parts.Pages side.frames side.stale side.cells
+
+abbrev pub blocks_region : BlockRows → Region
+blocks_region side = CpuBlocks side.cpu side.pages side.blocks side.next
+
+abbrev pub region_of : Side → Region
+region_of Desk = parts.Desk
+region_of (Purge turn) = PurgeTurn turn
+region_of (Alloc turn) = AllocTurn turn
+region_of (Free side) = free_region side
+region_of (Busy side) = areas_region side
+region_of (Lazy side) = WaitingSpans side
+region_of (Pages side) = pages_region side
+region_of (Percpu room) = parts.Percpu [] 1 0 room
+region_of (Blocks side) = blocks_region side
