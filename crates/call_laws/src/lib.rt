@@ -1,4 +1,19 @@
 //! Laws of calls: what each caller makes in every legal history.
+//!
+//! - `histories`: the opening's events come first; each caller's answers are those of the first calls of its list, in
+//!   order, its own events are the shapes of these calls one after another, and what a call names by its target is
+//!   what the target's own call settled.
+//! - `replies`: each event is legal in the map that the events before it leave, a reply without an address comes
+//!   exactly where its cause is, in the map as it was then, and the number told with a reply is that of its call's
+//!   last event.
+//! - `room`: the room for objects is the number of placing calls less the objects placed, and at least 1 wherever a
+//!   caller may place one next.
+//! - `chunks`: all areas of a chunk stand at its base plus their group's offset, and no page of it beyond the units
+//!   of the processors is mapped.
+//! - `guards`: the guard of a vmalloc span is bare as long as a caller has the span in hand or an area is live there.
+//! - `adds`: an add changes one word of all words of all objects, also of those that callers have in hand.
+//! - `all_laws`: all but the last two of these and the laws of `map_laws`, as one record for one world
+//!   (`KeepsTheLaws`).
 #![tactic(auto)]
 
 ghost use Rattle.call_laws.specs.Histories.{HistoriesHaveTheShapesOfCalls};

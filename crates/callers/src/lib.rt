@@ -5,6 +5,13 @@
 //! `wants` tells the number of the region that the next section is over (`region_number` has their names), and `place` where
 //! the caller stands. Each other call that takes `&mut self` is one event: the caller then stands where the model's `next`
 //! leads, and only `take_fragmented` may want memory.
+//!
+//! - `Local::start`, `first_callers`: the values of the model's first callers. `wants`, `caller`, `answered`, `book`,
+//!   `answers`: read off the caller's value; `place`: where it stands, and that what it carries there is whole
+//!   (`IsAt`).
+//! - `go`, `go_on`, `answer`, and the calls of a purge's sections: one event, after which the caller stands where the
+//!   model's `next` leads. Only `take_fragmented` may want memory, and only where a block is fragmented.
+//! - `placing_calls`: how many calls can place an object.
 #![tactic(auto)]
 
 pub mod answers;

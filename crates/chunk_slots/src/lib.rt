@@ -6,6 +6,17 @@
 //! placed exactly where no chunk has one. Slots, hints and the count of empty pages are kept, and after every call they are
 //! those of the bits. Room for all objects is taken at the start: after that only a new chunk takes memory. An object is
 //! found by its chunk and offset, and is put or taken out without moving another.
+//!
+//! - `PcpuSide::place`, `place_atomic`, `add_chunk_and_place`: an object in hand at the lowest aligned fit of the
+//!   chosen chunk (`placement`), with the pages that it misses; none comes exactly where no chunk has a fit, and an
+//!   error changes nothing.
+//! - `settle`, `unplace`, `free`, `set_populated`, `remove_chunk`: what the event of that name does to the chunks
+//!   (`with_settled`, `without_placed`, `with_populated`, `without_chunk`); `free` has none exactly where no live
+//!   object has this chunk, offset and serial. They take no memory.
+//! - `slot_of`, `in_slot`, `free_slot`, `empty_pages`, `chunk_at`, `hint_at`, `populated_at`, `find`: what is kept of
+//!   slots, hints and empty pages is that of the bits.
+//! - `objects`, `object_at`, `object_rows`: the rows of the live objects by chunk and then by offset
+//!   (`object_table`), how many there are, one of them, or all in one pass.
 #![tactic(auto)]
 
 mod holders;

@@ -2,7 +2,7 @@
 use vm_model::Reply;
 
 /// A call's reply, and the number of its last event among its caller's own.
-#[derive(Clone, Copy, Debug, PartialEq, Eq)]
+#[derive(Clone, Copy)]
 pub struct Noted {
     /// How the call ended.
     pub reply: Reply,

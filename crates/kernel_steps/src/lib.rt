@@ -1,4 +1,11 @@
 //! The kernel: all regions and all callers of a space, one step after another.
+//!
+//! - `Kernel::start`, `step`, `run`, `finish`: the kernel stands (`IsStanding`) at the opening's end, after one event
+//!   of a caller, after each pick in turn, and where all callers have ended. A step tells Moved, Stays and Ended as
+//!   `IsSteppedAs` says, and wants memory only where the caller moves.
+//! - `Kernel::tables`, `moved`: the tables of the world in which the kernel stands, and the caller of each event.
+//! - `laws::sections`: a section leaves a lawful state lawful, and a kernel starts with the opening's caller and one
+//!   for each list behind it.
 #![tactic(auto)]
 
 pub mod kernel;

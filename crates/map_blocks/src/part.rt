@@ -1,7 +1,7 @@
 //! Pages of a block that a caller has in hand.
 
 /// Pages that were cut from a block, as its caller knows them: what `vb_alloc` of the kernel gives.
-#[derive(Clone, Copy, Debug, PartialEq, Eq)]
+#[derive(Clone, Copy)]
 pub struct Part {
     /// The first page of its block.
     pub block: u32,

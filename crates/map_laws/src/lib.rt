@@ -1,4 +1,13 @@
 //! Laws of the plain map: what holds after each event of every legal history.
+//!
+//! - `turns`: each turn is with the one caller whose place has it, and the purge turn is taken last.
+//! - `ends`: from each reached world every caller ends, in fewer events than the definition of a history allows for,
+//!   and more of these change nothing.
+//! - `every_trace`: areas are disjoint and start where their kind and their call want it, the guard is never mapped,
+//!   free pages are clean, pages wait before reuse (`waits`; `waited` says that what is returned did wait), the parts
+//!   of a block are disjoint, live objects are mapped in every unit and share no byte, a sum is what was added, what
+//!   callers carry between two sections is kept, and the history of a trace is one legal history in which every
+//!   caller ends.
 #![tactic(auto)]
 
 ghost use Rattle.vm_model.specs.Laws.{ThePurgeTurnIsTakenLast, MoreFuelChangesNothing, AreasAreDisjointAndAligned, TheGuardIsNeverMapped, FreePagesAreClean, PagesWaitBeforeReuse, PartsOfABlockAreDisjoint, ObjectsAreMappedInEveryUnit, SumsAreTheAdds, WhatIsCarriedIsKept, HistoriesAreLegal};

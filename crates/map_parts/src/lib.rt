@@ -1,5 +1,12 @@
 //! Laws of the map in parts: a lock section reads and changes one region, and so sections over single regions give
 //! what the events over the whole map give.
+//!
+//! - `locality`, `kept`: in every world that a legal history leads to, a section reads and changes the region that it
+//!   asks for, and no other.
+//! - `runs_are_parts_of_the_map`: sections over single regions give the parts of the map that the events over the
+//!   whole map give.
+//! - `sections`, `lawful_sections`: the same fold over any regions and places, for whoever keeps a fact through all
+//!   sections.
 #![tactic(auto)]
 
 ghost use Rattle.std.specs.Prelude.{ℕ, Bool, Option, List};

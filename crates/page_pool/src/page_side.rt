@@ -17,7 +17,7 @@ use std::marker::Model;
 use vm_model::Span;
 
 /// There are fewer free frames than pages to map: where `alloc_page` gives none. It comes exactly there.
-#[derive(Clone, Copy, Debug, PartialEq, Eq)]
+#[derive(Clone, Copy)]
 pub struct NoFrames {
     /// How many pages were to be mapped, each to a frame of its own.
     pub asked: u32,

@@ -1,4 +1,7 @@
 //! Writing the report of a run, its schedule and the line of a fault.
+//!
+//! - `write_report`, `write_schedule`, `write_fault`: exactly the defined bytes.
+//! - `laws::reports`, `laws::counters`: worked reports and counters.
 #![tactic(auto)]
 
 mod audit_lines;

@@ -5,6 +5,14 @@
 //! (`StandTogether`, `IsLawful`): it moves and leaves the two values of the model's `after`, or stays exactly where `moves`
 //! is false (`answer`). It wants memory only where the section that it would make is one that may grow something
 //! (`memory`, `TakesMemory`), and then changes nothing (`err`). `first_regions` gives the model's first regions.
+//!
+//! - `section`: where a caller and the region that it wants stand in one state of a run (`StandTogether`,
+//!   `IsLawful`), it moves and leaves the two values of the model's `after`, or stays exactly where its `moves` is
+//!   false (`answer`); it wants memory only where the section that it would make is one that may grow something
+//!   (`memory`, `TakesMemory`), and then changes nothing (`err`).
+//! - `moves`: whether that section would move. `Region::free`, `busy`, `lazy`, `pages`, `blocks`: read off a region's
+//!   value.
+//! - `first_regions`: the values of the model's first regions.
 #![tactic(auto)]
 
 mod areas;

@@ -1,4 +1,12 @@
 //! What a section may ask of the region that its caller wants, in one state of a run; and that sections keep such a state.
+//!
+//! - `sections`: a caller and a region that stand in one state of a run (`IsLawful`) have what the caller's section
+//!   needs: the pages that get or lose frames stand once each, in the space, and are bare or mapped; an object's
+//!   words can be reached in every unit; what is settled or waits shares no page with what is there; there is room
+//!   for an object, numbers are left, and no word is more than all adds of a trace come to. It is said for the
+//!   sections of per-CPU objects, over the words of the model alone.
+//! - `turns`: a section that moves leaves a lawful state lawful, and its caller's reach is the number of regions;
+//!   callers that move in turn are picks of the world.
 #![tactic(auto)]
 
 ghost use Rattle.section_laws.specs.Turns.{SectionsKeepLawful, ReachIsTheRegions, SectionsKeepReach, TurnsArePicks};

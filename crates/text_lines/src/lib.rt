@@ -1,4 +1,7 @@
 //! Lines of text, each written as the list of its fields.
+//!
+//! - `put_field`, `put_words`, `put_line`: what a field is written as (`field_text`), a space before each field, and
+//!   the end of a line.
 #![tactic(auto)]
 
 pub mod field;

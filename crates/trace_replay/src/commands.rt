@@ -17,7 +17,7 @@ use crate::status::Status;
 use std::alloc::Global;
 
 /// What a replay writes.
-#[derive(Clone, Copy, Debug, PartialEq, Eq)]
+#[derive(Clone, Copy)]
 pub enum Mode {
     /// The report.
     Replay,

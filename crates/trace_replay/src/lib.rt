@@ -1,4 +1,17 @@
 //! The commands that replay a trace.
+//!
+//! - `run`: does the command that the words name. Words that are none are refused before anything is read (`refused`,
+//!   `unread`, `usage`); for the others it promises what the command does.
+//! - `replay`: the text that was written belongs to the bytes that were read (`written`, `answers`), these were read
+//!   to their end (`read`), and the two faults come exactly where one read or one write failed (`read_fault`,
+//!   `write_fault`, `failed_read`, `failed_write`); the read that failed came before too many bytes were taken
+//!   (`read`). With `Done` the history is one legal history, each of its calls is answered, and it keeps the laws of
+//!   `call_laws` (`HasLegalHistory`: `one`, `answered`, `laws`, and `always` for each world on the way).
+//! - `Source`, `Sink`: what a read and a write leave. They stand over memory (`SteadySource`, `SteadySink`; with
+//!   pieces and calls that fail `MemorySource`, `MemorySink`) and over readers and writers of std (`StreamSource`,
+//!   `StreamSink`). The latter tell no bytes: what a real file or pipe does is part of no contract.
+//! - `tables_of_trace`, a private part: the tables of the one history of a trace of the built words (`IsBuilt`). That
+//!   this history is a legal one is a law of `map_laws`.
 #![tactic(auto)]
 
 mod answer;

@@ -8,7 +8,7 @@ use std::io::{ErrorKind, Read};
 use std::marker::Model;
 
 /// A read or a write that failed. The source or the sink counts it among its faults.
-#[derive(Clone, Copy, Debug, PartialEq, Eq)]
+#[derive(Clone, Copy)]
 pub struct Failed;
 
 /// A reader that counts its faults.

@@ -5,7 +5,7 @@ ghost use Rattle.trace_replay.specs.Status.{code_of};
 use unit_layout::LayoutError;
 
 /// How a command ends. What is written beside each is said at `run`.
-#[derive(Clone, Copy, Debug, PartialEq, Eq)]
+#[derive(Clone, Copy)]
 pub enum Status {
     /// The source was read to its end, and the whole report was taken.
     Done,

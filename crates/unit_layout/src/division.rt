@@ -7,7 +7,7 @@ ghost use Rattle.unit_layout.specs.Ranges.{IsInRange, IsDivision};
 use crate::request::{GroupSpec, LayoutSpec};
 
 /// An allocation's units, and the pages of each.
-#[derive(Clone, Copy, Debug, PartialEq, Eq)]
+#[derive(Clone, Copy)]
 pub struct Division {
     /// Units in an allocation, 1 to 8; the kernel's `upa`.
     pub units: u32,

@@ -13,7 +13,7 @@ use std::alloc::{AllocError, Global};
 use std::marker::Model;
 
 /// Where the units of a group lie in a chunk: the kernel's `pcpu_group_info`.
-#[derive(Clone, Copy, Debug, PartialEq, Eq)]
+#[derive(Clone, Copy)]
 pub struct Group {
     /// Pages from the chunk's base to the group's first unit.
     pub offset: u32,

@@ -3,7 +3,7 @@
 use vm_model::ItemList;
 
 /// The processors of a group and where their units begin.
-#[derive(Clone, Copy, Debug, PartialEq, Eq)]
+#[derive(Clone, Copy)]
 pub struct GroupSpec {
     /// How many processors it has, 0 to 64.
     pub cpus: u32,

@@ -1,4 +1,6 @@
 //! Worked traces: what each leaves, by computation.
+//!
+//! - `area_rows`, `block_rows`, `object_rows`, `chunk_rows`: worked traces with all their tables.
 #![tactic(auto)]
 
 ghost use Rattle.worked_rows.specs.AreaRows.{EmptyTrace, TwoAreasWithGuards, NoSpaceAfterAPurge, FreedPagesWait, APurgeMakesRoom, AlignedAboveAPage, TheFirstFreeWins, TheOtherFreeWins, StaysAtTheTurn, LazyLimitPurges, RefusedCalls, PicksInTurn, AlignedToTheWholeRange, TwoFreeRuns, TwoWithoutSpace};
