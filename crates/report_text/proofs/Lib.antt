@@ -3,5 +3,4 @@ pub mod CounterTexts
 pub mod Joined
 pub mod CounterSums
 pub mod Hexadecimal
-pub mod LongLines
 pub mod ChunkAudits

@@ -1,78 +1,85 @@
 //! The kept numbers, each beside that of a plain scan.
-ghost use Rattle.std.specs.Prelude.{◌≡◌, ◌++◌, ◌∷◌, [], ◌≤◌, OnOk, codes, length, map};
-ghost use Rattle.std.specs.List.{flat_map, prefix_len};
+ghost use Rattle.std.specs.Prelude.{◌≡◌, ◌++◌, ◌∷◌, [], ◌≤◌, OnOk, codes, decimal, length, map};
 ghost use Rattle.std.specs.Fmt.{signed_decimal};
 ghost use Rattle.vm_model.specs.Words.{fields};
-ghost use Rattle.report_text.specs.Numerals.{run};
-ghost use Rattle.report_text.specs.AuditLines.{tree_audit, chunk_audit, hint_numbers, hint_audit, own_hints, chunk_audits, counter_audit, counter_audits, audit_lines};
+ghost use Rattle.report_text.specs.AuditLines.{tree_audit, chunk_audit, own_hints, chunk_audits, counter_audit, counter_audits, audit_lines};
 
-use crate::numerals::put_named;
-use crate::text::Text;
+use crate::rows::{Row, put_rows};
 use std::alloc::AllocError;
-use vm_model::{ChunkAudit, ChunkRow, CounterRow, Hint, HintRow, Tables};
+use text_lines::Field::{Amount, Number, Pair, Word};
+use text_lines::{put_field, put_line, put_words};
+use vm_model::{ChunkAudit, ChunkRow, CounterRow, HintRow, Tables};
 
-fn put_tree(text: &mut Text, tables: &Tables) -> Result<(), AllocError>
-    ensures { OnOk result (text.new ≡ text.old ++ tree_audit tables.now) }
+fn put_tree(text: &mut Vec<u8>, tables: &Tables) -> Result<(), AllocError>
+    ensures { OnOk result (text.new.items ≡ text.old.items ++ tree_audit tables.now) }
 {
-    text.put(b"audit tree")?;
-    put_named(text, b"blocks", tables.tree_blocks as u64)?;
-    put_named(text, b"largest", tables.tree_largest as u64)?;
-    put_named(text, b"plain", tables.plain_largest as u64)?;
-    text.put(b"\n")
+    let rest = [
+        Word(b"tree"),
+        Word(b"blocks"),
+        Number(tables.tree_blocks as u64),
+        Word(b"largest"),
+        Number(tables.tree_largest as u64),
+        Word(b"plain"),
+        Number(tables.plain_largest as u64),
+    ];
+    put_line(text, b"audit", &rest)
 }
 
-/// Writes where a run starts and how long it is, after its word, a space before each.
-fn put_run(text: &mut Text, word: &[u8], start: u32, length: u32) -> Result<(), AllocError>
-    ensures { OnOk result (text.new ≡ text.old ++ fields ([] ∷ word.now ∷ run start length ∷ [])) }
+fn put_chunk_audit(
+    text: &mut Vec<u8>,
+    chunk: &ChunkRow,
+    plain: &ChunkAudit,
+) -> Result<(), AllocError>
+    ensures { OnOk result (text.new.items ≡ text.old.items ++ chunk_audit chunk.now plain.now) }
 {
-    put_named(text, word, start as u64)?;
-    text.put(b"+")?;
-    text.put_number(length as u64)
+    let rest = [
+        Word(b"chunk"),
+        Number(chunk.chunk as u64),
+        Word(b"run"),
+        Pair(chunk.run_start as u64, b"+", chunk.run as u64),
+        Word(b"plain"),
+        Pair(plain.run_start as u64, b"+", plain.run as u64),
+        Word(b"slot"),
+        Number(chunk.slot as u64),
+        Word(b"plain"),
+        Number(plain.slot as u64),
+        Word(b"empty"),
+        Number(chunk.empty as u64),
+        Word(b"plain"),
+        Number(plain.empty as u64),
+    ];
+    put_line(text, b"audit", &rest)
 }
 
-fn put_chunk_audit(text: &mut Text, chunk: &ChunkRow, plain: &ChunkAudit) -> Result<(), AllocError>
-    ensures { OnOk result (text.new ≡ text.old ++ chunk_audit chunk.now plain.now) }
-{
-    text.put(b"audit")?;
-    put_named(text, b"chunk", chunk.chunk as u64)?;
-    put_run(text, b"run", chunk.run_start, chunk.run)?;
-    put_run(text, b"plain", plain.run_start, plain.run)?;
-    put_named(text, b"slot", chunk.slot as u64)?;
-    put_named(text, b"plain", plain.slot as u64)?;
-    put_named(text, b"empty", chunk.empty as u64)?;
-    put_named(text, b"plain", plain.empty as u64)?;
-    text.put(b"\n")
-}
+impl Row for HintRow {
+    ghost use Rattle.report_text.specs.AuditLines.{hint_audit};
 
-/// Writes the numbers of a hint after a word, a space before each.
-fn put_hint(text: &mut Text, word: &[u8], hint: &Hint) -> Result<(), AllocError>
-    ensures { OnOk result (text.new ≡ text.old ++ fields ([] ∷ word.now ∷ hint_numbers hint.now)) }
-{
-    put_run(text, word, hint.run_start, hint.run)?;
-    put_named(text, b"left", hint.left as u64)?;
-    put_named(text, b"right", hint.right as u64)?;
-    put_named(text, b"first", hint.first as u64)
-}
+    ghost line = { hint_audit };
 
-fn put_hint_audit(text: &mut Text, row: &HintRow) -> Result<(), AllocError>
-    ensures { OnOk result (text.new ≡ text.old ++ hint_audit row.now) }
-{
-    text.put(b"audit")?;
-    put_named(text, b"hint", row.chunk as u64)?;
-    text.put(b" ")?;
-    text.put_number(row.block as u64)?;
-    put_hint(text, b"run", &row.kept)?;
-    put_hint(text, b"plain", &row.plain)?;
-    text.put(b"\n")
-}
-
-fn put_hints(text: &mut Text, hints: &[HintRow]) -> Result<(), AllocError>
-    ensures { OnOk result (text.new ≡ text.old ++ flat_map hint_audit hints.now) }
-{
-    for row in hints {
-        put_hint_audit(text, row)?;
+    fn put(&self, text: &mut Vec<u8>) -> Result<(), AllocError> {
+        let rest = [
+            Word(b"hint"),
+            Number(self.chunk as u64),
+            Number(self.block as u64),
+            Word(b"run"),
+            Pair(self.kept.run_start as u64, b"+", self.kept.run as u64),
+            Word(b"left"),
+            Number(self.kept.left as u64),
+            Word(b"right"),
+            Number(self.kept.right as u64),
+            Word(b"first"),
+            Number(self.kept.first as u64),
+            Word(b"plain"),
+            Pair(self.plain.run_start as u64, b"+", self.plain.run as u64),
+            Word(b"left"),
+            Number(self.plain.left as u64),
+            Word(b"right"),
+            Number(self.plain.right as u64),
+            Word(b"first"),
+            Number(self.plain.first as u64),
+        ];
+        put_line(text, b"audit", &rest)
     }
-    Ok(())
 }
 
 /// How many hints at the front are this chunk's.
@@ -90,46 +97,33 @@ fn own_hints(chunk: u32, hints: &[HintRow]) -> usize
 
 /// Writes each chunk's line, and then those of its hints.
 fn put_chunk_audits(
-    text: &mut Text,
+    text: &mut Vec<u8>,
     chunks: &[ChunkRow],
     plains: &[ChunkAudit],
     hints: &[HintRow],
 ) -> Result<(), AllocError>
-    ensures { OnOk result (text.new ≡ text.old ++ chunk_audits chunks.now plains.now hints.now) }
+    ensures { OnOk result (text.new.items ≡ text.old.items ++ chunk_audits chunks.now plains.now hints.now) }
 {
     let mut rest = hints;
     for i in 0..chunks.len().min(plains.len()) {
         put_chunk_audit(text, &chunks[i], &plains[i])?;
         let (own, others) = rest.split_at(own_hints(chunks[i].chunk, rest));
-        put_hints(text, own)?;
+        put_rows(text, own)?;
         rest = others;
     }
     Ok(())
 }
 
-fn put_counter_audit(text: &mut Text, number: u64, counter: &CounterRow) -> Result<(), AllocError>
-    ensures { OnOk result (text.new ≡ text.old ++ counter_audit number counter.now) }
+/// Writes an amount, a space before it.
+fn put_cell(text: &mut Vec<u8>, cell: &i64) -> Result<(), AllocError>
+    ensures { OnOk result (text.new.items ≡ text.old.items ++ 32 ∷ signed_decimal cell.now) }
 {
-    text.put(b"audit")?;
-    put_named(text, b"counter", number)?;
-    text.put(b" count ")?;
-    text.put_amount(counter.count)?;
-    text.put(b" cells")?;
-    put_cells(text, counter.cells.as_slice())?;
-    text.put(b"\n")
-}
-
-/// Writes a space and an amount.
-fn put_cell(text: &mut Text, cell: &i64) -> Result<(), AllocError>
-    ensures { OnOk result (text.new ≡ text.old ++ 32 ∷ signed_decimal cell.now) }
-{
-    text.put(b" ")?;
-    text.put_amount(*cell)
+    put_words(text, &[Amount(*cell)])
 }
 
 /// Writes amounts, a space before each.
-fn put_cells(text: &mut Text, cells: &[i64]) -> Result<(), AllocError>
-    ensures { OnOk result (text.new ≡ text.old ++ fields ([] ∷ map signed_decimal cells.now)) }
+fn put_cells(text: &mut Vec<u8>, cells: &[i64]) -> Result<(), AllocError>
+    ensures { OnOk result (text.new.items ≡ text.old.items ++ fields ([] ∷ map signed_decimal cells.now)) }
 {
     for cell in cells {
         put_cell(text, cell)?;
@@ -137,8 +131,35 @@ fn put_cells(text: &mut Text, cells: &[i64]) -> Result<(), AllocError>
     Ok(())
 }
 
-fn put_counter_audits(text: &mut Text, counters: &[CounterRow]) -> Result<(), AllocError>
-    ensures { OnOk result (text.new ≡ text.old ++ counter_audits counters.now) }
+/// Writes a counter's number and its count, before its cells.
+fn put_count(text: &mut Vec<u8>, number: u64, counter: &CounterRow) -> Result<(), AllocError>
+    ensures { OnOk result (text.new.items ≡ text.old.items ++ fields ([] ∷ codes "counter" ∷ decimal number ∷ codes "count" ∷ signed_decimal counter.now.count ∷ codes "cells" ∷ [])) }
+{
+    let words = [
+        Word(b"counter"),
+        Number(number),
+        Word(b"count"),
+        Amount(counter.count),
+        Word(b"cells"),
+    ];
+    put_words(text, &words)
+}
+
+fn put_counter_audit(
+    text: &mut Vec<u8>,
+    number: u64,
+    counter: &CounterRow,
+) -> Result<(), AllocError>
+    ensures { OnOk result (text.new.items ≡ text.old.items ++ counter_audit number counter.now) }
+{
+    put_field(text, Word(b"audit"))?;
+    put_count(text, number, counter)?;
+    put_cells(text, counter.cells.as_slice())?;
+    put_field(text, Word(b"\n"))
+}
+
+fn put_counter_audits(text: &mut Vec<u8>, counters: &[CounterRow]) -> Result<(), AllocError>
+    ensures { OnOk result (text.new.items ≡ text.old.items ++ counter_audits counters.now) }
 {
     for (i, counter) in counters.iter().enumerate() {
         put_counter_audit(text, i as u64, counter)?;
@@ -148,11 +169,11 @@ fn put_counter_audits(text: &mut Text, counters: &[CounterRow]) -> Result<(), Al
 
 /// Writes all audit lines.
 pub fn put_audit(
-    text: &mut Text,
+    text: &mut Vec<u8>,
     tables: &Tables,
     counters: &[CounterRow],
 ) -> Result<(), AllocError>
-    ensures { OnOk result (text.new ≡ text.old ++ audit_lines tables.now counters.now) }
+    ensures { OnOk result (text.new.items ≡ text.old.items ++ audit_lines tables.now counters.now) }
 {
     put_tree(text, tables)?;
     put_chunk_audits(

@@ -9,11 +9,11 @@ mod entry_lines;
 pub mod faults;
 pub mod laws;
 mod numerals;
+mod rows;
 mod table_lines;
 mod tally;
-pub mod text;
 pub mod writer;
 
 pub use faults::Fault;
-pub use text::Text;
+pub use text_lines::Text;
 pub use writer::{write_fault, write_report, write_schedule};

@@ -1,12 +1,7 @@
-//! How addresses, spans, runs and named numbers are written.
-ghost use Rattle.std.specs.Prelude.{◌≡◌, ◌++◌, ◌∷◌, [], ◌<◌, false, OnOk, decimal};
+//! How addresses are written.
+ghost use Rattle.std.specs.Prelude.{◌≡◌, ◌<◌, false};
 ghost use Rattle.std.specs.Fmt.{digits, digit_glyph};
-ghost use Rattle.vm_model.specs.Words.{fields};
-ghost use Rattle.report_text.specs.Numerals.{address, bounds, padded, range};
-
-use crate::text::Text;
-use std::alloc::AllocError;
-use vm_model::Span;
+ghost use Rattle.report_text.specs.Numerals.{padded};
 
 /// The hexadecimal digit of a number below 16.
 fn hex_digit(n: u64) -> u8
@@ -21,7 +16,7 @@ fn hex_digit(n: u64) -> u8
 }
 
 /// All 16 hexadecimal digits of a number.
-fn hex_digits(number: u64) -> [u8; 16]
+pub fn hex_digits(number: u64) -> [u8; 16]
     ensures { result ≡ padded 16 (digits 16 false number) }
 {
     let mut all = [b'0'; 16];
@@ -31,42 +26,4 @@ fn hex_digits(number: u64) -> [u8; 16]
         rest /= 16;
     }
     all
-}
-
-/// Writes an address.
-pub fn put_address(text: &mut Text, number: u64) -> Result<(), AllocError>
-    ensures { OnOk result (text.new ≡ text.old ++ address number) }
-{
-    text.put(b"0x")?;
-    text.put(&hex_digits(number))
-}
-
-/// Writes a word and a number, a space before each.
-pub fn put_named(text: &mut Text, word: &[u8], number: u64) -> Result<(), AllocError>
-    ensures { OnOk result (text.new ≡ text.old ++ fields ([] ∷ word.now ∷ decimal number ∷ [])) }
-{
-    text.put(b" ")?;
-    text.put(word)?;
-    text.put(b" ")?;
-    text.put_number(number)
-}
-
-/// Writes where something starts and ends, the end outside.
-pub fn put_bounds(text: &mut Text, start: u64, end: u64) -> Result<(), AllocError>
-    ensures { OnOk result (text.new ≡ text.old ++ bounds start end) }
-{
-    text.put_number(start)?;
-    text.put(b"..")?;
-    text.put_number(end)
-}
-
-/// Writes where a span starts and ends.
-pub fn put_range(text: &mut Text, span: &Span) -> Result<(), AllocError>
-    ensures { OnOk result (text.new ≡ text.old ++ range span.now) }
-{
-    put_bounds(
-        text,
-        span.start as u64,
-        span.start as u64 + span.pages as u64,
-    )
 }

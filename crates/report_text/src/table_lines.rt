@@ -1,230 +1,212 @@
 //! The lines of the tables.
-ghost use Rattle.std.specs.Prelude.{◌≡◌, ◌++◌, ◌∷◌, [], OnOk};
+ghost use Rattle.std.specs.Prelude.{◌≡◌, ◌++◌, ◌∷◌, [], OnOk, codes};
 ghost use Rattle.std.specs.List.{flat_map};
-ghost use Rattle.vm_model.specs.Words.{fields};
-ghost use Rattle.report_text.specs.TableLines.{events_line, frames_line, free_line, area_line, area_kind, owner, wait_line, dirty_range, block_line, part_line, chunk_line, object_line, counter_line, counter_lines};
+ghost use Rattle.text_lines.specs.Fields.{field_text};
+ghost use Rattle.vm_model.specs.Words.{fields, line};
+ghost use Rattle.report_text.specs.Numerals.{range};
+ghost use Rattle.report_text.specs.TableLines.{events_line, frames_line, area_line, area_kind, dirty_range, block_line, part_line, chunk_line, object_line, counter_line, counter_lines};
 
-use crate::numerals::{put_bounds, put_named, put_range};
-use crate::text::Text;
+use crate::rows::Row;
 use std::alloc::AllocError;
+use text_lines::Field::{self, Amount, Number, Pair, Word};
+use text_lines::{put_field, put_line, put_words};
 use vm_model::{Area, AreaKind, BlockRow, ChunkRow, CounterRow, ObjectRow, PartRow, Span};
 
 /// Writes how many events there were.
-pub fn put_events(text: &mut Text, events: u64) -> Result<(), AllocError>
-    ensures { OnOk result (text.new ≡ text.old ++ events_line events) }
+pub fn put_events(text: &mut Vec<u8>, events: u64) -> Result<(), AllocError>
+    ensures { OnOk result (text.new.items ≡ text.old.items ++ events_line events) }
 {
-    text.put(b"events ")?;
-    text.put_number(events)?;
-    text.put(b"\n")
+    put_line(text, b"events", &[Number(events)])
 }
 
 /// Writes how many frames are free, and how many pages are mapped and stale.
-pub fn put_frames(text: &mut Text, frames: u32, mapped: u32, stale: u32) -> Result<(), AllocError>
-    ensures { OnOk result (text.new ≡ text.old ++ frames_line frames mapped stale) }
+pub fn put_frames(
+    text: &mut Vec<u8>,
+    frames: u32,
+    mapped: u32,
+    stale: u32,
+) -> Result<(), AllocError>
+    ensures { OnOk result (text.new.items ≡ text.old.items ++ frames_line frames mapped stale) }
 {
-    text.put(b"frames ")?;
-    text.put_number(frames as u64)?;
-    put_named(text, b"mapped", mapped as u64)?;
-    put_named(text, b"stale", stale as u64)?;
-    text.put(b"\n")
+    let rest = [
+        Number(frames as u64),
+        Word(b"mapped"),
+        Number(mapped as u64),
+        Word(b"stale"),
+        Number(stale as u64),
+    ];
+    put_line(text, b"frames", &rest)
 }
 
-fn put_free(text: &mut Text, span: &Span) -> Result<(), AllocError>
-    ensures { OnOk result (text.new ≡ text.old ++ free_line span.now) }
+/// Writes a word and where a span starts and ends.
+fn put_span(text: &mut Vec<u8>, word: &[u8], span: &Span) -> Result<(), AllocError>
+    ensures { OnOk result (text.new.items ≡ text.old.items ++ line (word.now ∷ range span.now ∷ [])) }
 {
-    text.put(b"free ")?;
-    put_range(text, span)?;
-    text.put(b"\n")
+    let end = span.start as u64 + span.pages as u64;
+    put_line(text, word, &[Pair(span.start as u64, b"..", end)])
 }
 
-/// Writes a line for each free run.
-pub fn put_free_runs(text: &mut Text, free: &[Span]) -> Result<(), AllocError>
-    ensures { OnOk result (text.new ≡ text.old ++ flat_map free_line free.now) }
+/// Writes a line for each span, under a word.
+pub fn put_spans(text: &mut Vec<u8>, word: &[u8], spans: &[Span]) -> Result<(), AllocError>
+    ensures { OnOk result (text.new.items ≡ text.old.items ++ flat_map (λ (s : Span). line (word.now ∷ range s ∷ [])) spans.now) }
 {
-    for span in free {
-        put_free(text, span)?;
+    for span in spans {
+        put_span(text, word, span)?;
     }
     Ok(())
 }
 
 /// Writes the kind of an area, a space before each word.
-fn put_kind(text: &mut Text, kind: &AreaKind) -> Result<(), AllocError>
-    ensures { OnOk result (text.new ≡ text.old ++ fields ([] ∷ area_kind kind.now)) }
+fn put_kind(text: &mut Vec<u8>, kind: &AreaKind) -> Result<(), AllocError>
+    ensures { OnOk result (text.new.items ≡ text.old.items ++ fields ([] ∷ area_kind kind.now)) }
 {
     match kind {
-        AreaKind::Vmalloc => text.put(b" vmalloc"),
-        AreaKind::MapRam => text.put(b" ram"),
-        AreaKind::Block { cpu } => {
-            text.put(b" block")?;
-            put_named(text, b"cpu", *cpu as u64)
-        }
-        AreaKind::Chunk { chunk, group } => {
-            put_named(text, b"chunk", *chunk as u64)?;
-            put_named(text, b"group", *group as u64)
-        }
+        AreaKind::Vmalloc => put_words(text, &[Word(b"vmalloc")]),
+        AreaKind::MapRam => put_words(text, &[Word(b"ram")]),
+        AreaKind::Block { cpu } => put_words(
+            text,
+            &[Word(b"block"), Word(b"cpu"), Number(*cpu as u64)],
+        ),
+        AreaKind::Chunk { chunk, group } => put_words(
+            text,
+            &[
+                Word(b"chunk"),
+                Number(*chunk as u64),
+                Word(b"group"),
+                Number(*group as u64),
+            ],
+        ),
     }
 }
 
-/// Writes whose a thing is, a space before each word.
-fn put_owner(text: &mut Text, caller: u16, serial: u32) -> Result<(), AllocError>
-    ensures { OnOk result (text.new ≡ text.old ++ fields ([] ∷ owner caller serial)) }
-{
-    put_named(text, b"caller", caller as u64)?;
-    put_named(text, b"serial", serial as u64)
-}
+impl Row for Area {
+    ghost use Rattle.report_text.specs.TableLines.{area_line};
 
-fn put_area(text: &mut Text, area: &Area) -> Result<(), AllocError>
-    ensures { OnOk result (text.new ≡ text.old ++ area_line area.now) }
-{
-    text.put(b"area ")?;
-    put_range(text, &area.span)?;
-    put_kind(text, &area.kind)?;
-    put_owner(text, area.caller, area.serial)?;
-    text.put(b"\n")
-}
+    ghost line = { area_line };
 
-/// Writes a line for each area.
-pub fn put_areas(text: &mut Text, areas: &[Area]) -> Result<(), AllocError>
-    ensures { OnOk result (text.new ≡ text.old ++ flat_map area_line areas.now) }
-{
-    for area in areas {
-        put_area(text, area)?;
+    fn put(&self, text: &mut Vec<u8>) -> Result<(), AllocError> {
+        let end = self.span.start as u64 + self.span.pages as u64;
+        let owner = [
+            Word(b"caller"),
+            Number(self.caller as u64),
+            Word(b"serial"),
+            Number(self.serial as u64),
+        ];
+        put_field(text, Word(b"area"))?;
+        put_words(text, &[Pair(self.span.start as u64, b"..", end)])?;
+        put_kind(text, &self.kind)?;
+        put_words(text, &owner)?;
+        put_field(text, Word(b"\n"))
     }
-    Ok(())
 }
 
-fn put_wait(text: &mut Text, span: &Span) -> Result<(), AllocError>
-    ensures { OnOk result (text.new ≡ text.old ++ wait_line span.now) }
-{
-    text.put(b"wait ")?;
-    put_range(text, span)?;
-    text.put(b"\n")
-}
-
-/// Writes a line for each span that waits.
-pub fn put_waits(text: &mut Text, waiting: &[Span]) -> Result<(), AllocError>
-    ensures { OnOk result (text.new ≡ text.old ++ flat_map wait_line waiting.now) }
-{
-    for span in waiting {
-        put_wait(text, span)?;
-    }
-    Ok(())
-}
-
-fn put_dirty_range(text: &mut Text, block: &BlockRow) -> Result<(), AllocError>
-    ensures { OnOk result (text.new ≡ text.old ++ dirty_range block.now) }
+/// The range that is dirty in a block, if any is.
+fn dirty_range(block: &BlockRow) -> Field<'static>
+    ensures { field_text result ≡ dirty_range block.now }
 {
     if block.dirty == 0 {
-        text.put(b"-")
+        Word(b"-")
     } else {
-        put_bounds(text, block.low as u64, block.high as u64)
+        Pair(block.low as u64, b"..", block.high as u64)
     }
 }
 
-fn put_block(text: &mut Text, block: &BlockRow) -> Result<(), AllocError>
-    ensures { OnOk result (text.new ≡ text.old ++ block_line block.now) }
-{
-    text.put(b"block ")?;
-    put_bounds(
-        text,
-        block.start as u64,
-        block.start as u64 + block.pages as u64,
-    )?;
-    put_named(text, b"cpu", block.cpu as u64)?;
-    put_named(text, b"free", block.free as u64)?;
-    put_named(text, b"dirty", block.dirty as u64)?;
-    text.put(b" range ")?;
-    put_dirty_range(text, block)?;
-    text.put(b"\n")
-}
+impl Row for BlockRow {
+    ghost use Rattle.report_text.specs.TableLines.{block_line};
 
-/// Writes a line for each block.
-pub fn put_blocks(text: &mut Text, blocks: &[BlockRow]) -> Result<(), AllocError>
-    ensures { OnOk result (text.new ≡ text.old ++ flat_map block_line blocks.now) }
-{
-    for block in blocks {
-        put_block(text, block)?;
+    ghost line = { block_line };
+
+    fn put(&self, text: &mut Vec<u8>) -> Result<(), AllocError> {
+        let end = self.start as u64 + self.pages as u64;
+        let rest = [
+            Pair(self.start as u64, b"..", end),
+            Word(b"cpu"),
+            Number(self.cpu as u64),
+            Word(b"free"),
+            Number(self.free as u64),
+            Word(b"dirty"),
+            Number(self.dirty as u64),
+            Word(b"range"),
+            dirty_range(self),
+        ];
+        put_line(text, b"block", &rest)
     }
-    Ok(())
 }
 
-fn put_part(text: &mut Text, part: &PartRow) -> Result<(), AllocError>
-    ensures { OnOk result (text.new ≡ text.old ++ part_line part.now) }
-{
-    text.put(b"part ")?;
-    put_range(text, &part.span)?;
-    put_named(text, b"cpu", part.cpu as u64)?;
-    put_owner(text, part.caller, part.serial)?;
-    text.put(b"\n")
-}
+impl Row for PartRow {
+    ghost use Rattle.report_text.specs.TableLines.{part_line};
 
-/// Writes a line for each part.
-pub fn put_parts(text: &mut Text, parts: &[PartRow]) -> Result<(), AllocError>
-    ensures { OnOk result (text.new ≡ text.old ++ flat_map part_line parts.now) }
-{
-    for part in parts {
-        put_part(text, part)?;
+    ghost line = { part_line };
+
+    fn put(&self, text: &mut Vec<u8>) -> Result<(), AllocError> {
+        let end = self.span.start as u64 + self.span.pages as u64;
+        let rest = [
+            Pair(self.span.start as u64, b"..", end),
+            Word(b"cpu"),
+            Number(self.cpu as u64),
+            Word(b"caller"),
+            Number(self.caller as u64),
+            Word(b"serial"),
+            Number(self.serial as u64),
+        ];
+        put_line(text, b"part", &rest)
     }
-    Ok(())
 }
 
-fn put_chunk(text: &mut Text, chunk: &ChunkRow) -> Result<(), AllocError>
-    ensures { OnOk result (text.new ≡ text.old ++ chunk_line chunk.now) }
-{
-    text.put(b"chunk ")?;
-    text.put_number(chunk.chunk as u64)?;
-    put_named(text, b"base", chunk.base as u64)?;
-    put_named(text, b"slot", chunk.slot as u64)?;
-    put_named(text, b"free", chunk.free as u64)?;
-    put_named(text, b"populated", chunk.populated as u64)?;
-    put_named(text, b"empty", chunk.empty as u64)?;
-    text.put(b"\n")
-}
+impl Row for ChunkRow {
+    ghost use Rattle.report_text.specs.TableLines.{chunk_line};
 
-/// Writes a line for each chunk.
-pub fn put_chunks(text: &mut Text, chunks: &[ChunkRow]) -> Result<(), AllocError>
-    ensures { OnOk result (text.new ≡ text.old ++ flat_map chunk_line chunks.now) }
-{
-    for chunk in chunks {
-        put_chunk(text, chunk)?;
+    ghost line = { chunk_line };
+
+    fn put(&self, text: &mut Vec<u8>) -> Result<(), AllocError> {
+        let rest = [
+            Number(self.chunk as u64),
+            Word(b"base"),
+            Number(self.base as u64),
+            Word(b"slot"),
+            Number(self.slot as u64),
+            Word(b"free"),
+            Number(self.free as u64),
+            Word(b"populated"),
+            Number(self.populated as u64),
+            Word(b"empty"),
+            Number(self.empty as u64),
+        ];
+        put_line(text, b"chunk", &rest)
     }
-    Ok(())
 }
 
-fn put_object(text: &mut Text, object: &ObjectRow) -> Result<(), AllocError>
-    ensures { OnOk result (text.new ≡ text.old ++ object_line object.now) }
-{
-    text.put(b"object ")?;
-    text.put_number(object.chunk as u64)?;
-    put_named(text, b"off", object.off as u64)?;
-    put_named(text, b"size", object.bytes as u64)?;
-    put_owner(text, object.caller, object.serial)?;
-    text.put(b"\n")
-}
+impl Row for ObjectRow {
+    ghost use Rattle.report_text.specs.TableLines.{object_line};
 
-/// Writes a line for each object.
-pub fn put_objects(text: &mut Text, objects: &[ObjectRow]) -> Result<(), AllocError>
-    ensures { OnOk result (text.new ≡ text.old ++ flat_map object_line objects.now) }
-{
-    for object in objects {
-        put_object(text, object)?;
+    ghost line = { object_line };
+
+    fn put(&self, text: &mut Vec<u8>) -> Result<(), AllocError> {
+        let rest = [
+            Number(self.chunk as u64),
+            Word(b"off"),
+            Number(self.off as u64),
+            Word(b"size"),
+            Number(self.bytes as u64),
+            Word(b"caller"),
+            Number(self.caller as u64),
+            Word(b"serial"),
+            Number(self.serial as u64),
+        ];
+        put_line(text, b"object", &rest)
     }
-    Ok(())
 }
 
-fn put_counter(text: &mut Text, number: u64, counter: &CounterRow) -> Result<(), AllocError>
-    ensures { OnOk result (text.new ≡ text.old ++ counter_line number counter.now) }
+fn put_counter(text: &mut Vec<u8>, number: u64, counter: &CounterRow) -> Result<(), AllocError>
+    ensures { OnOk result (text.new.items ≡ text.old.items ++ counter_line number counter.now) }
 {
-    text.put(b"counter ")?;
-    text.put_number(number)?;
-    text.put(b" total ")?;
-    text.put_amount(counter.total)?;
-    text.put(b"\n")
+    let rest = [Number(number), Word(b"total"), Amount(counter.total)];
+    put_line(text, b"counter", &rest)
 }
 
 /// Writes a line for each counter.
-pub fn put_counters(text: &mut Text, counters: &[CounterRow]) -> Result<(), AllocError>
-    ensures { OnOk result (text.new ≡ text.old ++ counter_lines counters.now) }
+pub fn put_counters(text: &mut Vec<u8>, counters: &[CounterRow]) -> Result<(), AllocError>
+    ensures { OnOk result (text.new.items ≡ text.old.items ++ counter_lines counters.now) }
 {
     for (i, counter) in counters.iter().enumerate() {
         put_counter(text, i as u64, counter)?;

@@ -1,7 +1,7 @@
 -- Fields behind others.
 use Rattle.std.proofs.Common.{◌≡◌, ◌∙◌, ℕ, List, [], ◌∷◌, ◌++◌, refl, ap, sym, append_assoc, length, map, take, get_or, ◌+◌, ◌<◌}
 use Rattle.std.proofs.lemmas.List.{append-nil, map-append, take_more}
-use Rattle.vm_model.specs.Words.{fields}
+use Rattle.vm_model.specs.Words.{fields, line}
 
 pub fields-front : (f : List ℕ) (gs : List (List ℕ)) → fields (f ∷ gs) ≡ f ++ fields ([] ∷ gs)
 fields-front f [] = sym (append-nil f)
@@ -21,3 +21,14 @@ pub words_step : {X : Type 0} (text : X → List ℕ) (xs : List X) (i : ℕ) (x
 words_step text xs i x d old t new h same written put =
     put ∙ ap (λ u. u ++ 32 ∷ text x) written ∙ append_assoc old (fields ([] ∷ map text (take i xs))) (32 ∷ text x) ∙ ap (λ y. old ++ (fields ([] ∷ map text (take i xs)) ++ 32 ∷ text y)) same
     ∙ ap (λ u. old ++ u) (sym (ap (λ ys. fields ([] ∷ map text ys)) (take_more xs i d h) ∙ ap (λ fs. fields ([] ∷ fs)) (map-append text (take i xs) (get_or xs i d ∷ [])) ∙ fields-more [] (text (get_or xs i d)) (map text (take i xs))))
+
+-- fields behind a text, a space before each
+pub record Puts (old new : List ℕ) (fs : List (List ℕ)) : Type 0 where
+  pub text : new ≡ old ++ fields ([] ∷ fs)
+
+pub both : {t u v : List ℕ} {fs gs : List (List ℕ)} → Puts t u fs → Puts u v gs → Puts t v (fs ++ gs)
+both {t = t} {u = u} {v = v} {fs = fs} {gs = gs} a b = record { text = b.text ∙ ap (λ x. x ++ fields ([] ∷ gs)) a.text ∙ append_assoc t (fields ([] ∷ fs)) (fields ([] ∷ gs)) ∙ ap (λ x. t ++ x) (sym (fields-append [] fs gs)) }
+
+-- a word, fields behind it and the end of the line
+pub line_text : (t u v w : List ℕ) (fs : List (List ℕ)) → u ≡ t ++ w → Puts u v fs → v ++ 10 ∷ [] ≡ t ++ line (w ∷ fs)
+line_text t u v w fs h a = ap (λ x. x ++ 10 ∷ []) (a.text ∙ ap (λ x. x ++ fields ([] ∷ fs)) h ∙ append_assoc t w (fields ([] ∷ fs)) ∙ ap (λ x. t ++ x) (sym (fields-front w fs))) ∙ append_assoc t (fields (w ∷ fs)) (10 ∷ [])

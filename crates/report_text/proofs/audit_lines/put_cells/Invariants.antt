@@ -4,4 +4,4 @@ use Rattle.vm_model.specs.Words.{fields}
 use Rattle.report_text.proofs.audit_lines.put_cells.Given as goal
 
 abbrev pub invariant-loop-cell : goal.invariant-loop-cell
-invariant-loop-cell l = l.text ≡ l.fn.text ++ fields ([] ∷ map signed_decimal (take l.cell-index l.cells))
+invariant-loop-cell l = l.text.items ≡ l.fn.text.items ++ fields ([] ∷ map signed_decimal (take l.cell-index l.cells))

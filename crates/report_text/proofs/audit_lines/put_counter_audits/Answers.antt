@@ -3,4 +3,4 @@ use Rattle.report_text.proofs.Joined.{numbered_step}
 use Rattle.report_text.proofs.audit_lines.put_counter_audits.Goals as goal
 
 pub loop-i-preserved : goal.loop-i-preserved
-loop-i-preserved c = numbered_step counter_audit c.args.counters.now c.loop-i.i c.index-counters-i.result c.args.text.now c.loop-i.text c.put_counter_audit.new.text c.loop-i-test.true c.index-counters-i.is c.loop-i.invariant c.in_ok-put_counter_audit.ensures
+loop-i-preserved c = numbered_step counter_audit c.args.counters.now c.loop-i.i c.index-counters-i.result c.args.text.now.items c.loop-i.text.items c.put_counter_audit.new.text.items c.loop-i-test.true c.index-counters-i.is c.loop-i.invariant c.in_ok-put_counter_audit.ensures

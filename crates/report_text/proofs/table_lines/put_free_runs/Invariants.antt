@@ -1,7 +1,0 @@
-use Rattle.std.proofs.Common.{◌≡◌, ◌++◌, take}
-use Rattle.std.specs.List.{flat_map}
-use Rattle.report_text.specs.TableLines.{free_line}
-use Rattle.report_text.proofs.table_lines.put_free_runs.Given as goal
-
-abbrev pub invariant-loop-span : goal.invariant-loop-span
-invariant-loop-span l = l.text ≡ l.fn.text ++ flat_map free_line (take l.span-index l.free)
