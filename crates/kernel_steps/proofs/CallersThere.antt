@@ -1,12 +1,12 @@
 -- How many callers there are.
-use Rattle.std.proofs.Common.{◌≡◌, ℕ, zero, suc, ◌+◌, List, [], ◌∷◌, length, Option, Some, None, refl, ap, ◌∙◌, arith, length-append, length-set, slice_get}
+use Rattle.std.proofs.Common.{◌≡◌, ℕ, zero, suc, List, [], ◌∷◌, length, Option, Some, None, refl, ap, ◌∙◌, arith, length-append, length-set, slice_get}
 use Rattle.vm_model.specs.declared.calls.Call.{Call}
 use Rattle.vm_model.specs.Setup.{Setup}
 use Rattle.vm_model.specs.Events.{Section}
 use Rattle.vm_model.specs.Calls.{Answered}
 use Rattle.vm_model.specs.Next.{next}
 use Rattle.vm_model.specs.History.{World, Local, section_of, made_if, step_of, step, moved_to, first_mover, finish, most_events, opening_world, opening_answers, callers_from}
-use Rattle.kernel_steps.specs.Kernels.{start_of, opening_of, callers_of}
+use Rattle.kernel_steps.specs.Kernels.{opening_of, callers_of}
 use Rattle.kernel_steps.specs.Laws.{TheStartHasAllCallers}
 
 kept_made : (w : World) (l : Local) (s : Option Section) → length (made_if w l s).locals ≡ length w.locals

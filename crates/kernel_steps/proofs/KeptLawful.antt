@@ -1,5 +1,5 @@
 -- Sections keep a state lawful.
-use Rattle.std.proofs.Common.{◌≡◌, sym, ap, ◌∙◌, slice_get, List}
+use Rattle.std.proofs.Common.{sym, ap, ◌∙◌, slice_get, List}
 use Rattle.vm_model.specs.History.{Local, step}
 use Rattle.vm_model.specs.Parts.{Region, wants, moves, after}
 use Rattle.vm_model.specs.Run.{section_by}

@@ -1,16 +1,14 @@
 -- Where a kernel starts.
-use Rattle.std.proofs.Common.{slice_index_or, ◌≡◌, ℕ, zero, suc, ◌+◌, ◌≤◌, inl, false, List, [], ◌∷◌, ◌++◌, length, slice_get, sum_by, count_by, cond, Some, refl, ap, sym, ◌∙◌, arith}
+use Rattle.std.proofs.Common.{slice_index_or, ◌≡◌, ℕ, zero, suc, ◌+◌, ◌≤◌, inl, List, [], ◌∷◌, ◌++◌, length, slice_get, sum_by, Some, refl, ap, sym, ◌∙◌, arith}
 use Rattle.std.proofs.lemmas.Option.{slice_get_read}
 use Rattle.std.proofs.lemmas.List.Sums.{sum_by-cons}
 use Rattle.vm_model.specs.declared.calls.Call.{Call}
-use Rattle.vm_model.specs.declared.calls.Call.TheVariants.{Vmalloc, Vfree, MapRam, UnmapRam, UnmapAliases}
 use Rattle.vm_model.specs.Setup.{Setup}
 use Rattle.vm_model.specs.PlainMap.{at_first}
-use Rattle.vm_model.specs.Calls.{Answered, can_place}
-use Rattle.vm_model.specs.History.{World, Local, started, placing_calls, opening_world, callers_from, opening_answers, finish, most_events}
+use Rattle.vm_model.specs.Calls.{Answered}
+use Rattle.vm_model.specs.History.{World, Local, started, opening_world, callers_from, opening_answers, finish, most_events}
 use Rattle.vm_model.specs.Parts.{regions_of}
 use Rattle.map_laws.proofs.ReachedSteps.{steps_reached}
-use Rattle.callers.specs.CallerParts.{AreBuilt, IsBuiltCall}
 use Rattle.kernel_steps.specs.Kernels.{KernelState, IsStanding, CanStart, IsBefore, CanJoin, start_of, opening_of, callers_of}
 
 -- before the first call of the opening
@@ -18,7 +16,7 @@ pub stands_before : (c : Setup) (opening : List Call) (calls : List (List Call))
     → IsStanding c opening calls (opening_world c opening calls) k
 stands_before c opening calls room k is regions locals moved = record {
   running = record { trace = is.can.trace; opening_built = is.can.built 0 opening refl; callers_built = λ i own h. is.can.built (suc i) own h; reached = inl ([], tt, refl) };
-  regions = regions ∙ ap (λ n. regions_of c (at_first c n)) is.room;
+  regions = regions ∙ ap (λ n. regions_of c (at_first c n)) is.counted;
   locals = locals;
   moved = moved;
 }

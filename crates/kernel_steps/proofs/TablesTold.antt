@@ -31,14 +31,12 @@ use Rattle.vm_model.specs.declared.areas.Span.{Span}
 use Rattle.vm_model.specs.declared.areas.Area.{Area}
 use Rattle.unit_layout.specs.declared.config.Config.{Config}
 use Rattle.vm_model.specs.declared.tables.Tables.{Tables}
-use Rattle.vm_model.specs.declared.rows.BlockRow.{BlockRow}
-use Rattle.vm_model.specs.declared.rows.PartRow.{PartRow}
 use Rattle.vm_model.specs.Space.{sort_by, longest_of, count_from}
 use Rattle.unit_layout.specs.Config.{setup_of}
 use Rattle.vm_model.specs.PlainMap.{PlainMap, free_runs}
 use Rattle.vm_model.specs.Frames.{free_frames, is_used}
 use Rattle.vm_model.specs.Parts.{FreeRuns, LiveAreas, Pages, Region, WaitingSpans, cpu_blocks, regions_of}
-use Rattle.vm_model.specs.Tables.{block_row, part_rows, chunk_row, object_rows, hint_rows, tables_of}
+use Rattle.vm_model.specs.Tables.{chunk_row, object_rows, hint_rows, tables_of}
 use Rattle.vm_model.specs.Tables.{chunk_audit as chunk_audit_of}
 
 -- a caller's events are its places among the movers

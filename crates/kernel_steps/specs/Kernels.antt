@@ -69,7 +69,7 @@ pub record CanStart (c : Setup) (sections : List (List Call)) : Type 0 where
 -- the same, and how many objects their calls can place
 pub record IsBefore (c : Setup) (sections : List (List Call)) (room : ℕ) : Type 0 where
   pub can : CanStart c sections
-  pub room : room ≡ placing_calls sections
+  pub counted : room ≡ placing_calls sections
 
 -- where the opening has ended, and the callers stand before their first calls
 abbrev pub start_of : Setup → List (List Call) → World

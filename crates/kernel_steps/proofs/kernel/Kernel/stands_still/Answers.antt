@@ -1,4 +1,4 @@
-use Rattle.std.proofs.Common.{◌≡◌, ◌<◌, ℕ, List, length, Some, sym, ◌∙◌, subst, slice_get, slice_index_or, refl, arith}
+use Rattle.std.proofs.Common.{◌≡◌, ◌<◌, ℕ, List, length, Some, sym, ◌∙◌, subst, slice_get, slice_index_or, refl}
 use Rattle.std.proofs.lemmas.Option.{slice_get_read}
 use Rattle.kernel_steps.specs.Kernels.{KernelState, IsStanding}
 use Rattle.kernel_steps.proofs.SectionsMade.{still_stays, still_ended}

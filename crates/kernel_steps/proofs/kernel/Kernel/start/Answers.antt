@@ -33,17 +33,17 @@ first_callers-requires-clause-few c = λ k own h.
 pub placing_calls-room-requires : goal.placing_calls-room-requires
 placing_calls-room-requires c = few_together c.args.sections c.requires.some c.requires.trace.few
 
-pub before-kernel-requires : goal.before-kernel-requires
-before-kernel-requires c =
+pub before-requires : goal.before-requires
+before-requires c =
     let split = split_as c.args.sections c.into_vec-sections.result.items c.remove-opening.new.self.items c.remove-opening.result c.into_vec-sections.ensures c.requires.some c.remove-opening.ensures.value c.remove-opening.ensures.items in
     let can : CanStart (setup_of (arc_value c.in_ok-config.config)) (c.remove-opening.result ∷ c.remove-opening.new.self.items) = subst (CanStart (setup_of (arc_value c.in_ok-config.config))) split (subst (λ (x : Config). CanStart (setup_of x) c.args.sections) (sym c.in_ok-config.ensures.ok) c.requires) in
-    (c.remove-opening.new.self.items, record { can = can; room = c.placing_calls-room.ensures ∙ ap placing_calls split })
+    (c.remove-opening.new.self.items, record { can = can; counted = c.placing_calls-room.ensures ∙ ap placing_calls split })
 
 pub join-requires : goal.join-requires
 join-requires c =
     let split = split_as c.args.sections c.into_vec-sections.result.items c.remove-opening.new.self.items c.remove-opening.result c.into_vec-sections.ensures c.requires.some c.remove-opening.ensures.value c.remove-opening.ensures.items in
     let can : CanStart (setup_of (arc_value c.in_ok-config.config)) (c.remove-opening.result ∷ c.remove-opening.new.self.items) = subst (CanStart (setup_of (arc_value c.in_ok-config.config))) split (subst (λ (x : Config). CanStart (setup_of x) c.args.sections) (sym c.in_ok-config.ensures.ok) c.requires) in
-    let before : IsBefore (setup_of (arc_value c.in_ok-config.config)) (c.remove-opening.result ∷ c.remove-opening.new.self.items) c.placing_calls-room.result = record { can = can; room = c.placing_calls-room.ensures ∙ ap placing_calls split } in (
+    let before : IsBefore (setup_of (arc_value c.in_ok-config.config)) (c.remove-opening.result ∷ c.remove-opening.new.self.items) c.placing_calls-room.result = record { can = can; counted = c.placing_calls-room.ensures ∙ ap placing_calls split } in (
       setup_of (arc_value c.in_ok-config.config),
       c.remove-opening.result ∷ c.remove-opening.new.self.items,
       can_join (setup_of (arc_value c.in_ok-config.config)) c.remove-opening.result c.remove-opening.new.self.items c.in_ok-kernel.kernel c.finish.new.self c.kernel-2.inside.locals.items c.in_ok-first_callers.field-0.items c.index.result.now
@@ -56,7 +56,7 @@ pub returns : goal.returns
 returns c =
     let split = split_as c.args.sections c.into_vec-sections.result.items c.remove-opening.new.self.items c.remove-opening.result c.into_vec-sections.ensures c.requires.some c.remove-opening.ensures.value c.remove-opening.ensures.items in
     let can : CanStart (setup_of (arc_value c.in_ok-config.config)) (c.remove-opening.result ∷ c.remove-opening.new.self.items) = subst (CanStart (setup_of (arc_value c.in_ok-config.config))) split (subst (λ (x : Config). CanStart (setup_of x) c.args.sections) (sym c.in_ok-config.ensures.ok) c.requires) in
-    let before : IsBefore (setup_of (arc_value c.in_ok-config.config)) (c.remove-opening.result ∷ c.remove-opening.new.self.items) c.placing_calls-room.result = record { can = can; room = c.placing_calls-room.ensures ∙ ap placing_calls split } in
+    let before : IsBefore (setup_of (arc_value c.in_ok-config.config)) (c.remove-opening.result ∷ c.remove-opening.new.self.items) c.placing_calls-room.result = record { can = can; counted = c.placing_calls-room.ensures ∙ ap placing_calls split } in
     let joined = c.in_ok-join.ensures (setup_of (arc_value c.in_ok-config.config)) (c.remove-opening.result ∷ c.remove-opening.new.self.items)
     (can_join (setup_of (arc_value c.in_ok-config.config)) c.remove-opening.result c.remove-opening.new.self.items c.in_ok-kernel.kernel c.finish.new.self c.kernel-2.inside.locals.items c.in_ok-first_callers.field-0.items c.index.result.now
     (map answer_of (arc_value c.in_ok-answers-2.answers)) can (c.in_ok-kernel.ensures c.remove-opening.new.self.items before)

@@ -59,5 +59,6 @@ returns-in-Stays c = record {
       as_many c.self.inside.regions c.self.inside.locals c.self.inside.moved c.reserve.new.self c.args.caller c.in_ok-stepped.stepped
       c.deref_mut.result.now c.section_of.new.regions c.deref_mut-2.result.now c.section_of.new.locals c.deref_mut.ensures.value c.deref_mut-2.ensures.value c.in_ok-stepped.ensures.ok
       ∙ ap (λ (k : KernelState). length k.locals) c.self.view_is;
+  memory = tt;
   err = tt;
 }
