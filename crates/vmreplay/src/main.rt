@@ -1,8 +1,14 @@
-//! `vmreplay`: replays a trace of allocator calls from standard input, and writes its report to standard output.
+//! `vmreplay`: replays a trace of allocator calls from standard input, and writes its report to standard output. Where it
+//! doesn't end well, what a person needs is written to standard error.
 #![tactic(auto)]
 
+mod keeping_source;
+mod said;
+
+use keeping_source::KeepingSource;
+use said::said;
 use std::env::{self, Env};
-use std::io::{self, ErrorKind};
+use std::io::{self, ErrorKind, Write};
 use std::process::ExitCode;
 use trace_replay::{Status, StreamSink, StreamSource, run};
 
@@ -17,7 +23,7 @@ fn words<R: Env + AllocGlobal>(rt: &R) -> io::Result<Vec<String>> {
 
 fn main(rt: HostRuntime) -> ExitCode {
     let mut sink = StreamSink::new(io::writer(&rt));
-    let mut source = StreamSource::new(rt.reader());
+    let mut source = KeepingSource::new(rt.alloc(), StreamSource::new(rt.reader()));
     let words = match words(&rt) {
         Ok(words) => words,
         Err(error) if error.kind() == ErrorKind::OutOfMemory => {
@@ -26,5 +32,8 @@ fn main(rt: HostRuntime) -> ExitCode {
         Err(_) => Vec::new(rt.alloc()),
     };
     let status = run(rt.alloc(), words.as_slice(), &mut source, &mut sink);
+    if let Ok(said) = said(rt.alloc(), status, source.kept()) {
+        let _ = rt.stderr().write_all(said.as_slice());
+    }
     ExitCode::from(status.code())
 }
