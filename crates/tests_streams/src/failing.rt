@@ -1,53 +1,86 @@
-//! Readers and writers of std of which one call fails.
+//! Readers and writers of std some of whose calls fail, are interrupted, or move nothing.
+ghost use Rattle.std.specs.Prelude.{◌≤◌, IfOk};
 
 use crate::replayed::{REPORT, TRACE, replayed};
 use std::alloc::Global;
 use std::io::{self, ErrorKind, Read, Write};
 use trace_replay::StreamSource;
 
-/// A reader or a writer that moves at most a piece a call, and fails once.
+/// What calls do in place of moving bytes.
+#[derive(Clone, Copy)]
+enum Fault {
+    /// They fail.
+    Error(ErrorKind),
+    /// They move nothing.
+    Nothing,
+}
+
+/// The calls from the first to the last, which are counted from 1, have a fault.
+#[derive(Clone, Copy)]
+struct Faults {
+    first: u32,
+    last: u32,
+    fault: Fault,
+}
+
+/// One call with an error.
+fn fails_at(call: u32) -> Faults {
+    times(Fault::Error(ErrorKind::Other), call, 1)
+}
+
+/// So many calls in a row, from this one, with a fault.
+fn times(fault: Fault, first: u32, count: u32) -> Faults {
+    let last = first.saturating_add(count).saturating_sub(1);
+    Faults { first, last, fault }
+}
+
+/// A reader or a writer that moves at most a piece a call.
 #[derive(Drop)]
 struct Faulty<T> {
     inner: T,
     piece: usize,
     calls: u32,
-    failing: u32,
-    kind: ErrorKind,
+    faults: Faults,
 }
 
 impl<T> Faulty<T> {
-    /// The call with this number, from 1, fails.
-    fn new(inner: T, piece: usize, failing: u32, kind: ErrorKind) -> Faulty<T> {
+    fn new(inner: T, piece: usize, faults: Faults) -> Faulty<T> {
         Faulty {
             inner,
             piece,
             calls: 0,
-            failing,
-            kind,
+            faults,
         }
     }
 
-    fn count(&mut self) -> io::Result<()> {
+    /// How many of so many bytes the next call moves.
+    fn moves(&mut self, bytes: usize) -> io::Result<usize>
+        ensures { IfOk result (λ most. most ≤ bytes) }
+    {
         self.calls = self.calls.saturating_add(1);
-        if self.calls == self.failing {
-            return Err(io::Error::new(self.kind, "as told"));
+        if self.calls < self.faults.first || self.faults.last < self.calls {
+            return Ok(bytes.min(self.piece));
         }
-        Ok(())
+        match self.faults.fault {
+            Fault::Error(kind) => Err(io::Error::new(kind, "as told")),
+            Fault::Nothing => Ok(0),
+        }
     }
 }
 
 impl<R: Read> Read for Faulty<R> {
     fn read(&mut self, buf: &mut [u8]) -> io::Result<usize> {
-        self.count()?;
-        let most = buf.len().min(self.piece);
+        let most = self.moves(buf.len())?;
         self.inner.read(&mut buf[..most])
     }
 }
 
 impl<W: Write> Write for Faulty<W> {
     fn write(&mut self, buf: &[u8]) -> io::Result<usize> {
-        self.count()?;
-        let most = buf.len().min(self.piece);
+        let most = self.moves(buf.len())?;
+        if most == 0 {
+            return Ok(0);
+        }
         self.inner.write(&buf[..most])
     }
 
@@ -56,15 +89,15 @@ impl<W: Write> Write for Faulty<W> {
     }
 }
 
-/// The exit status where a read fails, and what is written then.
-fn failing_read(alloc: Global, piece: usize, failing: u32, kind: ErrorKind) -> (u8, Vec<u8>) {
-    let reader = Faulty::new(TRACE, piece, failing, kind);
+/// The exit status where reads have faults, and what is written then.
+fn failing_read(alloc: Global, piece: usize, faults: Faults) -> (u8, Vec<u8>) {
+    let reader = Faulty::new(TRACE, piece, faults);
     replayed(alloc, &mut StreamSource::new(reader), Vec::new(alloc))
 }
 
-/// The exit status where a write fails, and what is written then.
-fn failing_write(alloc: Global, piece: usize, failing: u32, kind: ErrorKind) -> (u8, Vec<u8>) {
-    let writer = Faulty::new(Vec::new(alloc), piece, failing, kind);
+/// The exit status where writes have faults, and what is written then.
+fn failing_write(alloc: Global, piece: usize, faults: Faults) -> (u8, Vec<u8>) {
+    let writer = Faulty::new(Vec::new(alloc), piece, faults);
     let (status, writer) = replayed(alloc, &mut StreamSource::new(TRACE), writer);
     (status, writer.inner)
 }
@@ -76,10 +109,10 @@ const PIECES: [(usize, u32, u32); 3] = [(1, 38, 201), (7, 7, 29), (4096, 2, 1)];
 fn each_read_fails_in_turn(rt: HostRuntime) {
     for (piece, reads, _) in PIECES {
         for failing in 1..=reads {
-            let (status, written) = failing_read(rt.alloc(), piece, failing, ErrorKind::Other);
+            let (status, written) = failing_read(rt.alloc(), piece, fails_at(failing));
             assert!(rt; status == 4 && written.is_empty(), "at {piece}, {failing}");
         }
-        let (status, written) = failing_read(rt.alloc(), piece, reads + 1, ErrorKind::Other);
+        let (status, written) = failing_read(rt.alloc(), piece, fails_at(reads + 1));
         assert!(rt; status == 0 && written.as_slice() == REPORT, "at {piece}");
     }
 }
@@ -88,7 +121,7 @@ fn each_read_fails_in_turn(rt: HostRuntime) {
 fn each_write_fails_in_turn(rt: HostRuntime) {
     for (piece, _, writes) in PIECES {
         for failing in 1..=writes {
-            let (status, taken) = failing_write(rt.alloc(), piece, failing, ErrorKind::Other);
+            let (status, taken) = failing_write(rt.alloc(), piece, fails_at(failing));
             let before = piece.saturating_mul(failing as usize - 1);
             assert!(rt;
                 status == 5 && taken.len() == before,
@@ -99,15 +132,26 @@ fn each_write_fails_in_turn(rt: HostRuntime) {
                 "at {piece}, {failing}"
             );
         }
-        let (status, taken) = failing_write(rt.alloc(), piece, writes + 1, ErrorKind::Other);
+        let (status, taken) = failing_write(rt.alloc(), piece, fails_at(writes + 1));
         assert!(rt; status == 0 && taken.as_slice() == REPORT, "at {piece}");
     }
 }
 
 #[test]
-fn an_interrupted_call_is_made_again(rt: HostRuntime) {
-    let (read, told) = failing_read(rt.alloc(), 10, 2, ErrorKind::Interrupted);
-    assert!(rt; read == 0 && told.as_slice() == REPORT);
-    let (wrote, taken) = failing_write(rt.alloc(), 10, 2, ErrorKind::Interrupted);
-    assert!(rt; wrote == 0 && taken.as_slice() == REPORT);
+fn interrupted_calls_are_made_again(rt: HostRuntime) {
+    for count in [1, 2, 1_000] {
+        let interrupted = times(Fault::Error(ErrorKind::Interrupted), 2, count);
+        let (read, told) = failing_read(rt.alloc(), 10, interrupted);
+        assert!(rt; read == 0 && told.as_slice() == REPORT, "{count} reads");
+        let (wrote, taken) = failing_write(rt.alloc(), 10, interrupted);
+        assert!(rt; wrote == 0 && taken.as_slice() == REPORT, "{count} writes");
+    }
+}
+
+#[test]
+fn a_write_that_takes_nothing_fails(rt: HostRuntime) {
+    for (failing, before) in [(1, 0), (2, 10), (3, 20)] {
+        let (status, taken) = failing_write(rt.alloc(), 10, times(Fault::Nothing, failing, 1));
+        assert!(rt; status == 5 && taken.len() == before, "at {failing}");
+    }
 }

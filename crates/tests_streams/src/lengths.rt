@@ -1,7 +1,7 @@
-//! The most bytes and the most calls that a text may have.
+//! The most bytes and the most calls that a text may have, and long traces.
 
 use crate::replayed::replayed;
-use std::alloc::AllocError;
+use std::alloc::{AllocError, Global};
 use std::io::{self, Read};
 use trace_replay::StreamSource;
 
@@ -22,16 +22,45 @@ fn one_byte_more_is_too_long(rt: HostRuntime) {
     }
 }
 
-#[test]
-fn one_call_more_is_a_bad_line(rt: HostRuntime) -> Result<(), AllocError> {
-    let mut text = Vec::new(rt.alloc());
+/// A trace of 16 pages with a line so many times.
+fn repeated(alloc: Global, line: &[u8], times: u32) -> Result<Vec<u8>, AllocError> {
+    let mut text = Vec::new(alloc);
     text.extend_from_slice(b"vmtrace 1\nspace 16\n")?;
-    for _ in 0..100_001 {
-        text.extend_from_slice(b"unmap_aliases\n")?;
+    for _ in 0..times {
+        text.extend_from_slice(line)?;
     }
     text.extend_from_slice(b"end\n")?;
+    Ok(text)
+}
+
+#[test]
+fn one_call_more_is_a_bad_line(rt: HostRuntime) -> Result<(), AllocError> {
+    let text = repeated(rt.alloc(), b"unmap_aliases\n", 100_001)?;
     let mut source = StreamSource::new(text.as_slice());
     let (ended, written) = replayed(rt.alloc(), &mut source, Vec::new(rt.alloc()));
     assert!(rt; ended == 1 && written.as_slice() == b"fault line 100003\n".as_slice());
+    Ok(())
+}
+
+/// There is memory for traces of many lines and of many calls.
+#[test]
+fn long_traces_are_done(rt: HostRuntime) -> Result<(), AllocError> {
+    for (line, times, told) in [
+        (b"order 1\n".as_slice(), 200_000, "tally calls 0 ok 0 "),
+        (
+            b"unmap_aliases\n".as_slice(),
+            65_536,
+            "tally calls 65536 ok 65536 ",
+        ),
+    ] {
+        let text = repeated(rt.alloc(), line, times)?;
+        let mut source = StreamSource::new(text.as_slice());
+        let (ended, written) = replayed(rt.alloc(), &mut source, Vec::new(rt.alloc()));
+        let tally = written
+            .as_slice()
+            .windows(told.len())
+            .any(|part| part == told.as_bytes());
+        assert!(rt; ended == 0 && tally, "of {times} lines");
+    }
     Ok(())
 }

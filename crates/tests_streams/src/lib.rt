@@ -1,6 +1,9 @@
-//! Sources and sinks: calls that fail or are interrupted, and the most bytes and calls that a text may have.
+//! Sources and sinks: calls that fail or are interrupted, and the most bytes and calls that a text may have. What is said
+//! of texts that are no traces.
 #![tactic(auto)]
 
+#[cfg(test)]
+mod error_texts;
 #[cfg(test)]
 mod failing;
 #[cfg(test)]
