@@ -119,7 +119,7 @@ def seconds(command, path):
     """The processor time of one run of `command` with the file as its input."""
     before = resource.getrusage(resource.RUSAGE_CHILDREN)
     with open(path, "rb") as text:
-        subprocess.run(command, stdin=text, stdout=subprocess.DEVNULL, check=False)
+        subprocess.run(command, stdin=text, stdout=subprocess.DEVNULL, stderr=subprocess.DEVNULL, check=False)
     after = resource.getrusage(resource.RUSAGE_CHILDREN)
     return after.ru_utime + after.ru_stime - before.ru_utime - before.ru_stime
 
