@@ -2,39 +2,60 @@
 use Rattle.std.specs.Prelude.{◌≡◌, ℕ, ◌<◌, ◌≤◌, ◌++◌, All, List, [], ◌∷◌, length, Option, Some, option_to_list}
 use Rattle.vm_model.specs.declared.areas.Span.{Span}
 use Rattle.vm_model.specs.Space.{end_of, hull}
-use Rattle.vm_model.specs.Setup.{Setup, cpus}
+use Rattle.vm_model.specs.Setup.{Setup, cpus, groups_at}
+use Rattle.vm_model.specs.Chunks.{ObjectAt}
+use Rattle.vm_model.specs.PageSets.{pages_in}
+use Rattle.chunk_slots.specs.ChunkRegion as region
 use Rattle.lazy_purge.specs.Waits.{HasPage}
-use Rattle.vm_model.specs.Events.{ForPages}
+use Rattle.vm_model.specs.Events.{ForPages, ForGroups}
 use Rattle.vm_model.specs.Places as model
-use Rattle.vm_model.specs.Places.{ForArea, ForBlock, SearchAgain, ReplyWith}
+use Rattle.vm_model.specs.Places.{ForArea, ForBlock, ForChunk, SearchAgain, ReplyWith, SpareAgain}
 use Rattle.map_blocks.specs.BlockRows.{at_of}
 use Rattle.callers.specs.declared.place.Aim.{Aim}
 use Rattle.callers.specs.declared.place.Aim.TheVariants as aim
 use Rattle.callers.specs.declared.place.Search.{Search}
+use Rattle.callers.specs.declared.place.NewChunk.{NewChunk}
 use Rattle.callers.specs.declared.place.After.{After}
 use Rattle.callers.specs.declared.place.After.TheVariants as then
 use Rattle.callers.specs.declared.place.Place.{Place}
-use Rattle.callers.specs.declared.place.Place.TheVariants.{Over, Refusing, Finding, FindingAgain, MappingArea, Dropping, SettlingArea, Removing, UnmappingArea, Waiting, PurgeTaking, PurgeFragmenting, PurgeUnlinking, PurgeWaiting, PurgeCollecting, PurgeFlushing, PurgeReturning, PurgeGiving, CuttingPart, SettlingBlock, AddingBlock, MappingPart, SettlingPart, BeginningUnmap, UnmappingPart, Retiring, UnlinkingBlock, LookingAtDirty}
+use Rattle.callers.specs.declared.place.Place.TheVariants.{Over, Refusing, Finding, FindingAgain, MappingArea, Dropping, SettlingArea, Removing, UnmappingArea, Waiting, PurgeTaking, PurgeFragmenting, PurgeUnlinking, PurgeWaiting, PurgeCollecting, PurgeFlushing, PurgeReturning, PurgeGiving, CuttingPart, SettlingBlock, AddingBlock, MappingPart, SettlingPart, BeginningUnmap, UnmappingPart, Retiring, UnlinkingBlock, LookingAtDirty, TakingAlloc, Choosing, FindingGroups, FindingGroupsAgain, SettlingGroups, AddingChunk, Populating, SettlingObject, Unplacing, GivingAlloc, ChoosingAtomic, Zeroing, SettlingAtomic, FreeingObject, Adding, Summing, TakingToBalance, Sparing, Depopulating, UnlinkingGroups, WaitingForGroups, NextFill, Filling, NotingFilled}
+use Rattle.callers.specs.declared.answers.ObjectPlace.{ObjectPlace}
 use Rattle.callers.specs.declared.answers.Made.{Made}
-use Rattle.callers.specs.declared.answers.Made.TheVariants.{Nothing, Area, Part}
+use Rattle.callers.specs.declared.answers.Made.TheVariants.{Nothing, Area, Part, Object}
 
 -- what a search is for, and what follows a wait or a purge
 abbrev pub aim_of : Aim → model.Aim
 aim_of (aim.Area k) = ForArea k
 aim_of (aim.Block cpu pages) = ForBlock cpu pages
 
+abbrev pub aim_at : NewChunk → model.Aim
+aim_at wanted = ForChunk wanted.number wanted.object.bytes wanted.object.align
+
 abbrev pub then_of : After → model.Then
 then_of (then.Search s) = SearchAgain (ForPages s.pages s.align) (aim_of s.aim)
+then_of (then.Groups wanted) = SearchAgain ForGroups (aim_at wanted)
 then_of (then.Reply r) = ReplyWith r
+then_of then.Spare = SpareAgain
 
--- the lists that a caller carries beside its place: the starts of the blocks that its purge has taken out, the spans that it flushes or returns, and the dirty ranges that it has seen
+-- an object's place, and what a call made
+abbrev pub object_of : ObjectPlace → ObjectAt
+object_of o = record { chunk = o.chunk; base = o.base; off = o.off; bytes = o.bytes }
+
+abbrev pub made_of : Made → model.Made
+made_of Nothing = model.MadeNothing
+made_of (Area start serial) = model.MadeArea start serial
+made_of (Part cpu page serial) = model.MadePart cpu page serial
+made_of (Object o serial) = model.MadeObject (object_of o) serial
+
+-- the lists that a caller carries beside its place: the starts of the blocks that its purge has taken out, the spans that it flushes or returns, the dirty ranges that it has seen, and the spans of a chunk's groups that are to wait
 pub record Carried : Type 0 where
   pub gone : List ℕ
   pub waited : List Span
   pub ranges : List Span
+  pub groups : List Span
 
 abbrev pub nothing : Carried
-nothing = record { gone = []; waited = []; ranges = [] }
+nothing = record { gone = []; waited = []; ranges = []; groups = [] }
 
 -- a place, with the lists that its caller carries
 abbrev pub place_of : Place → Carried → model.Place
@@ -66,6 +87,42 @@ place_of (UnmappingPart cpu part) carried = model.UnmappingPart (at_of cpu part)
 place_of (Retiring cpu part r) carried = model.Retiring (at_of cpu part) r
 place_of (UnlinkingBlock start r) carried = model.UnlinkingBlock start r
 place_of (LookingAtDirty cpu) carried = model.LookingAtDirty cpu carried.ranges
+place_of (TakingAlloc o) carried = model.TakingAlloc o.bytes o.align
+place_of (Choosing o) carried = model.Choosing o.bytes o.align
+place_of (FindingGroups wanted) carried = model.Finding ForGroups (aim_at wanted)
+place_of (FindingGroupsAgain wanted) carried = model.FindingAgain ForGroups (aim_at wanted)
+place_of (SettlingGroups base wanted) carried = model.SettlingGroups base wanted.number wanted.object.bytes wanted.object.align
+place_of (AddingChunk base wanted) carried = model.AddingChunk base wanted.number wanted.object.bytes wanted.object.align
+place_of (Populating placed) carried = model.Populating (region.at_of placed) (pages_in placed.missing)
+place_of (SettlingObject placed) carried = model.SettlingObject (region.at_of placed)
+place_of (Unplacing placed) carried = model.Unplacing (region.at_of placed)
+place_of (GivingAlloc r made) carried = model.GivingAlloc r (made_of made)
+place_of (ChoosingAtomic o) carried = model.ChoosingAtomic o.bytes o.align
+place_of (Zeroing placed) carried = model.Zeroing (region.at_of placed)
+place_of (SettlingAtomic placed) carried = model.SettlingAtomic (region.at_of placed)
+place_of (FreeingObject o serial) carried = model.FreeingObject (object_of o) serial
+place_of (Adding o serial cpu index amount) carried = model.Adding (object_of o) serial cpu index amount
+place_of (Summing o serial index) carried = model.Summing (object_of o) serial index
+place_of TakingToBalance carried = model.TakingToBalance
+place_of Sparing carried = model.Sparing
+place_of (Depopulating base populated) carried = model.Depopulating base (pages_in populated)
+place_of (UnlinkingGroups base) carried = model.UnlinkingGroups base
+place_of (WaitingForGroups base) carried = model.Waiting carried.groups SpareAgain
+place_of (NextFill filled) carried = model.NextFill filled
+place_of (Filling chunk base page filled) carried = model.Filling chunk base page filled
+place_of (NotingFilled chunk page filled) carried = model.NotingFilled chunk page filled
+
+-- the spans of the groups that wait there
+abbrev pub groups_carried : Setup → Place → List Span
+groups_carried c (WaitingForGroups base) = groups_at c base
+groups_carried c _ = []
+
+-- how many pages a balance has filled so far
+abbrev pub filled_by : Place → ℕ
+filled_by (NextFill filled) = filled
+filled_by (Filling chunk base page filled) = filled
+filled_by (NotingFilled chunk page filled) = filled
+filled_by _ = 0
 
 -- the lists that a caller carries there
 abbrev pub carried_at : model.Place → Carried
@@ -75,6 +132,7 @@ carried_at (model.PurgeWaiting gone extra after) = record nothing { gone = gone 
 carried_at (model.PurgeFlushing s waited after) = record nothing { waited = waited }
 carried_at (model.PurgeReturning waited after) = record nothing { waited = waited }
 carried_at (model.LookingAtDirty cpu ranges) = record nothing { ranges = ranges }
+carried_at (model.Waiting spans after) = record nothing { groups = spans }
 carried_at _ = nothing
 
 -- a place to which a caller carries no list, and one at which a call may begin
@@ -84,6 +142,7 @@ CarriesNoSpans (PurgeUnlinking extra after) = ⊥
 CarriesNoSpans (PurgeWaiting extra after) = ⊥
 CarriesNoSpans (PurgeFlushing s after) = ⊥
 CarriesNoSpans (PurgeReturning after) = ⊥
+CarriesNoSpans (WaitingForGroups base) = ⊥
 CarriesNoSpans _ = Unit {0}
 
 abbrev pub IsEmptyHanded : Place → Type 0
@@ -140,7 +199,7 @@ pub record IsSearch (s : Search) : Type 0 where
 
 abbrev pub IsSizedAfter : After → Type 0
 IsSizedAfter (then.Search s) = IsSearch s
-IsSizedAfter (then.Reply r) = Unit {0}
+IsSizedAfter _ = Unit {0}
 
 -- a span that was carved has a page and lies in the largest space
 pub record IsCarved (s : Span) : Type 0 where
@@ -166,9 +225,3 @@ IsSized (CuttingPart cpu pages) = 1 ≤ pages
 IsSized (SettlingBlock s cpu pages) = IsCarved s × (1 ≤ pages)
 IsSized (AddingBlock start cpu pages) = 1 ≤ pages
 IsSized _ = Unit {0}
-
--- what a call made
-abbrev pub made_of : Made → model.Made
-made_of Nothing = model.MadeNothing
-made_of (Area start serial) = model.MadeArea start serial
-made_of (Part cpu page serial) = model.MadePart cpu page serial

@@ -22,7 +22,7 @@ mod place;
 mod placing;
 pub mod region_number;
 
-pub use answers::{AnswerList, Answered, Made};
+pub use answers::{AnswerList, Answered, Made, ObjectPlace, Outcome};
 pub use local::{Local, first_callers};
-pub use place::{After, Aim, Place, Search};
+pub use place::{After, Aim, NewChunk, ObjectSize, Place, Search};
 pub use placing::placing_calls;

@@ -2,7 +2,7 @@
 ghost use Rattle.std.specs.Prelude.{◌≡◌, ◌≢◌, ◌≤◌, ◌<◌, ◌+◌, ◌^◌, ◌++◌, ℕ, List, [], All, Option, Some, slice_get, length, map, option_to_list, IfOk, OnOk, OnErr};
 ghost use Rattle.std.specs.Arc.{arc_value};
 ghost use Rattle.unit_layout.specs.Config.{setup_of};
-ghost use Rattle.vm_model.specs.Setup.{cpus};
+ghost use Rattle.vm_model.specs.Setup.{cpus, groups_at};
 ghost use Rattle.vm_model.specs.Rules.{IsSetup};
 ghost use Rattle.vm_model.specs.Next.{Go, Answer, go_on, next, after_collecting, after_flush};
 ghost use Rattle.vm_model.specs.Events.{Fragment, Dirty};
@@ -15,17 +15,19 @@ ghost use Rattle.history_book.specs.Entries.{note_of};
 ghost use Rattle.vm_model.specs.Space.{HasEnd, hull};
 ghost use Rattle.lazy_purge.specs.Waits.{HasPage};
 ghost use Rattle.vm_model.specs.Places as model;
-ghost use Rattle.vm_model.specs.Places.{Then};
+ghost use Rattle.vm_model.specs.Places.{Then, SpareAgain};
+ghost use Rattle.callers.specs.declared.answers.Answered.{Answered as Code};
 ghost use Rattle.map_blocks.specs.BlockRows as rows;
-ghost use Rattle.callers.specs.CarriedPlaces.{place_of, nothing, then_of, made_of, carried_at, IsSized, IsWhole, IsExtra, IsSizedAfter, IsEmptyHanded, CarriesNoSpans};
-ghost use Rattle.callers.specs.CallerParts.{answer_of, answers_with, AreBuilt, HasCall, IsAt};
+ghost use Rattle.callers.specs.CarriedPlaces.{place_of, nothing, then_of, made_of, carried_at, filled_by, IsSized, IsWhole, IsExtra, IsSizedAfter, IsEmptyHanded, CarriesNoSpans};
+ghost use Rattle.callers.specs.CallerParts.{answer_of, answers_with, AreSound, OpeningTellsFreed, after_reply, HasCall, IsAt};
 
-use crate::answers::{AnswerList, Answered, Made};
+use crate::answers::{AnswerList, Answered, Made, Outcome};
 use crate::begin::place_before;
 use crate::carried::{after_fragments, after_range, joined_hull, push_range};
 use crate::place::{After, Place};
 use crate::region_number::{
-    DESK, FIRST_BLOCKS, FREE_BLOCKS, LIVE_AREAS, PAGE_MAP, PURGE_TURN, WAITING_SPANS,
+    ALLOC_TURN, CHUNKS, DESK, FIRST_BLOCKS, FREE_BLOCKS, LIVE_AREAS, PAGE_MAP, PURGE_TURN,
+    WAITING_SPANS,
 };
 use history_book::Book;
 use lazy_purge::{Batch, LazySide};
@@ -45,7 +47,7 @@ pub struct Local {
     opening: Arc<AnswerList, Global>,
     calls: CallerCalls,
     book: Book,
-    made: Vec<Made>,
+    outcomes: Vec<Outcome>,
     events: u32,
     place: Place,
     gone: Vec<u32>,
@@ -75,7 +77,8 @@ impl Local {
         calls: CallerCalls,
     ) -> Result<Local, AllocError>
         requires setup { IsSetup (setup_of (arc_value config)) }
-        requires built { AreBuilt calls }
+        requires sound { AreSound calls }
+        requires opening { OpeningTellsFreed (arc_value opening) }
         requires few { length calls ≤ 100000 }
         ensures { IfOk result (λ local. local ≡ started (setup_of (arc_value config)) (map answer_of (arc_value opening)) caller calls) }
     {
@@ -89,7 +92,7 @@ impl Local {
             opening,
             calls,
             book: Book::with_room(alloc, caller, count as u32)?,
-            made: Vec::with_capacity(alloc, count)?,
+            outcomes: Vec::with_capacity(alloc, count)?,
             events: 0,
             place,
             gone: Vec::new(alloc),
@@ -117,6 +120,18 @@ impl Local {
         ensures { result ≡ self.now.setup.block_pages }
     {
         self.config.block_pages
+    }
+
+    /// The numbers of the machine.
+    pub fn config(&self) -> &Config
+        ensures { setup_of result.now ≡ self.now.setup }
+    {
+        &self.config
+    }
+
+    /// The allocator that it takes memory from.
+    pub fn alloc(&self) -> Global {
+        self.alloc
     }
 
     /// The starts of the blocks that its purge has taken out.
@@ -156,6 +171,7 @@ impl Local {
         requires empty_handed { IsEmptyHanded place }
         requires sized { IsSized place }
         requires whole { IsWhole self.old.setup (place_of place nothing) }
+        requires filled { filled_by place ≤ self.old.events + 1 }
         requires at_hand { HasCall place (length self.old.answers) self.old.calls }
         requires events { self.old.events + 1 < 2 ^ 32 }
         ensures { self.new ≡ moved_to self.old (Go (place_of place nothing)) }
@@ -173,7 +189,9 @@ impl Local {
     {
         match after {
             After::Search(search) => self.go(Place::FindingAgain(search)),
+            After::Groups(wanted) => self.go(Place::FindingGroupsAgain(wanted)),
             After::Reply(reply) => self.answer(reply, Made::Nothing),
+            After::Spare => self.go(Place::Sparing),
         }
     }
 
@@ -268,6 +286,16 @@ impl Local {
         };
     }
 
+    /// One event more, which unlinked the areas of the chunk at this base. Their spans wait next.
+    pub fn unlinked_groups(&mut self, base: u32)
+        requires at_hand { length self.old.answers < length self.old.calls }
+        requires events { self.old.events + 1 < 2 ^ 32 }
+        ensures { self.new ≡ moved_to self.old (Go (model.Waiting (groups_at self.old.setup base) SpareAgain)) }
+    {
+        self.events += 1;
+        self.place = Place::WaitingForGroups { base };
+    }
+
     /// One event more, which saw the hull of a processor's dirty ranges. The next processor's comes then, or a purge that
     /// flushes the hull of them all.
     pub fn saw_dirty(&mut self, cpu: u8, range: Option<Span>)
@@ -290,14 +318,15 @@ impl Local {
     {
         self.events += 1;
         self.book.note(reply, self.events);
-        self.made.push_reserved(made);
+        note_free(&mut self.outcomes, self.calls.as_slice(), reply);
+        self.outcomes.push_reserved(Outcome { made, freed: false });
         self.ranges.clear();
         self.place = place_before(
             &self.config,
             self.calls.as_slice(),
-            self.made.len(),
+            self.outcomes.len(),
             self.opening.as_slice(),
-            &self.made,
+            &self.outcomes,
         );
     }
 
@@ -309,23 +338,47 @@ impl Local {
             Place::Over => None,
             Place::Refusing(_) => Some(DESK),
             Place::PurgeTaking { .. } | Place::PurgeGiving(_) => Some(PURGE_TURN),
+            Place::TakingAlloc(_) | Place::TakingToBalance | Place::GivingAlloc(..) => {
+                Some(ALLOC_TURN)
+            }
             Place::Finding(_)
             | Place::FindingAgain(_)
+            | Place::FindingGroups(_)
+            | Place::FindingGroupsAgain(_)
             | Place::Dropping(_)
             | Place::PurgeReturning(_) => Some(FREE_BLOCKS),
             Place::SettlingArea(..)
             | Place::Removing { .. }
             | Place::PurgeUnlinking { .. }
             | Place::SettlingBlock { .. }
-            | Place::UnlinkingBlock { .. } => Some(LIVE_AREAS),
-            Place::Waiting { .. } | Place::PurgeWaiting { .. } | Place::PurgeCollecting { .. } => {
-                Some(WAITING_SPANS)
-            }
+            | Place::UnlinkingBlock { .. }
+            | Place::SettlingGroups { .. }
+            | Place::UnlinkingGroups { .. } => Some(LIVE_AREAS),
+            Place::Waiting { .. }
+            | Place::PurgeWaiting { .. }
+            | Place::PurgeCollecting { .. }
+            | Place::WaitingForGroups { .. } => Some(WAITING_SPANS),
             Place::MappingArea(..)
             | Place::UnmappingArea(_)
             | Place::PurgeFlushing { .. }
             | Place::MappingPart { .. }
-            | Place::UnmappingPart { .. } => Some(PAGE_MAP),
+            | Place::UnmappingPart { .. }
+            | Place::Populating(_)
+            | Place::Zeroing(_)
+            | Place::Adding { .. }
+            | Place::Summing { .. }
+            | Place::Depopulating { .. }
+            | Place::Filling { .. } => Some(PAGE_MAP),
+            Place::Choosing(_)
+            | Place::AddingChunk { .. }
+            | Place::SettlingObject(_)
+            | Place::Unplacing(_)
+            | Place::ChoosingAtomic(_)
+            | Place::SettlingAtomic(_)
+            | Place::FreeingObject { .. }
+            | Place::Sparing
+            | Place::NextFill { .. }
+            | Place::NotingFilled { .. } => Some(CHUNKS),
             Place::PurgeFragmenting { cpu, .. }
             | Place::CuttingPart { cpu, .. }
             | Place::AddingBlock { cpu, .. }
@@ -361,10 +414,22 @@ impl Local {
 
     /// Its answers, for others to share.
     pub fn answers(&self, alloc: Global) -> Result<AnswerList, AllocError>
-        ensures { IfOk result (λ answers. map answer_of answers ≡ self.now.answers) }
+        ensures answers { IfOk result (λ answers. map answer_of answers ≡ self.now.answers) }
+        ensures freed { IfOk result OpeningTellsFreed }
     {
-        answers_noted(alloc, self.calls.as_slice(), &self.book, &self.made)
+        answers_noted(alloc, self.calls.as_slice(), &self.book, &self.outcomes)
     }
+}
+
+/// Notes what the call at hand freed, where it is a `free_percpu` that is answered Done: its target's call.
+fn note_free(outcomes: &mut [Outcome], calls: &[Call], reply: Reply)
+    requires sound { AreSound calls.now }
+    ensures freed { outcomes.new ≡ after_reply (slice_get calls.now (length outcomes.old)) reply outcomes.old }
+{
+    let (Some(Call::FreePercpu { target }), Reply::Done) = (calls.get(outcomes.len()), reply) else {
+        return;
+    };
+    outcomes[target.call as usize - 1].freed = true;
 }
 
 /// The answered calls, with what was noted of each and what each made.
@@ -372,20 +437,21 @@ fn answers_noted(
     alloc: Global,
     calls: &[Call],
     book: &Book,
-    made: &[Made],
+    outcomes: &[Outcome],
 ) -> Result<AnswerList, AllocError>
     requires few { length calls.now ≤ 100000 }
     requires calls { length book.now.rows ≤ length calls.now }
-    requires made { length made.now ≡ length book.now.rows }
-    ensures { IfOk result (λ answers. map answer_of answers ≡ answers_with calls.now book.now.rows made.now) }
+    requires made { length outcomes.now ≡ length book.now.rows }
+    ensures answers { IfOk result (λ answers. map answer_of answers ≡ answers_with calls.now book.now.rows outcomes.now) }
+    ensures outcomes { IfOk result (λ answers. map (λ (a : Code). a.outcome) answers ≡ outcomes.now) }
 {
-    let mut answers = Vec::with_capacity(alloc, made.len())?;
-    for (index, made) in made.iter().enumerate() {
+    let mut answers = Vec::with_capacity(alloc, outcomes.len())?;
+    for (index, outcome) in outcomes.iter().enumerate() {
         let number = index as u32 + 1;
         answers.push_reserved(Answered {
             call: calls[index],
             reply: book.reply_at(number),
-            made: *made,
+            outcome: *outcome,
             own_event: book.own_event_at(number),
         });
     }
@@ -400,7 +466,8 @@ pub fn first_callers(
     sections: Vec<CallerCalls>,
 ) -> Result<Vec<Local>, AllocError>
     requires setup { IsSetup (setup_of (arc_value config.now)) }
-    requires built { (k : ℕ) (own : List Call) → slice_get sections.items k ≡ Some own → AreBuilt own }
+    requires sound { (k : ℕ) (own : List Call) → slice_get sections.items k ≡ Some own → AreSound own }
+    requires opening { OpeningTellsFreed (arc_value opening.now) }
     requires few { (k : ℕ) (own : List Call) → slice_get sections.items k ≡ Some own → length own ≤ 100000 }
     requires callers { length sections.items ≤ 16 }
     ensures { IfOk result (λ locals. locals.items ≡ callers_from (setup_of (arc_value config.now)) (map answer_of (arc_value opening.now)) 1 sections.items) }

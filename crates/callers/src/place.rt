@@ -1,6 +1,8 @@
 //! Where a caller stands in its calls, between two of its sections. Processors are numbered below 64.
+use crate::answers::{Made, ObjectPlace};
+use chunk_slots::Placed;
 use map_blocks::Part;
-use vm_model::{Area, AreaKind, Reply, Span};
+use vm_model::{Area, AreaKind, PageSet, Reply, Span};
 
 /// What the pages that a search finds are for.
 #[derive(Clone, Copy)]
@@ -21,11 +23,28 @@ pub struct Search {
     pub aim: Aim,
 }
 
-/// What follows a wait or a purge: the search again, or the call's reply.
+/// An object that is asked for, in bytes: its size in each unit, a multiple of 4, and the alignment of its offset.
+#[derive(Clone, Copy)]
+pub struct ObjectSize {
+    pub bytes: u32,
+    pub align: u32,
+}
+
+/// A chunk that is wanted for an object, with the number that it gets.
+#[derive(Clone, Copy)]
+pub struct NewChunk {
+    pub number: u32,
+    pub object: ObjectSize,
+}
+
+/// What follows a wait or a purge: the search for pages or for a chunk's groups again, the call's reply, or the next spare
+/// chunk of a balance.
 #[derive(Clone, Copy)]
 pub enum After {
     Search(Search),
+    Groups(NewChunk),
     Reply(Reply),
+    Spare,
 }
 
 /// The section that a caller makes next, with what it carries to it. Lists are kept beside its place: the starts of the
@@ -130,5 +149,75 @@ pub enum Place {
     /// The dirty ranges of the processors are looked at in turn, before a purge that flushes them.
     LookingAtDirty {
         cpu: u8,
+    },
+    /// An object: the alloc turn is taken, and a chunk with room is chosen. Where none has any, pages for the groups of a new
+    /// one are searched for twice, settled as live areas, and the chunk is added.
+    TakingAlloc(ObjectSize),
+    Choosing(ObjectSize),
+    FindingGroups(NewChunk),
+    FindingGroupsAgain(NewChunk),
+    SettlingGroups {
+        base: u32,
+        wanted: NewChunk,
+    },
+    AddingChunk {
+        base: u32,
+        wanted: NewChunk,
+    },
+    /// Its missing pages get frames and its words are 0, and it lives, or is given up where there are too few frames. The
+    /// alloc turn is given back with the reply.
+    Populating(Placed),
+    SettlingObject(Placed),
+    Unplacing(Placed),
+    GivingAlloc(Reply, Made),
+    /// An object on populated pages alone, without the alloc turn.
+    ChoosingAtomic(ObjectSize),
+    Zeroing(Placed),
+    SettlingAtomic(Placed),
+    /// A live object is freed, a processor's word of it is added to, or a word is summed over all processors.
+    FreeingObject {
+        object: ObjectPlace,
+        serial: u32,
+    },
+    Adding {
+        object: ObjectPlace,
+        serial: u32,
+        cpu: u8,
+        index: u32,
+        amount: i32,
+    },
+    Summing {
+        object: ObjectPlace,
+        serial: u32,
+        index: u32,
+    },
+    /// A balance: the alloc turn is taken, and each spare chunk is taken out, its pages unmapped, its areas unlinked, and
+    /// their spans wait.
+    TakingToBalance,
+    Sparing,
+    Depopulating {
+        base: u32,
+        populated: PageSet,
+    },
+    UnlinkingGroups {
+        base: u32,
+    },
+    WaitingForGroups {
+        base: u32,
+    },
+    /// Then pages are filled, one after another: so many so far.
+    NextFill {
+        filled: u32,
+    },
+    Filling {
+        chunk: u32,
+        base: u32,
+        page: u32,
+        filled: u32,
+    },
+    NotingFilled {
+        chunk: u32,
+        page: u32,
+        filled: u32,
     },
 }
