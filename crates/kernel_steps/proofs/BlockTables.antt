@@ -37,7 +37,7 @@ use Rattle.map_laws.proofs.Frames.{IsFramed}
 use Rattle.vm_model.proofs.RoundedPages.{rounded_some}
 use Rattle.map_laws.proofs.TraceWorlds.{IsTraceWorld, trace_reached}
 use Rattle.kernel_steps.specs.Kernels.{block_table_of, part_table_of}
-use Rattle.section_core.specs.Lawful.{IsRunning}
+use Rattle.section_laws.specs.Lawful.{IsRunning}
 use Rattle.kernel_steps.proofs.Gathered.{flat_map_alike, gathered, gathered_by_key_is, more_rows, sorted_gathered}
 use Rattle.kernel_steps.proofs.Sorted.{same, same_key}
 use denote.Ref.{Bor}

@@ -22,7 +22,7 @@ use Rattle.map_laws.proofs.Lists.{set_cases, append_cases}
 use Rattle.map_laws.proofs.Frames.{IsFramed, IsStep, IsLasting, lasts, not_over, has_call}
 use Rattle.map_laws.proofs.Places.{OnNext, answers_call, either_next, either_place}
 use Rattle.callers.specs.CallerParts.{AreBuilt, IsBuiltCall}
-use Rattle.section_core.specs.Lawful.{IsRunning}
+use Rattle.section_laws.specs.Lawful.{IsRunning}
 
 -- a search for pages, and not for the groups of a chunk
 abbrev pub IsPageSearch : Search → Aim → Type 0

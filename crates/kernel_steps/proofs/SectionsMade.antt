@@ -25,7 +25,7 @@ use Rattle.map_laws.proofs.ReachedSteps.{steps_reached}
 use Rattle.section_core.specs.declared.region.Stepped.{Stepped}
 use Rattle.section_core.specs.declared.region.Stepped.TheVariants.{Moved, Stays, Ended}
 use Rattle.section_core.specs.MadeSections.{IsMoved, HasStayed, Answers}
-use Rattle.section_core.specs.Lawful.{IsRunning, IsLawful}
+use Rattle.section_laws.specs.Lawful.{IsRunning, IsLawful}
 use Rattle.kernel_steps.specs.Kernels.{KernelState, IsStanding, IsSomewhere, IsSteppedAs, SectionAs, movers}
 
 set_there : {X : Type 0} (xs : List X) (i : ℕ) (x : X) → slice_get xs i ≡ Some x → slice_set xs i x ≡ xs

@@ -13,7 +13,7 @@ use Rattle.history_book.specs.declared.noted.Noted.{Noted}
 use Rattle.history_book.specs.BookRows.{BookRows}
 use Rattle.history_book.specs.Entries.{places_of, note_of, AreNotedOf}
 use Rattle.history_book.proofs.Places.{places_of-callers}
-use Rattle.section_core.specs.Lawful.{IsRunning}
+use Rattle.section_laws.specs.Lawful.{IsRunning}
 use Rattle.std.proofs.lemmas.List.{take_all, length-drop}
 use Rattle.std.proofs.lemmas.List.Elements.{All-nil, All-cons}
 use Rattle.kernel_steps.specs.Kernels.{KernelState, IsStanding, IsSomewhere, IsOfBlocks, movers}
@@ -22,7 +22,7 @@ use Rattle.section_core.proofs.Counted.{reached_counted, events_of, length-numbe
 use Rattle.callers.proofs.AnswersGiven.{take_one}
 use Rattle.kernel_steps.proofs.PlainWorlds.{plain_world}
 use Rattle.section_core.proofs.LawfulRegions.{free_there, pages_there}
-use Rattle.section_core.proofs.Memory.{memory_reached}
+use Rattle.section_laws.proofs.Memory.{memory_reached}
 use Rattle.page_pool.specs.Pages as pool
 use Rattle.std.proofs.lemmas.List.{length-map}
 use Rattle.std.proofs.Math.Nat.{mul-div_cancel_left}

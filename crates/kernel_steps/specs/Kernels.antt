@@ -15,7 +15,7 @@ use Rattle.section_core.specs.declared.region.Stepped.{Stepped}
 use Rattle.section_core.specs.declared.region.Stepped.TheVariants.{Moved, Stays, Ended}
 use Rattle.vm_model.specs.Rules.{IsTrace}
 use Rattle.callers.specs.CallerParts.{AreBuilt}
-use Rattle.section_core.specs.Lawful.{IsRunning}
+use Rattle.section_laws.specs.Lawful.{IsRunning}
 
 -- the regions and the callers by their numbers, and the caller of each event
 pub record KernelState : Type 0 where

@@ -4,7 +4,7 @@ use Rattle.vm_model.specs.declared.calls.Call.{Call}
 use Rattle.vm_model.specs.Setup.{Setup}
 use Rattle.vm_model.specs.Parts.{wants, moves, after}
 use Rattle.map_parts.specs.Sections.{KeepsLawful}
-use Rattle.section_core.specs.Lawful.{IsLawful}
+use Rattle.section_laws.specs.Lawful.{IsLawful}
 use Rattle.kernel_steps.specs.Kernels.{start_of, callers_of}
 
 -- where a section moves in a lawful state, and its two values are put back, the state is lawful again

@@ -16,7 +16,7 @@ ghost use Rattle.vm_model.specs.LegalHistory.{AllOver};
 ghost use Rattle.vm_model.specs.Parts.{regions_of, wants, moves, after};
 ghost use Rattle.vm_model.specs.Run.{section_by};
 ghost use Rattle.section_core.specs.declared.region.Stepped.TheVariants.{Moved};
-ghost use Rattle.section_core.specs.Lawful.{IsRunning, IsLawful};
+ghost use Rattle.section_laws.specs.Lawful.{IsRunning, IsLawful};
 ghost use Rattle.kernel_steps.specs.Kernels.{KernelState, IsStanding, IsSteppedAs, SectionAs, CanStart, IsBefore, CanJoin, IsOfBlocks, start_of, opening_of, callers_of};
 
 use augmented_tree::FreeSide;

@@ -30,7 +30,7 @@ use Rattle.map_laws.proofs.Spans.{covers_one, holds_to, covers_append}
 use Rattle.map_laws.proofs.TraceWorlds.{IsTraceWorld, trace_reached, own_names, areas_once, proper_here}
 use Rattle.map_blocks.specs.BlockRows.{BlockRows, IsHeld}
 use Rattle.map_blocks.specs.BlockRows.{IsUnused as IsNoBlocks}
-use Rattle.section_core.specs.Lawful.{IsRunning, IsLawful}
+use Rattle.section_laws.specs.Lawful.{IsRunning, IsLawful}
 use Rattle.section_core.specs.StandsWell.{AreOwn, IsBlocksWell, IsOfProcessor}
 use Rattle.section_core.proofs.LawfulCallers.{AreInOneState, in_one_state, sound, marked_within, region_number, blocks_at}
 use Rattle.callers.proofs.Hulls.{hull_within}

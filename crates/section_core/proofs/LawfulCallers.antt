@@ -22,7 +22,7 @@ use Rattle.map_laws.proofs.Spans.{covers_one, covers_append}
 use Rattle.lazy_purge.specs.Waits.{HasPage}
 use Rattle.std.proofs.lemmas.List.Elements.{All-nil, All-cons, All-head, All-tail}
 use Rattle.section_core.specs.StandsWell.{AreRunsOf}
-use Rattle.section_core.specs.Lawful.{IsRunning, IsLawful}
+use Rattle.section_laws.specs.Lawful.{IsRunning, IsLawful}
 use Rattle.section_core.proofs.Counted.{reached_counted, events_of-le}
 
 -- the number of a region

@@ -29,12 +29,12 @@ use Rattle.std.proofs.lemmas.List.Elements.{All-nil, All-cons, All-weaker, All-a
 use Rattle.vm_model.specs.Areas.{mapped_part}
 use Rattle.vm_model.specs.declared.areas.AreaKind.{AreaKind}
 use Rattle.section_core.specs.StandsWell.{AreRunsOf, IsDroppable, IsDroppedWell, AreReturnable, AreReturnedWell, IsMappable, IsMappedWell, IsUnmappable, IsUnmappedWell, IsFlushedWell, CanWait, IsWaitingWell, IsSettledWell}
-use Rattle.section_core.proofs.NextAreas.{few_areas}
-use Rattle.section_core.proofs.Memory.{memory_reached, pages_reached}
+use Rattle.section_laws.proofs.NextAreas.{few_areas}
+use Rattle.section_laws.proofs.Memory.{memory_reached, pages_reached}
 use Rattle.page_pool.specs.Pages as page_pool
 use Rattle.vm_model.specs.Legal as map_bare
 use Rattle.vm_model.specs.declared.areas.AreaKind.TheVariants as kind
-use Rattle.section_core.specs.Lawful.{IsRunning, IsLawful}
+use Rattle.section_laws.specs.Lawful.{IsRunning, IsLawful}
 use Rattle.vm_model.specs.Blocks.{PartAt, first_page, mapped_pages, rounded}
 use Rattle.map_parts.specs.Kept.{IsSoundPlace}
 use Rattle.section_core.proofs.LawfulCallers as callers

@@ -3,11 +3,10 @@ pub mod FreeSections
 pub mod BlockSections
 pub mod Counted
 pub mod LawfulCallers
-pub mod NextAreas
 pub mod NextParts
 pub mod LawfulBlocks
 pub mod LawfulRegions
-pub mod Memory
+pub mod SideRows
 pub mod Standing
 pub mod TurnSections
 pub mod Starts

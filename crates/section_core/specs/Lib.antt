@@ -1,4 +1,4 @@
 pub mod RegionSides
 pub mod MadeSections
 pub mod StandsWell
-pub mod Lawful
+pub mod SectionRows

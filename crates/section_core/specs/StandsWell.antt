@@ -1,12 +1,13 @@
 -- What a section asks of its caller: a call at hand, an event to spare, and that what the place carries stands well in the region.
-use Rattle.std.specs.Prelude.{◌+◌, ◌*◌, ◌≤◌, ◌<◌, ◌^◌, ◌≡◌, ◌++◌, ℕ, Bool, true, false, All, List, length, Some}
+use Rattle.std.specs.Prelude.{◌+◌, ◌*◌, ◌≤◌, ◌<◌, ◌^◌, ◌≡◌, ◌++◌, ℕ, Bool, true, false, All, List, length, slice_get, Some, ℤ}
 use Rattle.vm_model.specs.declared.areas.Span.{Span}
 use Rattle.vm_model.specs.declared.areas.Area.{Area}
 use Rattle.vm_model.specs.Space.{HasEnd, span, end_of, holds, covers, runs, times}
 use Rattle.vm_model.specs.Setup.{Setup, cpus}
 use Rattle.vm_model.specs.Areas.{mapped_part}
 use Rattle.vm_model.specs.Blocks.{first_page, mapped_pages, blocks_of, dirty_hull}
-use Rattle.vm_model.specs.Places.{Place, MappingArea, SettlingArea, Dropping, UnmappingArea, Waiting, PurgeFragmenting, PurgeWaiting, PurgeFlushing, PurgeReturning, CuttingPart, SettlingBlock, AddingBlock, MappingPart, SettlingPart, BeginningUnmap, UnmappingPart, Retiring, LookingAtDirty, block_spans}
+use Rattle.vm_model.specs.Places.{Place, MappingArea, SettlingArea, Dropping, UnmappingArea, Waiting, PurgeFragmenting, PurgeWaiting, PurgeFlushing, PurgeReturning, CuttingPart, SettlingBlock, AddingBlock, MappingPart, SettlingPart, BeginningUnmap, UnmappingPart, Retiring, LookingAtDirty, Adding, block_spans}
+use Rattle.vm_model.specs.PlainMap.{Chunk}
 use Rattle.vm_model.specs.History.{Local}
 use Rattle.vm_model.specs.Parts.{Region, FreeRuns, LiveAreas, WaitingSpans, CpuBlocks, moves}
 use Rattle.vm_model.specs.Parts as parts
@@ -15,6 +16,9 @@ use Rattle.lazy_purge.specs.Waits.{HasPage}
 use Rattle.map_blocks.specs.BlockRows.{BlockRows, IsHeld}
 use Rattle.map_blocks.specs.BlockRows.{IsUnused as IsNoBlocks}
 use Rattle.page_pool.specs.Pages.{Pages, IsBare, IsMapped}
+use Rattle.chunk_slots.specs.ChunkRegion.{AreOfUnits}
+use Rattle.section_laws.specs.Needs.{AreAreasReady, ArePagesReady, IsPercpuReady}
+use Rattle.section_laws.specs.Words.{IsWithin, most_amount, most_word}
 use Rattle.callers.specs.declared.place.Place.{Place as Code}
 use Rattle.callers.specs.CarriedPlaces.{place_of, carried_at}
 use Rattle.callers.specs.CallerParts.{IsAt}
@@ -111,36 +115,56 @@ IsOfProcessor (Retiring at reply) cpu = at.cpu ≡ cpu
 IsOfProcessor (LookingAtDirty own ranges) cpu = own ≡ cpu
 IsOfProcessor _ cpu = Unit {0}
 
+-- no word, and no amount that is added, is more than all adds of a trace come to
+abbrev pub IsAmountWell : Place → Type 0
+IsAmountWell (Adding at serial cpu index amount) = IsWithin most_amount amount
+IsAmountWell _ = Unit {0}
+
+pub record AreSmallSums (p : Place) (cells : List ℤ) : Type 0 where
+  pub cells : (i : ℕ) (z : ℤ) → slice_get cells i ≡ Some z → IsWithin most_word z
+  pub amount : IsAmountWell p
+
 -- the same by region
 pub record StandsOverFree (c : Setup) (p : Place) (blocks : List Span) : Type 0 where
   pub runs : AreRunsOf c blocks
   pub dropped : IsDroppedWell c p blocks
   pub returned : AreReturnedWell c p blocks
 
-pub record StandsOverAreas (p : Place) (areas : List Area) (next : ℕ) : Type 0 where
+pub record StandsOverAreas (c : Setup) (p : Place) (areas : List Area) (next : ℕ) : Type 0 where
   pub settled : IsSettledWell p areas
+  pub ready : AreAreasReady c p areas next
   pub serials : next + 1 < 2 ^ 32
 
 pub record StandsOverPages (c : Setup) (p : Place) (pages : Pages) : Type 0 where
   pub mapped : IsMappedWell p pages
   pub unmapped : IsUnmappedWell p pages
   pub flushed : IsFlushedWell p pages
+  pub ready : ArePagesReady c p pages.frames pages.stale
+  pub small : AreSmallSums p pages.cells
   pub wide : length pages.frames ≡ c.space
   pub memory : length pages.cells ≡ 1024 * c.frames
+
+-- chunks have the pages of the units, and there are serials and numbers left
+pub record StandsOverChunks (c : Setup) (caller : ℕ) (p : Place) (chunks : List Chunk) (next_object next_chunk room : ℕ) : Type 0 where
+  pub ready : IsPercpuReady c caller p chunks next_object next_chunk room
+  pub units : AreOfUnits c.unit_pages chunks
+  pub objects : next_object + 1 < 2 ^ 32
+  pub numbers : next_chunk + 1 < 2 ^ 32
 
 pub record StandsOverBlocks (c : Setup) (p : Place) (side : BlockRows) : Type 0 where
   pub own : AreOwn c side
   pub cpu : IsOfProcessor p side.cpu
   pub well : IsBlocksWell c p side
 
--- what the place carries stands well in the region
-abbrev pub StandsWell : Setup → Place → Region → Type 0
-StandsWell c p (FreeRuns blocks) = StandsOverFree c p blocks
-StandsWell c p (LiveAreas areas next) = StandsOverAreas p areas next
-StandsWell c p (WaitingSpans waiting) = IsWaitingWell c p waiting
-StandsWell c p (parts.Pages frames stale cells) = StandsOverPages c p (record { frames = frames; stale = stale; cells = cells })
-StandsWell c p (CpuBlocks cpu pages blocks next) = StandsOverBlocks c p (record { cpu = cpu; pages = pages; blocks = blocks; next = next })
-StandsWell c p _ = Unit {0}
+-- what a caller's place carries stands well in the region
+abbrev pub StandsWell : Setup → (caller : ℕ) → Place → Region → Type 0
+StandsWell c k p (FreeRuns blocks) = StandsOverFree c p blocks
+StandsWell c k p (LiveAreas areas next) = StandsOverAreas c p areas next
+StandsWell c k p (WaitingSpans waiting) = IsWaitingWell c p waiting
+StandsWell c k p (parts.Pages frames stale cells) = StandsOverPages c p (record { frames = frames; stale = stale; cells = cells })
+StandsWell c k p (parts.Percpu chunks next_object next_chunk room) = StandsOverChunks c k p chunks next_object next_chunk room
+StandsWell c k p (CpuBlocks cpu pages blocks next) = StandsOverBlocks c p (record { cpu = cpu; pages = pages; blocks = blocks; next = next })
+StandsWell c k p _ = Unit {0}
 
 -- a caller at this place can make its section over this region
 pub record CanMake (p : Code) (l : Local) (r : Region) : Type 0 where
@@ -148,4 +172,4 @@ pub record CanMake (p : Code) (l : Local) (r : Region) : Type 0 where
   pub at_hand : length l.answers < length l.calls
   pub events : l.events + 1 < 2 ^ 32
   pub moves : moves l r ≡ true
-  pub stands : StandsWell l.setup (place_of p (carried_at l.place)) r
+  pub stands : StandsWell l.setup l.caller (place_of p (carried_at l.place)) r

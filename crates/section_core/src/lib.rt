@@ -16,11 +16,16 @@
 #![tactic(auto)]
 
 mod areas;
+mod balance;
 mod desk;
+mod groups;
+mod object_pages;
+mod objects;
 mod parts;
 mod purge;
 pub mod region;
 mod sections;
+mod turns;
 
 pub use region::{Region, Stepped, first_regions};
 pub use sections::{moves, section};
