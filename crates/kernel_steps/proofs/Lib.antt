@@ -1,5 +1,4 @@
 pub mod SectionsMade
-pub mod KeptLawful
 pub mod CallersThere
 pub mod Picks
 pub mod Callers

@@ -84,8 +84,8 @@ module _ (c : Setup) (opening : List Call) (calls : List (List Call)) (w : World
   pub next_running : (k : ℕ) → IsRunning c opening calls (step w k)
   next_running k = record {
     trace = is.trace;
-    opening_built = is.opening_built;
-    callers_built = is.callers_built;
+    opening_small = is.opening_small;
+    callers_small = is.callers_small;
     reached = (steps_reached c opening calls is.trace).steps w k is.reached;
   }
 

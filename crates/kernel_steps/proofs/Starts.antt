@@ -15,7 +15,7 @@ use Rattle.kernel_steps.specs.Kernels.{KernelState, IsStanding, CanStart, IsBefo
 pub stands_before : (c : Setup) (opening : List Call) (calls : List (List Call)) (room : ℕ) (k : KernelState) → IsBefore c (opening ∷ calls) room → k.regions ≡ regions_of c (at_first c room) → k.locals ≡ started c [] 0 opening ∷ [] → k.moved ≡ []
     → IsStanding c opening calls (opening_world c opening calls) k
 stands_before c opening calls room k is regions locals moved = record {
-  running = record { trace = is.can.trace; opening_built = is.can.built 0 opening refl; callers_built = λ i own h. is.can.built (suc i) own h; reached = inl ([], tt, refl) };
+  running = record { trace = is.can.trace; opening_small = is.can.small 0 opening refl; callers_small = λ i own h. is.can.small (suc i) own h; reached = inl ([], tt, refl) };
   regions = regions ∙ ap (λ n. regions_of c (at_first c n)) is.counted;
   locals = locals;
   moved = moved;
@@ -35,8 +35,8 @@ stands_joined c sections old new callers can regions locals moved =
     record {
       running = record {
         trace = can.can.trace;
-        opening_built = st.running.opening_built;
-        callers_built = st.running.callers_built;
+        opening_small = st.running.opening_small;
+        callers_small = st.running.callers_small;
         reached = (steps_reached c (opening_of sections) (callers_of sections) can.can.trace).started;
       };
       regions = regions ∙ st.regions;

@@ -14,8 +14,7 @@ use Rattle.map_blocks.specs.BlockRows.{block_table, part_table}
 use Rattle.section_core.specs.declared.region.Stepped.{Stepped}
 use Rattle.section_core.specs.declared.region.Stepped.TheVariants.{Moved, Stays, Ended}
 use Rattle.vm_model.specs.Rules.{IsTrace}
-use Rattle.callers.specs.CallerParts.{AreBuilt}
-use Rattle.section_laws.specs.Lawful.{IsRunning}
+use Rattle.section_laws.specs.Lawful.{AreSmall, IsRunning}
 
 -- the regions and the callers by their numbers, and the caller of each event
 pub record KernelState : Type 0 where
@@ -60,11 +59,11 @@ abbrev pub callers_of : List (List Call) → List (List Call)
 callers_of [] = []
 callers_of (opening ∷ calls) = calls
 
--- what a kernel is started on: the numbers and calls of a trace of the built words
+-- what a kernel is started on: the numbers and calls of a trace, whose amounts have 32 bits
 pub record CanStart (c : Setup) (sections : List (List Call)) : Type 0 where
   pub some : 1 ≤ length sections
   pub trace : IsTrace c (opening_of sections) (callers_of sections)
-  pub built : (k : ℕ) (own : List Call) → slice_get sections k ≡ Some own → AreBuilt own
+  pub small : (k : ℕ) (own : List Call) → slice_get sections k ≡ Some own → AreSmall own
 
 -- the same, and how many objects their calls can place
 pub record IsBefore (c : Setup) (sections : List (List Call)) (room : ℕ) : Type 0 where
