@@ -4,7 +4,7 @@
 //!   of a caller, after each pick in turn, and where all callers have ended. A step tells Moved, Stays and Ended as
 //!   `IsSteppedAs` says, and wants memory only where the caller moves.
 //! - `Kernel::tables`, `moved`: the tables of the world in which the kernel stands, and the caller of each event.
-//! - `laws::sections`: a section leaves a lawful state lawful, and a kernel starts with the opening's caller and one
+//! - `laws::starts`: a kernel starts with the opening's caller and one
 //!   for each list behind it.
 #![tactic(auto)]
 
