@@ -19,6 +19,14 @@ module _ {X : Type 0} where
   each-sort P key [] e = tt
   each-sort P key (x ∷ xs) e = each_put P key x (sort_by key xs) e.0 (each-sort P key xs e.1)
 
+  -- what is kept passes
+  pub kept_passes : (p : X → Bool) (xs : List X) (i : ℕ) (x : X) → slice_get (filter p xs) i ≡ Some x → p x ≡ true
+  kept_passes p xs i x there = each-get (λ y. p y ≡ true) (filter p xs) i x there (each_filter (λ y. Unit {0}) (λ y. p y ≡ true) p xs (λ y passes u. passes) (every xs))
+    where
+      every : (ys : List X) → Each (λ y. Unit {0}) ys
+      every [] = tt
+      every (y ∷ ys) = (tt, every ys)
+
 module _ {X : Type 0} (number : X → ℕ) where
   abbrev pub IsFoundIn : List X → X → Type 0
   IsFoundIn xs x = find (λ (y : X). number y == number x) xs ≡ Some x
