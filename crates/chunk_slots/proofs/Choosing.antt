@@ -1,13 +1,12 @@
 -- The first in the order of slots is the least by slot.
-use Rattle.std.proofs.Common.{◌≡◌, ℕ, suc, ◌<◌, ◌≤◌, inl, inr, Bool, true, false, cond, nat_lt, nat_le, if◌then◌else◌, ◌||◌, List, [], ◌∷◌, map, filter, find, Option, Some, None, All, refl, ap, sym, ◌∙◌, arith}
+use Rattle.std.proofs.Common.{◌≡◌, ℕ, suc, ◌<◌, ◌≤◌, inl, inr, Bool, true, false, cond, nat_lt, nat_le, if◌then◌else◌, List, [], ◌∷◌, map, filter, find, Option, Some, None, All, refl, ap, sym, ◌∙◌, arith}
 use Rattle.std.proofs.lemmas.Bool.{cases_Bool, cases_lt}
 use Rattle.std.proofs.lemmas.Bool.Decides.{nat_tests}
 use Rattle.std.proofs.lemmas.List.Elements.{All-head, All-tail}
 use Rattle.vm_model.specs.Space.{least_by, smaller_by, sort_by, put_by}
 use Rattle.chunk_slots.specs.Rising.{IsRisingFrom}
 use Rattle.chunk_slots.specs.KeptChunks.{KeptRow, slot_in}
-use Rattle.std.specs.List.{list_any}
-use Rattle.chunk_slots.specs.Slots.{key_of_slot, in_slot_of, slots_of}
+use Rattle.chunk_slots.specs.Slots.{slot_key, key_of_slot, in_slot_of, slots_of}
 use Rattle.chunk_slots.specs.SlotOrder.{key_of_row, TheFirstInOrderIsChosen}
 
 module _ {X : Type 0} (key : X → ℕ) where
@@ -77,64 +76,71 @@ module _ {X : Type 0} (key : X → ℕ) where
   find-put_fits fits x low [] e sorted = find_here fits x [] e
   find-put_fits fits x low (y ∷ ys) e sorted = find-put_by fits x y low ys (nat_lt (key x) (key y)) refl e sorted (find-put_fits fits x (key y) ys e sorted.1)
 
--- the number of what is chosen is one of the list's
-abbrev IsNumberedFrom : ℕ → Option KeptRow → Type 0
-IsNumberedFrom low None = Unit {0}
-IsNumberedFrom low (Some row) = (low ≤ row.number) × (row.number < 4294967296)
+module _ {X : Type 0} (slot_x number_x : X → ℕ) where
+  -- by slot and then by number
+  abbrev pub order_of : X → ℕ
+  order_of x = slot_key (slot_x x) (number_x x)
 
-smaller_numbered : (low : ℕ) (x : KeptRow) (o : Option KeptRow) → low ≤ x.number → x.number < 4294967296 → IsNumberedFrom (suc x.number) o → IsNumberedFrom low (smaller_by slot_in x o)
-smaller_numbered low x None le small h = (le, small)
-smaller_numbered low x (Some y) le small h = by (nat_le (slot_in x) (slot_in y))
-  where
-    by : (b : Bool) → IsNumberedFrom low (if b then Some x else Some y)
-    by true = (le, small)
-    by false = ((let from = h.0 in omega arith), h.1)
+  abbrev IsLow : X → Type 0
+  IsLow x = number_x x < 4294967296
 
-numbered-weaken : (low high : ℕ) (o : Option KeptRow) → low ≤ high → IsNumberedFrom high o → IsNumberedFrom low o
-numbered-weaken low high None le h = tt
-numbered-weaken low high (Some row) le h = ((let from = h.0 in omega arith), h.1)
+  -- the number of what is chosen is one of the list's
+  abbrev IsNumberedFrom : ℕ → Option X → Type 0
+  IsNumberedFrom low None = Unit {0}
+  IsNumberedFrom low (Some x) = (low ≤ number_x x) × (number_x x < 4294967296)
 
-chosen_numbered_by : (fits : KeptRow → Bool) (low : ℕ) (x : KeptRow) (xs : List KeptRow) (b : Bool) → low ≤ x.number → x.number < 4294967296 → IsNumberedFrom (suc x.number) (least_by slot_in (filter fits xs))
-    → IsNumberedFrom low (least_by slot_in (cond b (x ∷ filter fits xs) (filter fits xs)))
-chosen_numbered_by fits low x xs true le small rest = smaller_numbered low x (least_by slot_in (filter fits xs)) le small rest
-chosen_numbered_by fits low x xs false le small rest = numbered-weaken low (suc x.number) (least_by slot_in (filter fits xs)) (omega arith) rest
+  smaller_numbered : (low : ℕ) (x : X) (o : Option X) → low ≤ number_x x → number_x x < 4294967296 → IsNumberedFrom (suc (number_x x)) o → IsNumberedFrom low (smaller_by slot_x x o)
+  smaller_numbered low x None le small h = (le, small)
+  smaller_numbered low x (Some y) le small h = by (nat_le (slot_x x) (slot_x y))
+    where
+      by : (b : Bool) → IsNumberedFrom low (if b then Some x else Some y)
+      by true = (le, small)
+      by false = ((let from = h.0 in omega arith), h.1)
 
-chosen_numbered : (fits : KeptRow → Bool) (low : ℕ) (xs : List KeptRow) → IsRisingFrom (λ (row : KeptRow). row.number) low xs → All (λ (row : KeptRow). row.number < 4294967296) xs → IsNumberedFrom low (least_by slot_in (filter fits xs))
-chosen_numbered fits low [] rise small = tt
-chosen_numbered fits low (x ∷ xs) rise small =
-    chosen_numbered_by fits low x xs (fits x) rise.0 (All-head (λ (row : KeptRow). row.number < 4294967296) x xs small)
-    (chosen_numbered fits (suc x.number) xs rise.1 (All-tail (λ (row : KeptRow). row.number < 4294967296) x xs small))
+  numbered-weaken : (low high : ℕ) (o : Option X) → low ≤ high → IsNumberedFrom high o → IsNumberedFrom low o
+  numbered-weaken low high None le h = tt
+  numbered-weaken low high (Some x) le h = ((let from = h.0 in omega arith), h.1)
 
--- by slot and number, the lower number comes first where the slots are equal
-same_order : (x y : KeptRow) → x.number < y.number → y.number < 4294967296 → nat_le (slot_in x) (slot_in y) ≡ nat_lt (key_of_row x) (key_of_row y)
-same_order x y less small = elim (cases_lt (slot_in y) (slot_in x)) [
-  | inl above ↦ let no' : nat_le (slot_in x) (slot_in y) ≡ false = grind (arith, nat_tests) in
-      let no'' : nat_lt (key_of_row x) (key_of_row y) ≡ false = grind (arith, nat_tests) in no' ∙ sym no''
-  | inr within ↦ let yes' : nat_le (slot_in x) (slot_in y) ≡ true = grind (arith, nat_tests) in
-      let yes'' : nat_lt (key_of_row x) (key_of_row y) ≡ true = grind (arith, nat_tests) in yes' ∙ sym yes''
-]
+  chosen_numbered_by : (fits : X → Bool) (low : ℕ) (x : X) (xs : List X) (b : Bool) → low ≤ number_x x → number_x x < 4294967296 → IsNumberedFrom (suc (number_x x)) (least_by slot_x (filter fits xs))
+      → IsNumberedFrom low (least_by slot_x (cond b (x ∷ filter fits xs) (filter fits xs)))
+  chosen_numbered_by fits low x xs true le small rest = smaller_numbered low x (least_by slot_x (filter fits xs)) le small rest
+  chosen_numbered_by fits low x xs false le small rest = numbered-weaken low (suc (number_x x)) (least_by slot_x (filter fits xs)) (omega arith) rest
 
-lower_is_smaller : (x : KeptRow) (o : Option KeptRow) → IsNumberedFrom (suc x.number) o → smaller_by slot_in x o ≡ lower_of key_of_row x o
-lower_is_smaller x None h = refl
-lower_is_smaller x (Some y) h = let from = h.0 in ap (λ b. if b then Some x else Some y) (same_order x y (omega arith) h.1)
+  chosen_numbered : (fits : X → Bool) (low : ℕ) (xs : List X) → IsRisingFrom number_x low xs → All IsLow xs → IsNumberedFrom low (least_by slot_x (filter fits xs))
+  chosen_numbered fits low [] rise small = tt
+  chosen_numbered fits low (x ∷ xs) rise small =
+      chosen_numbered_by fits low x xs (fits x) rise.0 (All-head IsLow x xs small) (chosen_numbered fits (suc (number_x x)) xs rise.1 (All-tail IsLow x xs small))
 
-chosen_from : (fits : KeptRow → Bool) (low : ℕ) (rows : List KeptRow) → IsRisingFrom (λ (row : KeptRow). row.number) low rows → All (λ (row : KeptRow). row.number < 4294967296) rows
-    → least_by slot_in (filter fits rows) ≡ find fits (sort_by key_of_row rows)
-chosen_from fits low [] rise small = refl
-chosen_from fits low (x ∷ xs) rise small =
-    let rest = chosen_from fits (suc x.number) xs rise.1 (All-tail (λ (row : KeptRow). row.number < 4294967296) x xs small) in
-    elim (cases_Bool (fits x)) [
-      | inl there ↦
-          ap (λ b. least_by slot_in (cond b (x ∷ filter fits xs) (filter fits xs))) there
-          ∙ lower_is_smaller x (least_by slot_in (filter fits xs)) (chosen_numbered fits (suc x.number) xs rise.1 (All-tail (λ (row : KeptRow). row.number < 4294967296) x xs small))
-          ∙ ap (lower_of key_of_row x) rest ∙ sym (find-put_fits key_of_row fits x 0 (sort_by key_of_row xs) there (sort_sorted key_of_row xs))
-      | inr fails ↦
-          ap (λ b. least_by slot_in (cond b (x ∷ filter fits xs) (filter fits xs))) fails
-          ∙ rest ∙ sym (find-put_fails key_of_row fits x (sort_by key_of_row xs) fails)
-    ]
+  -- the lower number comes first where the slots are equal
+  same_order : (x y : X) → number_x x < number_x y → number_x y < 4294967296 → nat_le (slot_x x) (slot_x y) ≡ nat_lt (order_of x) (order_of y)
+  same_order x y less small = elim (cases_lt (slot_x y) (slot_x x)) [
+    | inl above ↦ let no' : nat_le (slot_x x) (slot_x y) ≡ false = grind (arith, nat_tests) in
+        let no'' : nat_lt (order_of x) (order_of y) ≡ false = grind (arith, nat_tests) in no' ∙ sym no''
+    | inr within ↦ let yes' : nat_le (slot_x x) (slot_x y) ≡ true = grind (arith, nat_tests) in
+        let yes'' : nat_lt (order_of x) (order_of y) ≡ true = grind (arith, nat_tests) in yes' ∙ sym yes''
+  ]
+
+  lower_is_smaller : (x : X) (o : Option X) → IsNumberedFrom (suc (number_x x)) o → smaller_by slot_x x o ≡ lower_of order_of x o
+  lower_is_smaller x None h = refl
+  lower_is_smaller x (Some y) h = let from = h.0 in ap (λ b. if b then Some x else Some y) (same_order x y (omega arith) h.1)
+
+  -- of elements by number, the first one that passes by slot and number is the least by slot
+  pub chosen_from : (fits : X → Bool) (low : ℕ) (xs : List X) → IsRisingFrom number_x low xs → All IsLow xs → least_by slot_x (filter fits xs) ≡ find fits (sort_by order_of xs)
+  chosen_from fits low [] rise small = refl
+  chosen_from fits low (x ∷ xs) rise small =
+      let rest = chosen_from fits (suc (number_x x)) xs rise.1 (All-tail IsLow x xs small) in
+      elim (cases_Bool (fits x)) [
+        | inl there ↦
+            ap (λ b. least_by slot_x (cond b (x ∷ filter fits xs) (filter fits xs))) there
+            ∙ lower_is_smaller x (least_by slot_x (filter fits xs)) (chosen_numbered fits (suc (number_x x)) xs rise.1 (All-tail IsLow x xs small))
+            ∙ ap (lower_of order_of x) rest ∙ sym (find-put_fits order_of fits x 0 (sort_by order_of xs) there (sort_sorted order_of xs))
+        | inr fails ↦
+            ap (λ b. least_by slot_x (cond b (x ∷ filter fits xs) (filter fits xs))) fails
+            ∙ rest ∙ sym (find-put_fails order_of fits x (sort_by order_of xs) fails)
+      ]
 
 pub the_first_in_order_is_chosen : TheFirstInOrderIsChosen
-the_first_in_order_is_chosen fits rows numbered = chosen_from fits 0 rows numbered.0 numbered.1
+the_first_in_order_is_chosen fits rows numbered = chosen_from slot_in (λ (row : KeptRow). row.number) fits 0 rows numbered.0 numbered.1
 
 -- The slots of chunks in order.
 
@@ -142,32 +148,21 @@ map_put_if : {X Y : Type 0} (f : X → Y) (b : Bool) (xs ys : List X) → map f 
 map_put_if f true xs ys = refl
 map_put_if f false xs ys = refl
 
-map_put : (x : KeptRow) (ys : List KeptRow) → map in_slot_of (put_by key_of_row x ys) ≡ put_by key_of_slot (in_slot_of x) (map in_slot_of ys)
-map_put x [] = refl
-map_put x (y ∷ ys) =
-    map_put_if in_slot_of (nat_lt (key_of_row x) (key_of_row y)) (x ∷ y ∷ ys) (y ∷ put_by key_of_row x ys)
-    ∙ ap (λ zs. if nat_lt (key_of_row x) (key_of_row y) then in_slot_of x ∷ in_slot_of y ∷ map in_slot_of ys else in_slot_of y ∷ zs) (map_put x ys)
+module _ {X Y : Type 0} (f : X → Y) (key : Y → ℕ) where
+  abbrev key_by : X → ℕ
+  key_by x = key (f x)
+
+  map_put : (x : X) (ys : List X) → map f (put_by key_by x ys) ≡ put_by key (f x) (map f ys)
+  map_put x [] = refl
+  map_put x (y ∷ ys) =
+      map_put_if f (nat_lt (key_by x) (key_by y)) (x ∷ y ∷ ys) (y ∷ put_by key_by x ys)
+      ∙ ap (λ zs. if nat_lt (key_by x) (key_by y) then f x ∷ f y ∷ map f ys else f y ∷ zs) (map_put x ys)
+
+  -- what is sorted by what it is mapped to
+  pub map_sorted : (xs : List X) → map f (sort_by key_by xs) ≡ sort_by key (map f xs)
+  map_sorted [] = refl
+  map_sorted (x ∷ xs) = map_put x (sort_by key_by xs) ∙ ap (put_by key (f x)) (map_sorted xs)
 
 -- the list of slots is that of the chunks in order
 pub slots_in_order : (rows : List KeptRow) → map in_slot_of (sort_by key_of_row rows) ≡ slots_of rows
-slots_in_order [] = refl
-slots_in_order (x ∷ xs) = map_put x (sort_by key_of_row xs) ∙ ap (put_by key_of_slot (in_slot_of x)) (slots_in_order xs)
-
--- a sorted list has the same elements
-pub among-put : (p : KeptRow → Bool) (x : KeptRow) (ys : List KeptRow) → list_any p (put_by key_of_row x ys) ≡ (p x || list_any p ys)
-among-put p x [] = refl
-among-put p x (y ∷ ys) = by (nat_lt (key_of_row x) (key_of_row y)) (among-put p x ys)
-  where
-    swap : (a b c : Bool) → (a || (b || c)) ≡ (b || (a || c))
-    swap true true c = refl
-    swap true false c = refl
-    swap false true c = refl
-    swap false false c = refl
-
-    by : (b : Bool) → list_any p (put_by key_of_row x ys) ≡ (p x || list_any p ys) → list_any p (if b then x ∷ y ∷ ys else y ∷ put_by key_of_row x ys) ≡ (p x || (p y || list_any p ys))
-    by true rest = refl
-    by false rest = ap (λ c. p y || c) rest ∙ swap (p y) (p x) (list_any p ys)
-
-pub among-sorted : (p : KeptRow → Bool) (rows : List KeptRow) → list_any p (sort_by key_of_row rows) ≡ list_any p rows
-among-sorted p [] = refl
-among-sorted p (x ∷ xs) = among-put p x (sort_by key_of_row xs) ∙ ap (λ c. p x || c) (among-sorted p xs)
+slots_in_order rows = map_sorted in_slot_of key_of_slot rows

@@ -24,10 +24,10 @@ positive (suc n) h = omega arith
 
 -- Empty pages.
 
-differs : (a n : ℕ) → a ≢ n → (a == n) ≡ false
+pub differs : (a n : ℕ) → a ≢ n → (a == n) ≡ false
 differs a n h = grind (arith, nat_tests)
 
-equals : (a n : ℕ) → a ≡ n → (a == n) ≡ true
+pub equals : (a n : ℕ) → a ≡ n → (a == n) ≡ true
 equals a n h = grind (arith, nat_tests)
 
 pub left_is_free : (m : ChunkMap) (page : ℕ) (h : Hint) → h ≡ hint_of (block_bits (taken_bits m) page) → h.left ≡ 1024 → page_is_free m page ≡ true

@@ -2,8 +2,9 @@
 use Rattle.std.proofs.Common.{◌≡◌, ◌≢◌, ℕ, zero, suc, ◌+◌, ◌*◌, ◌<◌, ◌≤◌, inl, inr, Bool, true, false, if◌then◌else◌, ◌==◌, nat_lt, List, [], ◌∷◌, length, map, filter, slice_get, Option, Some, None, option_map, refl, ap, sym, ◌∙◌, arith}
 use Rattle.std.proofs.lemmas.Bool.{cases_lt, cases_eq, cases_Bool}
 use Rattle.std.proofs.lemmas.Bool.Decides.{nat_tests}
+use Rattle.std.proofs.lemmas.List.{length-map}
 use Rattle.vm_model.specs.PlainMap.{Chunk}
-use Rattle.vm_model.specs.Space.{put_by}
+use Rattle.vm_model.specs.Space.{put_by, sort_by}
 use Rattle.vm_model.specs.Chunks.{slot}
 use Rattle.chunk_slots.specs.declared.holders.Holder.{Holder}
 use Rattle.chunk_slots.specs.declared.slots.InSlot.{InSlot}
@@ -12,16 +13,16 @@ use Rattle.chunk_slots.specs.KeptChunks.{KeptRow, slot_in}
 use Rattle.chunk_slots.specs.KeptSides.{number_of, chunk_in, chunks_in, Each, IsKeptRow}
 use Rattle.chunk_slots.specs.Slots.{slot_key, key_of_slot, in_slot_of, slots_of}
 use Rattle.chunk_slots.specs.ChunkRegion.{unit_of}
-use Rattle.chunk_slots.proofs.Choosing.{sort_sorted}
+use Rattle.chunk_slots.proofs.Choosing.{sort_sorted, map_sorted}
 use Rattle.chunk_slots.proofs.SlotLists.{AreLow, before, drop_one, keep_one, put_passing, put_failing}
-use Rattle.chunk_slots.proofs.ObjectViews.{each_map, each_put, each_filter}
+use Rattle.chunk_slots.proofs.ObjectViews.{each_map, each_put, each_filter, length_put}
 use Rattle.chunk_slots.proofs.Views.{slot_in_view}
 use Rattle.chunk_slots.proofs.RowLists.{filter_in_view, IsSeen}
 
 abbrev in_it : ℕ → InSlot → Bool
 in_it n s = s.slot == n
 
-abbrev chunk_of : InSlot → ℕ
+abbrev pub chunk_of : InSlot → ℕ
 chunk_of s = s.chunk
 
 abbrev pub of_one_slot : ℕ → List InSlot → List ℕ
@@ -97,7 +98,7 @@ at_rank n low i (s ∷ ss) rise small = elim (cases_lt (key_of_slot s) (slot_key
       ∙ sym (ap (λ b. pick n (slice_get (s ∷ ss) ((if b then suc (rank_by key_of_slot (slot_key n 0) ss) else 0) + i))) test)
 ]
 
-get_chunk : (i : ℕ) (ss : List InSlot) → slice_get (map chunk_of ss) i ≡ option_map chunk_of (slice_get ss i)
+pub get_chunk : (i : ℕ) (ss : List InSlot) → slice_get (map chunk_of ss) i ≡ option_map chunk_of (slice_get ss i)
 get_chunk i [] = refl
 get_chunk zero (s ∷ ss) = refl
 get_chunk (suc i) (s ∷ ss) = get_chunk i ss
@@ -173,3 +174,38 @@ numbers_in_view n pages next h rows rise kept =
     ∙ sym (same_numbers h (filter (of_slot n) rows))
     ∙ ap (map (λ (c : Chunk). c.number)) (sym (filter_in_view (chunk_in h) (λ (c : Chunk). c.number) (λ c. slot (unit_of pages) c == n) number_of (of_slot n) rows
     (each_map (IsKeptRow pages next h) (IsSeen (chunk_in h) (λ (c : Chunk). c.number) (λ c. slot (unit_of pages) c == n) number_of (of_slot n)) rows (λ row k. (refl, ap (λ s. s == n) (slot_in_view pages h row k.bits_are))) kept)))
+
+-- All slots in a row.
+
+in_slot_by : (pages : ℕ) → Chunk → InSlot
+in_slot_by pages c = record { slot = slot (unit_of pages) c; chunk = c.number }
+
+same_slots : (pages next : ℕ) (h : ℕ → Option Holder) (rows : List KeptRow) → Each (IsKeptRow pages next h) rows → map in_slot_of rows ≡ map (in_slot_by pages) (chunks_in h rows)
+unfolding in_slot_by
+same_slots pages next h [] kept = refl
+same_slots pages next h (x ∷ xs) kept =
+    ap (λ s. in_slot s x.number ∷ map in_slot_of xs) (sym (slot_in_view pages h x kept.0.bits_are)) ∙ ap (λ ss. in_slot_by pages (chunk_in h x) ∷ ss) (same_slots pages next h xs kept.1)
+  where
+    in_slot : ℕ → ℕ → InSlot
+    in_slot s n = record { slot = s; chunk = n }
+
+chunks_of : (pages : ℕ) (cs : List Chunk) → map chunk_of (map (in_slot_by pages) cs) ≡ map (λ (c : Chunk). c.number) cs
+unfolding in_slot_by
+chunks_of pages [] = refl
+chunks_of pages (c ∷ cs) = ap (λ ns. c.number ∷ ns) (chunks_of pages cs)
+
+pub order_in_view : (pages next : ℕ) (h : ℕ → Option Holder) (rows : List KeptRow) → Each (IsKeptRow pages next h) rows
+    → map chunk_of (slots_of rows) ≡ map (λ (c : Chunk). c.number) (sort_by (λ c. slot_key (slot (unit_of pages) c) c.number) (chunks_in h rows))
+unfolding in_slot_by
+order_in_view pages next h rows kept =
+    ap (λ ss. map chunk_of (sort_by key_of_slot ss)) (same_slots pages next h rows kept)
+    ∙ ap (map chunk_of) (sym (map_sorted (in_slot_by pages) key_of_slot (chunks_in h rows)))
+    ∙ chunks_of pages (sort_by (λ c. slot_key (slot (unit_of pages) c) c.number) (chunks_in h rows))
+
+pub length_sorted : {X : Type 0} (key : X → ℕ) (xs : List X) → length (sort_by key xs) ≡ length xs
+length_sorted key [] = refl
+length_sorted key (x ∷ xs) = length_put key x (sort_by key xs) ∙ ap suc (length_sorted key xs)
+
+-- each chunk has its place
+pub length_slots : (rows : List KeptRow) → length (slots_of rows) ≡ length rows
+length_slots rows = length_sorted key_of_slot (map in_slot_of rows) ∙ length-map rows in_slot_of

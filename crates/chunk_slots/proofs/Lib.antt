@@ -2,6 +2,7 @@ pub mod RisingLists
 pub mod PageBits
 pub mod FreeBits
 pub mod Choosing
+pub mod InOrder
 pub mod CountedBits
 pub mod SlotFits
 pub mod TakenFits
@@ -11,6 +12,7 @@ pub mod Views
 pub mod ObjectViews
 pub mod RowLists
 pub mod Kept
+pub mod FreeSlots
 pub mod Sides
 pub mod Placing
 pub mod InSlots

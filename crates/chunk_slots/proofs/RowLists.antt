@@ -135,6 +135,16 @@ pub few_rows : (bound low : ℕ) (rows : List KeptRow) → IsRisingFrom number_o
 few_rows bound low [] rise lows le = omega arith
 few_rows bound low (x ∷ xs) rise lows le = let first = rise.0 in let own = lows.0 in omega (arith, few_rows bound (suc x.number) xs rise.1 lows.1 (omega arith))
 
+-- The chunks of the value rise by number, as the rows do.
+
+pub rises_in_view : (h : ℕ → Option Holder) (low : ℕ) (rows : List KeptRow) → IsRisingFrom number_of low rows → IsRisingFrom (λ (c : Chunk). c.number) low (chunks_in h rows)
+rises_in_view h low [] rise = tt
+rises_in_view h low (x ∷ xs) rise = (rise.0, rises_in_view h (suc x.number) xs rise.1)
+
+pub small_in_view : (h : ℕ → Option Holder) (rows : List KeptRow) → Each (λ (row : KeptRow). row.number < 4294967296) rows → All (λ (c : Chunk). c.number < 4294967296) (chunks_in h rows)
+small_in_view h [] lows = All-nil (λ (c : Chunk). c.number < 4294967296)
+small_in_view h (x ∷ xs) lows = All-cons (λ (c : Chunk). c.number < 4294967296) (chunk_in h x) (chunks_in h xs) lows.0 (small_in_view h xs lows.1)
+
 -- The choice over the value is that over the rows.
 
 smaller_has : (P : KeptRow → Type 0) (key : KeptRow → ℕ) (x : KeptRow) (o : Option KeptRow) (z : KeptRow) → P x → ((y : KeptRow) → o ≡ Some y → P y) → smaller_by key x o ≡ Some z → P z

@@ -38,7 +38,7 @@ digits_grow (suc most) a b h = elim (cases_eq a 0) [
       omega (arith, half, digits_step most a (a == 0) refl some, digits_step most b (b == 0) refl (λ e. some (omega arith)))
 ]
 
-slots_grow : (a b : ℕ) → a ≤ b → slot_for a ≤ slot_for b
+pub slots_grow : (a b : ℕ) → a ≤ b → slot_for a ≤ slot_for b
 slots_grow a b h = let more = digits_grow 32 a b h in omega arith
 
 -- The slot is at least that of the longest run.

@@ -2,7 +2,7 @@
 use Rattle.std.proofs.Common.{◌≡◌, ℕ, suc, ◌*◌, ◌/◌, ◌%◌, ◌<◌, ◌≤◌, Bool, true, false, cond, nat_lt, if◌then◌else◌, List, [], ◌∷◌, length, map, find, drop, None, Some, refl, ap, sym, ◌∙◌, subst, arith}
 use Rattle.std.specs.Option.{is_some}
 use Rattle.std.proofs.lemmas.Bool.Decides.{nat_tests}
-use Rattle.std.proofs.lemmas.List.{drop_all}
+use Rattle.std.proofs.lemmas.List.{drop_all, length-map}
 use Rattle.vm_model.specs.Space.{sort_by}
 use Rattle.vm_model.specs.Bits.{slot_for}
 use Rattle.chunk_slots.specs.Rising.{rank_by}
@@ -45,14 +45,10 @@ begins_at_slot atomic bytes align first k rows some words key at =
     skip_low (has_fit atomic (bytes / 4) (align / 4)) k (sort_by key_of_row rows) (λ row low. no_fit_low atomic bytes align row some words (subst (λ n. key_of_row row < n) key low))
     ∙ ap (λ n. find (has_fit atomic (bytes / 4) (align / 4)) (drop n (sort_by key_of_row rows))) (sym rank)
 
-length-mapped : (rows : List KeptRow) → length (map in_slot_of rows) ≡ length rows
-length-mapped [] = refl
-length-mapped (row ∷ rows) = ap suc (length-mapped rows)
-
 -- where the search has come to the end, no chunk is chosen
 pub none_chosen : (atomic : Bool) (bits align place : ℕ) (rows : List KeptRow) → AreNumbered rows → length (slots_of rows) ≤ place
     → find (has_fit atomic bits align) (sort_by key_of_row rows) ≡ find (has_fit atomic bits align) (drop place (sort_by key_of_row rows)) → chosen_row atomic bits align rows ≡ None
 none_chosen atomic bits align place rows numbered end rest =
-    let long : length (sort_by key_of_row rows) ≡ length (slots_of rows) = sym (length-mapped (sort_by key_of_row rows)) ∙ ap length (slots_in_order rows) in
+    let long : length (sort_by key_of_row rows) ≡ length (slots_of rows) = sym (length-map (sort_by key_of_row rows) in_slot_of) ∙ ap length (slots_in_order rows) in
     the_first_in_order_is_chosen (has_fit atomic bits align) rows numbered ∙ rest
     ∙ ap (find (has_fit atomic bits align)) (drop_all place (sort_by key_of_row rows) (omega (arith, long)))

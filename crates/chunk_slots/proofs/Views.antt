@@ -89,14 +89,14 @@ inside_false first end page e = elim (cases_lt page first) [
   | inr within ↦ inr (grind (arith, nat_tests))
 ]
 
-held_at : (s : Span) (place : ℕ) → s.start ≤ place → place < s.start + s.pages → holds s place ≡ true
+pub held_at : (s : Span) (place : ℕ) → s.start ≤ place → place < s.start + s.pages → holds s place ≡ true
 held_at s place low high = grind (arith, nat_tests)
 
 not_held : (s : Span) (place : ℕ) → (place < s.start) ⊎ (s.start + s.pages ≤ place) → holds s place ≡ false
 not_held s place (inl low) = grind (arith, nat_tests)
 not_held s place (inr high) = grind (arith, nat_tests)
 
-or_left : (a b : Bool) → a ≡ true → (a || b) ≡ true
+pub or_left : (a b : Bool) → a ≡ true → (a || b) ≡ true
 or_left a b e = ap (λ x. x || b) e
 
 or_right : (a b : Bool) → b ≡ true → (a || b) ≡ true

@@ -10,6 +10,8 @@ use Rattle.vm_model.specs.Chunks.{ObjectAt, slot, chunks_numbered, change_chunk,
 use Rattle.vm_model.specs.Tables.{chunk_row, object_rows}
 use Rattle.chunk_slots.specs.declared.placed.Placed.{Placed}
 use Rattle.vm_model.specs.PageSets.{pages_in}
+use Rattle.vm_model.specs.Space.{sort_by}
+use Rattle.chunk_slots.specs.Slots.{slot_key}
 
 -- so many pages in each unit, the chunks by number, the next serial and number, and how many more objects can be placed
 pub record ChunkRegion : Type 0 where
@@ -97,3 +99,10 @@ object_table r = flat_map object_rows r.chunks
 -- the numbers of the chunks in a slot
 abbrev pub numbers_in_slot : ℕ → ChunkRegion → List ℕ
 numbers_in_slot n r = map (λ (h : Chunk). h.number) (filter (λ h. slot (setup_of r) h == n) r.chunks)
+
+-- the chunks by slot and then by number, and their numbers
+abbrev pub in_order : ChunkRegion → List Chunk
+in_order r = sort_by (λ h. slot_key (slot (setup_of r) h) h.number) r.chunks
+
+abbrev pub numbers_in_order : ChunkRegion → List ℕ
+numbers_in_order r = map (λ (h : Chunk). h.number) (in_order r)
