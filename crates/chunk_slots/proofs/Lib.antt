@@ -18,3 +18,4 @@ pub mod Placing
 pub mod InSlots
 pub mod NewChunks
 pub mod LiveRows
+pub mod UnitPages

@@ -1,5 +1,5 @@
 -- The chunks and objects of a machine, which one section reads and writes at a time.
-use Rattle.std.specs.Prelude.{◌≡◌, ℕ, suc, ◌-◌, ◌&&◌, not, ◌==◌, if◌then◌else◌, Bool, false, List, [], ◌∷◌, ◌++◌, map, filter, find, flat_map, slice_get, Option, Some, option_map}
+use Rattle.std.specs.Prelude.{◌≡◌, ℕ, suc, ◌-◌, ◌&&◌, not, ◌==◌, if◌then◌else◌, Bool, false, List, [], ◌∷◌, ◌++◌, map, filter, find, flat_map, slice_get, Option, Some, option_map, All, length}
 use Rattle.std.specs.List.{list_any}
 use Rattle.vm_model.specs.declared.rows.ChunkRow.{ChunkRow}
 use Rattle.vm_model.specs.declared.rows.ObjectRow.{ObjectRow}
@@ -27,6 +27,10 @@ unit_of pages = record { space = 0; frames = 0; lazy = 0; block_pages = 0; part_
 
 abbrev pub setup_of : ChunkRegion → Setup
 setup_of r = unit_of r.unit_pages
+
+-- each chunk has so many pages in each unit
+abbrev pub AreOfUnits : (unit_pages : ℕ) → List Chunk → Type 0
+AreOfUnits unit_pages chunks = All (λ (h : Chunk). length h.populated ≡ unit_pages) chunks
 
 abbrev pub empty_region : (unit_pages room : ℕ) → ChunkRegion
 empty_region unit_pages room = record { unit_pages = unit_pages; chunks = []; next_object = 1; next_chunk = 0; room = room }

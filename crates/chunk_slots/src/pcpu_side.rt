@@ -7,7 +7,7 @@ ghost use Rattle.vm_model.specs.Frames.{pages_of_bytes};
 ghost use Rattle.chunk_slots.specs.Rising.{index_by, IsRising};
 ghost use Rattle.chunk_slots.specs.KeptChunks.{has_populated};
 ghost use Rattle.vm_model.specs.PageSets.{pages_in, has_page};
-ghost use Rattle.chunk_slots.specs.ChunkRegion.{ChunkRegion, setup_of, empty_region, at_of, told_of, place_for, with_placed, with_new_chunk, with_settled, without_placed, with_populated, without_chunk, IsHeld, CanPopulate, IsWhollyFree, live_bytes, at_offset, chunk_table, numbers_in_slot, numbers_in_order};
+ghost use Rattle.chunk_slots.specs.ChunkRegion.{ChunkRegion, setup_of, empty_region, at_of, told_of, place_for, with_placed, with_new_chunk, with_settled, without_placed, with_populated, without_chunk, IsHeld, CanPopulate, IsWhollyFree, live_bytes, at_offset, chunk_table, numbers_in_slot, numbers_in_order, AreOfUnits};
 
 mod live_objects;
 
@@ -96,12 +96,23 @@ impl PcpuSide {
         self.spare
     }
 
-    /// How many pages each unit has.
+    /// How many pages each unit has, and so each chunk in it.
     pub fn unit_pages(&self) -> u32
         ensures pages { result ≡ self.now.unit_pages }
         ensures most { result ≤ 64 }
+        ensures chunks { AreOfUnits self.now.unit_pages self.now.chunks }
     {
         self.unit_pages
+    }
+
+    /// From here on units have so many pages, which is how many each chunk has that is there. It takes no memory.
+    pub fn set_unit_pages(&mut self, unit_pages: u32)
+        requires least { 8 ≤ unit_pages }
+        requires most { unit_pages ≤ 64 }
+        requires chunks { AreOfUnits unit_pages self.old.chunks }
+        ensures { self.new ≡ record self.old { unit_pages = unit_pages } }
+    {
+        self.unit_pages = unit_pages;
     }
 
     /// The number that the next chunk gets.

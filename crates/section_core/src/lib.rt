@@ -10,8 +10,8 @@
 //!   `IsLawful`), it moves and leaves the two values of the model's `after`, or stays exactly where its `moves` is
 //!   false (`answer`); it wants memory only where the section that it would make is one that may grow something
 //!   (`memory`, `TakesMemory`), and then changes nothing (`err`).
-//! - `moves`: whether that section would move. `Region::free`, `busy`, `lazy`, `pages`, `blocks`: read off a region's
-//!   value.
+//! - `moves`: whether that section would move. `Region::free`, `busy`, `lazy`, `pages`, `blocks`,
+//!   `percpu`: read off a region's value.
 //! - `first_regions`: the values of the model's first regions.
 #![tactic(auto)]
 

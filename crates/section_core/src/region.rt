@@ -7,13 +7,14 @@ ghost use Rattle.vm_model.specs.declared.areas.Area.{Area};
 ghost use Rattle.vm_model.specs.Parts as parts;
 ghost use Rattle.vm_model.specs.PlainMap.{at_first};
 ghost use Rattle.vm_model.specs.Parts.{regions_of, cpu_blocks, FreeRuns, LiveAreas, WaitingSpans, CpuBlocks};
-ghost use Rattle.vm_model.specs.PlainMap.{Block};
+ghost use Rattle.vm_model.specs.PlainMap.{Block, Chunk};
 ghost use Rattle.unit_layout.specs.Config.{setup_of};
 ghost use Rattle.vm_model.specs.Rules.{IsSetup};
 ghost use Rattle.section_core.specs.RegionSides.{region_of};
 
 use augmented_tree::FreeSide;
 use busy_areas::BusySide;
+use chunk_slots::PcpuSide;
 use lazy_purge::LazySide;
 use map_blocks::BlockSide;
 use page_pool::PageSide;
@@ -38,8 +39,8 @@ pub(crate) enum Side {
     Lazy(LazySide),
     /// The page map.
     Pages(PageSide),
-    /// No chunk is made by a built call; so many objects may be placed.
-    Percpu(u32),
+    /// The per-CPU chunks, which the kernel's `pcpu_lock` guards.
+    Percpu(PcpuSide),
     /// The blocks of a processor, its `vmap_block_queue` in the kernel.
     Blocks(BlockSide),
 }
@@ -123,6 +124,17 @@ impl Region {
             _ => unreachable!(),
         }
     }
+
+    /// The per-CPU chunks, of the region that has them.
+    pub fn percpu(&self) -> &PcpuSide
+        requires { (chunks : List Chunk) × (next_object : ℕ) × (next_chunk : ℕ) × (room : ℕ) × (self.now ≡ parts.Percpu chunks next_object next_chunk room) }
+        ensures { self.now ≡ parts.Percpu result.now.chunks result.now.next_object result.now.next_chunk result.now.room }
+    {
+        match &self.side {
+            Side::Percpu(percpu) => percpu,
+            _ => unreachable!(),
+        }
+    }
 }
 
 /// Puts the regions of the processors' blocks behind those that are there.
@@ -145,6 +157,7 @@ pub fn first_regions(alloc: Global, config: &Config, room: u32) -> Result<Vec<Re
 {
     let free = FreeSide::whole(alloc, config.space)?;
     let pages = PageSide::new(alloc, config.space, config.frames)?;
+    let percpu = PcpuSide::with_room(alloc, config.layout.unit_pages(), room)?;
     let mut regions = vec![in alloc;
         Region::of(Side::Desk),
         Region::of(Side::Purge(None)),
@@ -153,7 +166,7 @@ pub fn first_regions(alloc: Global, config: &Config, room: u32) -> Result<Vec<Re
         Region::of(Side::Busy(BusySide::new(alloc))),
         Region::of(Side::Lazy(LazySide::new(alloc))),
         Region::of(Side::Pages(pages)),
-        Region::of(Side::Percpu(room)),
+        Region::of(Side::Percpu(percpu)),
     ]?;
     push_blocks(alloc, config, &mut regions)?;
     Ok(regions)

@@ -3,6 +3,7 @@ use Rattle.vm_model.specs.Parts as parts
 use Rattle.vm_model.specs.Parts.{Region, FreeRuns, LiveAreas, WaitingSpans}
 use Rattle.page_pool.specs.Pages as pool
 use Rattle.busy_areas.specs.LiveRows.{LiveRows}
+use Rattle.section_core.specs.RegionSides.{percpu_region}
 use Rattle.section_core.proofs.Starts.{free_at_first, same_regions}
 use Rattle.section_core.proofs.region.first_regions.Goals as goal
 
@@ -13,4 +14,4 @@ returns c =
     (c.of-5.ensures ∙ ap (λ (rows : LiveRows). LiveAreas rows.areas rows.next) c.new-2.ensures.empty)
     (c.of-6.ensures ∙ ap (λ spans. WaitingSpans spans) c.new-3.ensures.empty)
     (c.of-7.ensures ∙ ap (λ (p : pool.Pages). parts.Pages p.frames p.stale p.cells) c.in_ok-pages.ensures.first)
-    c.of-8.ensures
+    (c.of-8.ensures ∙ ap percpu_region c.in_ok-percpu.ensures)
