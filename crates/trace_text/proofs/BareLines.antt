@@ -4,7 +4,7 @@ use Rattle.vm_model.specs.declared.calls.Call.{Call}
 use Rattle.vm_model.specs.declared.calls.Call.TheVariants as call
 use Rattle.trace_text.specs.declared.progress.Progress.{Progress}
 use Rattle.vm_model.specs.Words.{fields}
-use Rattle.trace_text.specs.Lines.{Line, UnmapAliases, spelled}
+use Rattle.trace_text.specs.Lines.{Line, UnmapAliases, Balance, spelled}
 use Rattle.trace_text.specs.Reading.{Reading, with_call}
 use Rattle.trace_text.specs.Grammar.{may_stand, read}
 use Rattle.trace_text.specs.Held.{IsHeld, Steps, has_place}
@@ -20,6 +20,9 @@ pub record IsBareLine (r : Reading) (word : List ℕ) (line : Line) (ask : Call)
 
 pub unmap_aliases_line : (r : Reading) → IsBareLine r (codes "unmap_aliases") UnmapAliases call.UnmapAliases
 unmap_aliases_line r = record { guessed = refl; spells = refl; stands = refl; reads = refl }
+
+pub balance_line : (r : Reading) → IsBareLine r (codes "balance") Balance call.Balance
+balance_line r = record { guessed = refl; spells = refl; stands = refl; reads = refl }
 
 -- it stands exactly where a call line may come
 pub bare_refused : (q : Progress) (r : Reading) (word : List ℕ) (line : Line) (ask : Call) → IsBareLine r word line ask → has_place r ≡ false → Steps r word false q

@@ -67,6 +67,7 @@ held_after_caller p q r n held opens above among = record {
   names = λ name. rw (opens.names name, none_is (find_name r n name) (held.unnamed n name above)) refl;
   opening_names = λ opened name. ap (λ places. option_map (λ place. suc place) (place_of places name)) opens.opening_names ∙ kept_names p r held name (cases_eq p.caller 0);
   named = held.named;
+  sized = held.sized;
   unnamed = λ caller name beyond. held.unnamed caller name (omega arith);
 }
 

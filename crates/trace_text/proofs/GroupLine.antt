@@ -52,6 +52,7 @@ held_with_group p q r g held early put = record {
   names = held.names;
   opening_names = held.opening_names;
   named = held.named;
+  sized = held.sized;
   unnamed = held.unnamed;
 }
 

@@ -66,6 +66,7 @@ held_with_header p r h rank space frames lazy block_pages part_limit unit_pages 
   names = held.names;
   opening_names = held.opening_names;
   named = held.named;
+  sized = held.sized;
   unnamed = held.unnamed;
 }
 

@@ -1,11 +1,12 @@
 -- Lines of a word, a new name and two numbers: where they stand.
-use Rattle.std.proofs.Common.{◌≡◌, ◌∙◌, ℕ, Bool, true, false, ◌&&◌, List, [], ◌∷◌, ◌++◌, refl, ap, sym, arith, codes, decimal, subst}
+use Rattle.std.proofs.Common.{◌≡◌, ◌≤◌, ◌∙◌, ℕ, nat_lt, Bool, true, false, ◌&&◌, List, [], ◌∷◌, ◌++◌, refl, ap, sym, arith, codes, decimal, subst}
 use Rattle.std.proofs.lemmas.Bool.{and_parts, and_from}
+use Rattle.std.proofs.lemmas.Bool.Decides.{nat_tests}
 use Rattle.vm_model.specs.declared.calls.Call.{Call}
 use Rattle.vm_model.specs.declared.calls.Call.TheVariants as call
 use Rattle.trace_text.specs.declared.progress.Progress.{Progress}
 use Rattle.vm_model.specs.Words.{is_name, is_number, fields}
-use Rattle.trace_text.specs.Lines.{Line, Vmalloc, MapRam, spelled}
+use Rattle.trace_text.specs.Lines.{Line, Vmalloc, MapRam, AllocPercpu, AllocAtomic, spelled}
 use Rattle.trace_text.specs.Reading.{Reading, with_name}
 use Rattle.trace_text.specs.Grammar.{may_stand, follows, has_room, is_cpu, is_new, read}
 use Rattle.trace_text.specs.Held.{IsHeld, Steps, has_place}
@@ -29,9 +30,12 @@ pub record AreNamedLines (r : Reading) (word : List ℕ) (make : List ℕ → �
 pub vmalloc_lines : (r : Reading) → AreNamedLines r (codes "vmalloc") Vmalloc call.Vmalloc (λ bytes. true)
 vmalloc_lines r = record { clean = refl; guessed = λ fs. refl; spells = λ name a b. refl; stands = λ name a b. refl; reads = λ name a b. refl }
 
-and_assoc : (a b c : Bool) → (a && b && c) ≡ (a && (b && c))
+pub and_assoc : (a b c : Bool) → (a && b && c) ≡ (a && (b && c))
 and_assoc true b c = refl
 and_assoc false b c = refl
+
+pub no_cpu : (cpu count : ℕ) → nat_lt cpu count ≡ true → count ≤ cpu → ⊥
+no_cpu cpu count h high = grind (arith, nat_tests)
 
 pub map_ram_lines : (r : Reading) → AreNamedLines r (codes "map_ram") MapRam call.MapRam (is_cpu r)
 map_ram_lines r = record {
@@ -41,6 +45,12 @@ map_ram_lines r = record {
   stands = λ name a b. ap (λ rules. is_spelt_named name a b && follows r.rank 10 && rules) (and_assoc (is_new r name) (is_cpu r a) (has_room r));
   reads = λ name a b. refl;
 }
+
+pub alloc_percpu_lines : (r : Reading) → AreNamedLines r (codes "alloc_percpu") AllocPercpu call.AllocPercpu (λ bytes. true)
+alloc_percpu_lines r = record { clean = refl; guessed = λ fs. refl; spells = λ name a b. refl; stands = λ name a b. refl; reads = λ name a b. refl }
+
+pub alloc_atomic_lines : (r : Reading) → AreNamedLines r (codes "alloc_atomic") AllocAtomic call.AllocAtomic (λ bytes. true)
+alloc_atomic_lines r = record { clean = refl; guessed = λ fs. refl; spells = λ name a b. refl; stands = λ name a b. refl; reads = λ name a b. refl }
 
 -- a text that is a name and two numbers
 pub record IsNamedText (text name : List ℕ) (a b : ℕ) : Type 0 where

@@ -75,6 +75,7 @@ order_stands p q r text held small after before (picks, are, put) =
         names = held.names;
         opening_names = held.opening_names;
         named = held.named;
+        sized = held.sized;
         unnamed = held.unnamed;
       },
     )

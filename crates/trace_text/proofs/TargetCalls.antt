@@ -2,7 +2,7 @@
 use Rattle.std.proofs.Common.{◌≡◌, ◌∙◌, ℕ, zero, suc, ◌-◌, ◌<◌, ◌≤◌, Bool, true, false, not, ◌||◌, ◌&&◌, ◌==◌, nat_lt, if◌then◌else◌, List, [], ◌∷◌, length, map, slice_get, find, refl, ap, sym, arith, Option, Some, None, subst}
 use Rattle.std.proofs.lemmas.Bool.{and_parts, eqb-true, lt-ltb}
 use Rattle.std.proofs.lemmas.Option.{slice_get_within}
-use Rattle.std.specs.List.{filter}
+use Rattle.std.specs.List.{filter, list_all}
 use Rattle.std.specs.Option.{option_map}
 use Rattle.std.specs.Str.{bytes_eq}
 use Rattle.vm_model.specs.declared.calls.Call.{Call}
@@ -11,7 +11,7 @@ use Rattle.trace_text.specs.Lines.{TargetName}
 use Rattle.trace_text.specs.Reading.{Reading, Made, Named, AreNamed, aimed_at, calls_of, find_name}
 use Rattle.trace_text.specs.Grammar.{aims, is_call_as}
 use Rattle.trace_text.specs.Names.{place_of}
-use Rattle.trace_text.specs.Held.{IsHeld, call_at, sections_below, target_call}
+use Rattle.trace_text.specs.Held.{IsHeld, call_at, has_size, sections_below, target_call}
 
 -- the name by which a target's call is found
 pub record IsAimed (r : Reading) (t : TargetName) (n : ℕ) (c : Call) : Type 0 where
@@ -30,6 +30,22 @@ is_aimed r t number c e = by_parts (not t.opening || nat_lt 0 r.caller) refl (ai
     by_parts true place (Some n) found e =
         let same : ◌≡◌ {A = ℕ × Call} (n.number, n.call) (number, c) = cc in
         record { place = place; named = n; found = found; number = ap (λ (m : ℕ × Call). m.0) same; call = ap (λ (m : ℕ × Call). m.1) same }
+
+-- what each name passes, the one that a test finds does
+found_passes : (names : List Named) (test pass : Named → Bool) (n : Named) → list_all pass names ≡ true → find test names ≡ Some n → pass n ≡ true
+found_passes [] test pass n h e = cc
+found_passes (m ∷ names) test pass n h e = let parts = and_parts (pass m) (list_all pass names) h in by_test (test m) e parts.0 (found_passes names test pass n parts.1)
+  where
+    by_test : (b : Bool) → (if b then Some m else find test names) ≡ Some n → pass m ≡ true → (find test names ≡ Some n → pass n ≡ true) → pass n ≡ true
+    by_test true e here later = let same : m ≡ n = cc in subst (λ (k : Named). pass k ≡ true) same here
+    by_test false e here later = later e
+
+-- an object that a target names asks for a number of bytes
+pub sized_target : (p : Progress) (r : Reading) (t : TargetName) (number : ℕ) (c : Call) → IsHeld p r → target_call r t ≡ Some (number, c) → has_size c ≡ true
+sized_target p r t number c held e =
+    let aimed = is_aimed r t number c e in
+    let size = found_passes r.names (λ (n : Named). n.caller == (if t.opening then 0 else r.caller) && bytes_eq n.name t.name) (λ (n : Named). has_size n.call) aimed.named held.sized aimed.found in
+    sym (ap has_size aimed.call) ∙ size
 
 -- a target that may be named has a call that may be
 pub call_of_aim : (r : Reading) (t : TargetName) (test : Call → Bool) → aims r test t ≡ true → (number : ℕ) × (c : Call) × (target_call r t ≡ Some (number, c)) × (test c ≡ true)

@@ -3,7 +3,7 @@ ghost use Rattle.std.specs.Prelude.{◌≡◌, ◌<◌, ◌++◌, ◌&&◌, true
 ghost use Rattle.trace_text.specs.Reading.{Reading, with_call, with_name};
 ghost use Rattle.vm_model.specs.Words.{is_name};
 ghost use Rattle.trace_text.specs.Grammar.{is_new, is_vmalloc, is_map_ram, most_lines};
-ghost use Rattle.trace_text.specs.Held.{IsHeld, Steps, NamesCall, NamesNone, has_place, target_call};
+ghost use Rattle.trace_text.specs.Held.{IsHeld, Steps, NamesCall, NamesNone, has_place, has_size, target_call};
 
 use crate::fields::{named_pair, target};
 use crate::groups::cpu_count;
@@ -16,7 +16,7 @@ use vm_model::{Call, Target};
 const MOST_LINES: usize = 100_000;
 
 /// Whether a call line may come next.
-fn has_place(progress: &Progress) -> bool
+pub fn has_place(progress: &Progress) -> bool
     ensures place { (r : Reading) → IsHeld progress.now r → result ≡ has_place r }
     ensures room { IsTrue result → progress.now.lines < most_lines }
 {
@@ -24,7 +24,7 @@ fn has_place(progress: &Progress) -> bool
 }
 
 /// Puts a call behind those of the open section.
-fn add_call(progress: &mut Progress, call: Call) -> Result<(), AllocError>
+pub fn add_call(progress: &mut Progress, call: Call) -> Result<(), AllocError>
     requires { progress.old.lines < most_lines }
     ensures { OnOk result ((r : Reading) → IsHeld progress.old r → IsHeld progress.new (record (with_call r call) { rank = 10 })) }
 {
@@ -35,9 +35,10 @@ fn add_call(progress: &mut Progress, call: Call) -> Result<(), AllocError>
 }
 
 /// The same of a call with a name, where the name is new.
-fn add_named_call(progress: &mut Progress, name: &[u8], call: Call) -> Result<bool, AllocError>
+pub fn add_named_call(progress: &mut Progress, name: &[u8], call: Call) -> Result<bool, AllocError>
     requires room { progress.old.lines < most_lines }
     requires name { IsTrue (is_name name.now) }
+    requires size { IsTrue (has_size call) }
     ensures new { IfOk result (λ added. (r : Reading) → IsHeld progress.old r → added ≡ is_new r name.now) }
     ensures added { IfOk result (λ added. (r : Reading) → IsHeld progress.old r → is_new r name.now ≡ true → IsHeld progress.new (record (with_name r name.now call) { rank = 10 })) }
 {
@@ -105,7 +106,7 @@ fn target_call(progress: &Progress, opening: bool, name: &[u8]) -> Option<(usize
 }
 
 /// The target that the text is, and the call that it names.
-fn aimed_at(progress: &Progress, text: &[u8]) -> Option<(Target, Call)>
+pub fn aimed_at(progress: &Progress, text: &[u8]) -> Option<(Target, Call)>
     requires held { (r : Reading) × IsHeld progress.now r }
     requires room { progress.now.lines < most_lines }
     ensures some { IfSome result (λ found. (r : Reading) → IsHeld progress.now r → NamesCall r text.now found.0 found.1) }

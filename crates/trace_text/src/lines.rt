@@ -10,8 +10,8 @@ use crate::call_lines::{
 };
 use crate::fields::number;
 use crate::groups::read_group;
-use crate::header_lines::read_header_line;
 use crate::names::Names;
+use crate::object_lines::read_object_line;
 use crate::picks::read_picks;
 use crate::progress::{CALLS, END, ORDER, Progress, SPACE};
 use crate::sections::close_section;
@@ -111,5 +111,5 @@ pub fn read_line(alloc: Global, progress: &mut Progress, line: &[u8]) -> Result<
     if line == b"end".as_slice() {
         return Ok(read_end(progress));
     }
-    Ok(read_header_line(progress, line))
+    read_object_line(progress, line)
 }

@@ -16,7 +16,7 @@ returns-clause-added c = λ r held new.
     let p = c.args.progress.now in
     held_with_name p _ r c.args.name.now c.args.call held
     (record { rank = refl; header = refl; cpus = refl; caller = refl; calls = c.in_ok-push.ensures.items; closed = refl; lines = refl; picks = refl; opening_names = refl })
-    new
+    c.requires.size new
     (λ other.
     let length : c.len-place.result ≡ length p.calls.items = search rules in
     c.in_ok-insert.ensures.put c.if-not-branch.false other

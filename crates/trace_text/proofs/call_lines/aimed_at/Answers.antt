@@ -1,5 +1,5 @@
 use Rattle.std.proofs.Common.{sym, ◌∙◌, arith, refl}
-use Rattle.trace_text.proofs.TargetCalls.{number_within}
+use Rattle.trace_text.proofs.TargetCalls.{number_within, sized_target}
 use Rattle.trace_text.proofs.call_lines.aimed_at.Goals as goal
 
 pub overflow_cast-target : goal.overflow_cast-target
@@ -16,4 +16,5 @@ returns-clause-some c = λ r held. record {
   spells = c.in_ok-opening.ensures.some.1;
   opening = refl;
   found = sym (c.target_call.ensures r held) ∙ c.in_ok-number.was;
+  sized = sized_target c.args.progress.now r _ c.in_ok-number.number c.in_ok-number.call held (sym (c.target_call.ensures r held) ∙ c.in_ok-number.was);
 }

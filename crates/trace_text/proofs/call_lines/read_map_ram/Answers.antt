@@ -1,15 +1,11 @@
-use Rattle.std.proofs.Common.{◌≡◌, ◌<◌, ◌≤◌, ℕ, sym, ◌∙◌, codes, true, arith, nat_lt, subst}
+use Rattle.std.proofs.Common.{◌≡◌, ◌<◌, ◌≤◌, sym, ◌∙◌, codes, true, subst}
 use Rattle.std.proofs.lemmas.Bool.{lt-ltb}
-use Rattle.std.proofs.lemmas.Bool.Decides.{nat_tests}
 use Rattle.vm_model.specs.declared.calls.Call.TheVariants as call
 use Rattle.trace_text.specs.Grammar.{is_cpu}
 use Rattle.trace_text.specs.Reading.{cpus_of}
 use Rattle.trace_text.specs.Lines.{MapRam}
-use Rattle.trace_text.proofs.NamedLines.{map_ram_lines, is_named_text, no_named_text, named_refused, named_stands}
+use Rattle.trace_text.proofs.NamedLines.{map_ram_lines, no_cpu, is_named_text, no_named_text, named_refused, named_stands}
 use Rattle.trace_text.proofs.call_lines.read_map_ram.Goals as goal
-
-no_cpu : (cpu count : ℕ) → nat_lt cpu count ≡ true → count ≤ cpu → ⊥
-no_cpu cpu count h high = grind (arith, nat_tests)
 
 pub returns-in_default : goal.returns-in_default
 returns-in_default c = λ r held. no_named_text c.args.progress.now r (codes "map_ram") c.args.text.now MapRam call.MapRam (is_cpu r) (map_ram_lines r) c.in_default.ensures.none

@@ -2,7 +2,7 @@ use Rattle.std.proofs.Common.{◌≡◌, codes, subst, sym, refl, [], ap, rules}
 use Rattle.std.proofs.lemmas.Slice.Eq.{bytes_eq-Decides}
 use Rattle.trace_text.specs.Built.{is_built}
 use Rattle.trace_text.specs.Held.{Steps}
-use Rattle.trace_text.proofs.OtherLines.{steps_header}
+use Rattle.trace_text.proofs.OtherLines.{steps_late_if_ok}
 use Rattle.trace_text.proofs.Pairs.{with_front}
 use Rattle.trace_text.proofs.Split.{split_at}
 use Rattle.trace_text.proofs.Turns.{steps_in, steps_if_ok, steps_if_ok_alone}
@@ -47,7 +47,7 @@ returns-then-eq-2 c = λ r held.
     steps_in is_built (codes "end") [] r c.args.line.now c.read_end.result c.read_end.new.progress refl (ap (split_at 32) same) (subst (λ t. Steps r t c.read_end.result c.read_end.new.progress) (sym same) (c.read_end.ensures r held))
 
 pub returns : goal.returns
-returns c = λ r held. steps_header r c.args.line.now c.read_header_line.result c.read_header_line.new.progress
+returns c = steps_late_if_ok c.args.line.now c.read_object_line.result c.args.progress.now c.read_object_line.new.progress
     (record {
       vmalloc = c.in_default.ensures.cases;
       vfree = c.in_default-strip_prefix.ensures.cases;
@@ -59,4 +59,4 @@ returns c = λ r held. steps_header r c.args.line.now c.read_header_line.result 
       group = c.in_default-strip_prefix-6.ensures.cases;
       end = search rules;
     })
-    (c.read_header_line.ensures r held)
+    c.read_object_line.ensures

@@ -1,4 +1,4 @@
-use Rattle.std.proofs.Common.{◌≡◌, ◌*◌, ◌%◌, ◌/◌, max, sym, ap, ◌∙◌}
+use Rattle.std.proofs.Common.{◌*◌, ◌%◌, ◌/◌, sym, ap, ◌∙◌}
 use Rattle.trace_text.proofs.NamesKept.{slot_of-is}
 use Rattle.trace_text.proofs.names.slot_of.Goals as goal
 

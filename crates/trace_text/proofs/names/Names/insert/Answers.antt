@@ -1,11 +1,10 @@
-use Rattle.std.proofs.Common.{◌≡◌, ◌∙◌, ◌<◌, ◌≤◌, if◌then◌else◌, ℕ, List, not, is_some, length, get_or, ap, sym, subst, arith, Option, Some, None}
+use Rattle.std.proofs.Common.{◌≡◌, ◌∙◌, ◌<◌, ◌≤◌, if◌then◌else◌, ℕ, List, not, is_some, length, ap, sym, subst, arith, Option, Some, None}
 use Rattle.std.specs.Str.{bytes_eq}
 use Rattle.std.specs.BTreeMap.{Updates}
 use Rattle.std.specs.Ordering.{nat_cmp}
-use Rattle.vm_model.specs.Words.{is_name}
 use Rattle.trace_text.specs.declared.names.Kept.{Kept}
 use Rattle.trace_text.specs.Names.{NameTable, number_of, slot_of, place_in_rest, place_by, place_of}
-use Rattle.trace_text.proofs.NamesKept.{table, slot_in, read_slot, told, flipped, put_slot, table_slot, put_in_rest, table_with_rest, at_other, at_own, slot_of-below}
+use Rattle.trace_text.proofs.NamesKept.{table, read_slot, told, flipped, put_slot, table_slot, put_in_rest, table_with_rest, at_other, at_own, slot_of-below}
 use Rattle.trace_text.proofs.names.Names.insert.Goals as goal
 
 -- the slot of a number lies among those that were made

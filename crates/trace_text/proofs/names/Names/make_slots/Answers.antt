@@ -1,6 +1,5 @@
-use Rattle.std.proofs.Common.{◌≡◌, ◌∙◌, ap, sym, [], List, Option, length, arith, replicate, None, rules, max}
+use Rattle.std.proofs.Common.{◌≡◌, ◌∙◌, ap, sym, [], arith, replicate, None, rules}
 use Rattle.std.proofs.lemmas.Bool.Decides.{nat_tests}
-use Rattle.trace_text.specs.declared.names.Kept.{Kept}
 use Rattle.trace_text.specs.Names.{NameTable, place_of}
 use Rattle.trace_text.proofs.NamesKept.{made_slots, table, no_slots}
 use Rattle.trace_text.proofs.names.Names.make_slots.Goals as goal
