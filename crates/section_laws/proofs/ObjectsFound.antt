@@ -1,5 +1,5 @@
 -- An object of the chunks is the one that is found at its place.
-use Rattle.std.proofs.Common.{◌≡◌, ℕ, ◌==◌, List, Some, flat_map, ap, sym, ◌∙◌}
+use Rattle.std.proofs.Common.{◌≡◌, ℕ, ◌==◌, List, Some, flat_map, ap, ◌∙◌}
 use Rattle.vm_model.specs.Setup.{Setup}
 use Rattle.vm_model.specs.PlainMap.{Chunk, Object, Life}
 use Rattle.vm_model.specs.Chunks.{ObjectAt, chunks_numbered, find_object}
