@@ -2,6 +2,7 @@ pub mod Moved
 pub mod FreeSections
 pub mod PageSections
 pub mod BlockSections
+pub mod ChunkSections
 pub mod Counted
 pub mod LawfulCallers
 pub mod NextParts

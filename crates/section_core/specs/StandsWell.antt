@@ -121,7 +121,7 @@ IsAmountWell (Adding at serial cpu index amount) = IsWithin most_amount amount
 IsAmountWell _ = Unit {0}
 
 pub record AreSmallSums (p : Place) (cells : List ℤ) : Type 0 where
-  pub cells : (i : ℕ) (z : ℤ) → slice_get cells i ≡ Some z → IsWithin most_word z
+  pub words : (i : ℕ) (z : ℤ) → slice_get cells i ≡ Some z → IsWithin most_word z
   pub amount : IsAmountWell p
 
 -- the same by region
