@@ -1,11 +1,13 @@
 -- What callers carry beside their places, from one place to the next.
-use Rattle.std.proofs.Common.{◌≡◌, ℕ, suc, ◌≤◌, Bool, true, false, nat_lt, if◌then◌else◌, All, List, [], ◌∷◌, ◌++◌, length, Option, Some, None, option_to_list, refl, arith, length-append}
+use Rattle.std.proofs.Common.{◌≡◌, ℕ, suc, ◌+◌, ◌≤◌, map, slice_get, Bool, true, false, nat_lt, if◌then◌else◌, All, List, [], ◌∷◌, ◌++◌, length, Option, Some, None, option_to_list, refl, arith, length-append}
 use Rattle.std.proofs.lemmas.Bool.Decides.{nat_tests}
-use Rattle.std.proofs.lemmas.List.Elements.{All-append}
+use Rattle.std.proofs.lemmas.List.Elements.{All-append, All-nil, All-cons}
 use Rattle.vm_model.specs.declared.areas.Span.{Span}
 use Rattle.vm_model.specs.declared.calls.Reply.TheVariants as reply
-use Rattle.vm_model.specs.Space.{hull}
-use Rattle.vm_model.specs.Setup.{Setup, cpus}
+use Rattle.vm_model.specs.Space.{span, hull}
+use Rattle.vm_model.specs.Setup.{Setup, cpus, groups_at}
+use Rattle.vm_model.specs.Rules.{IsSetup}
+use Rattle.lazy_purge.specs.Waits.{HasPage}
 use Rattle.vm_model.specs.Places as model
 use Rattle.vm_model.specs.Places.{Then, ReplyWith}
 use Rattle.vm_model.specs.Next.{Go, after_fragments}
@@ -57,3 +59,11 @@ fragments_more c cpu n gone extra after many is = fragments_then c cpu n gone ex
 pub goes_to : (b : Bool) (p q : model.Place) → Go (if b then p else q) ≡ (if b then Go p else Go q)
 goes_to true p q = refl
 goes_to false p q = refl
+
+-- each span of a chunk's groups has a page
+pub groups_have_pages : (c : Setup) → IsSetup c → (base : ℕ) → All HasPage (groups_at c base)
+groups_have_pages c is base = each c.groups is.groups.pages
+  where
+    each : (groups : List Span) → ((i : ℕ) (s : Span) → slice_get groups i ≡ Some s → 1 ≤ s.pages) → All HasPage (map (λ (g : Span). span (base + g.start) g.pages) groups)
+    each [] pages = All-nil HasPage
+    each (g ∷ groups) pages = All-cons HasPage (span (base + g.start) g.pages) (map (λ (h : Span). span (base + h.start) h.pages) groups) (pages 0 g refl) (each groups (λ i s at. pages (suc i) s at))

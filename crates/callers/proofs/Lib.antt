@@ -1,3 +1,5 @@
+pub mod Lookups
+pub mod FreedTold
 pub mod AnswersGiven
 pub mod Hulls
 pub mod CarriedLists

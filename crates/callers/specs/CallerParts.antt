@@ -3,7 +3,7 @@ use Rattle.std.specs.Prelude.{◌≡◌, ℕ, zero, suc, ◌+◌, ◌-◌, ◌<�
 use Rattle.std.specs.Arc.{arc_value}
 use Rattle.vm_model.specs.declared.calls.Call.{Call}
 use Rattle.unit_layout.specs.Config.{setup_of}
-use Rattle.vm_model.specs.Setup.{Setup, cpus, groups_at}
+use Rattle.vm_model.specs.Setup.{cpus}
 use Rattle.vm_model.specs.Rules.{IsSetup}
 use Rattle.vm_model.specs.Calls as model
 use Rattle.vm_model.specs.History as history

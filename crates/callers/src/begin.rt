@@ -25,6 +25,12 @@ const MOST_OBJECT_ALIGN: u64 = 4096;
 /// The least bytes of a per-CPU object, and its least alignment: the kernel's `PCPU_MIN_ALLOC_SIZE`.
 const LEAST_OBJECT: u64 = 4;
 
+/// The outcome of a call that is not answered: it made nothing.
+const NO_OUTCOME: Outcome = Outcome {
+    made: Made::Nothing,
+    freed: false,
+};
+
 /// Whether an area may have this alignment in bytes.
 fn is_alignment(align: u64) -> bool
     ensures { result ≡ is_power_to 32 align }
@@ -147,15 +153,17 @@ fn outcome_of(opening: &[Answered], own: &[Outcome], target: Target) -> Outcome
     ensures freed { (answers : List model.Answered) → MadeBy own.now answers → 1 ≤ target.call → made_of result.made ≢ places.MadeNothing → result.freed ≡ was_freed (answers_in (map answer_of opening.now) answers target) target.call }
 {
     let index = (target.call as usize).saturating_sub(1);
-    let outcome = if target.opening {
-        opening.get(index).map(|answered| answered.outcome)
+    if target.opening {
+        match opening.get(index) {
+            Some(answered) => answered.outcome,
+            None => NO_OUTCOME,
+        }
     } else {
-        own.get(index).copied()
-    };
-    outcome.unwrap_or(Outcome {
-        made: Made::Nothing,
-        freed: false,
-    })
+        match own.get(index) {
+            Some(outcome) => *outcome,
+            None => NO_OUTCOME,
+        }
+    }
 }
 
 /// Where a `vfree` begins: at the area that its target's call made, if that made one.

@@ -7,7 +7,7 @@ ghost use Rattle.vm_model.specs.Space.{HasEnd};
 ghost use Rattle.vm_model.specs.Places as model;
 ghost use Rattle.vm_model.specs.Places.{ReplyWith};
 ghost use Rattle.vm_model.specs.Next.{after_fragments};
-ghost use Rattle.callers.specs.CarriedPlaces.{Carried, place_of, then_of, IsSized, IsSizedAfter};
+ghost use Rattle.callers.specs.CarriedPlaces.{Carried, place_of, then_of, filled_by, IsSized, IsSizedAfter};
 ghost use Rattle.callers.specs.CallerParts.{HasCall};
 
 use crate::place::{After, Place};
@@ -45,6 +45,7 @@ pub fn after_fragments(cpu: u8, cpus: u16, gone: &[u32], extra: Option<Span>, af
     requires sized { IsSizedAfter after }
     ensures place { (carried : Carried) → carried.gone ≡ gone.now → place_of result carried ≡ (if nat_lt (suc cpu) cpus then model.PurgeFragmenting (suc cpu) gone.now extra (then_of after) else after_fragments gone.now extra (then_of after)) }
     ensures sized { IsSized result }
+    ensures unfilled { filled_by result ≡ 0 }
     ensures at_hand { (answered : ℕ) (calls : List Call) → answered < length calls → HasCall result answered calls }
 {
     if u16::from(cpu) + 1 < cpus {
@@ -66,6 +67,7 @@ pub fn after_range(cpu: u8, cpus: u16, ranges: &[Span]) -> Place
     requires ends { All HasEnd ranges.now }
     ensures place { (carried : Carried) → carried.ranges ≡ ranges.now → place_of result carried ≡ (if nat_lt (suc cpu) cpus then model.LookingAtDirty (suc cpu) ranges.now else model.PurgeTaking (space.hull ranges.now) (ReplyWith reply.Done)) }
     ensures sized { IsSized result }
+    ensures unfilled { filled_by result ≡ 0 }
     ensures at_hand { (answered : ℕ) (calls : List Call) → answered < length calls → HasCall result answered calls }
 {
     if u16::from(cpu) + 1 < cpus {

@@ -426,7 +426,10 @@ fn note_free(outcomes: &mut [Outcome], calls: &[Call], reply: Reply)
     requires sound { AreSound calls.now }
     ensures freed { outcomes.new ≡ after_reply (slice_get calls.now (length outcomes.old)) reply outcomes.old }
 {
-    let (Some(Call::FreePercpu { target }), Reply::Done) = (calls.get(outcomes.len()), reply) else {
+    let Some(call) = calls.get(outcomes.len()) else {
+        return;
+    };
+    let (Call::FreePercpu { target }, Reply::Done) = (*call, reply) else {
         return;
     };
     outcomes[target.call as usize - 1].freed = true;

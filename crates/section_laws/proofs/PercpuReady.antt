@@ -1,5 +1,5 @@
 -- What the section over chunks and objects asks for holds at its caller's place.
-use Rattle.std.proofs.Common.{◌≡◌, ℕ, suc, ◌+◌, ◌<◌, ◌≤◌, true, List, [], ◌∷◌, length, slice_get, Some, refl, ap, sym, subst, arith, length-append}
+use Rattle.std.proofs.Common.{◌≡◌, ℕ, suc, ◌+◌, ◌<◌, ◌≤◌, true, List, [], ◌∷◌, length, slice_get, Some, refl, ap, sym, ◌∙◌, subst, arith, length-append}
 use Rattle.vm_model.specs.declared.calls.Call.{Call}
 use Rattle.vm_model.specs.Setup.{Setup}
 use Rattle.vm_model.specs.PlainMap.{PlainMap, Chunk, InHand}
@@ -15,12 +15,13 @@ use Rattle.map_laws.proofs.EndProofs.{histories_short}
 use Rattle.map_laws.proofs.MapLegal.{IsReady}
 use Rattle.map_laws.proofs.ObjectFacts.{IsObjectAt}
 use Rattle.map_laws.proofs.Places.{IsObjectSize, IsProper}
+use Rattle.map_laws.proofs.Sizes.{AreSized, sized_section}
 use Rattle.map_laws.proofs.TraceWorlds.{proper_here}
 use Rattle.call_laws.specs.Room.{may_place}
 use Rattle.call_laws.proofs.Rooms.{room_counts}
 use Rattle.section_laws.specs.Lawful.{IsRunning}
 use Rattle.section_laws.specs.Needs.{CanBeAsked, IsPercpuReady}
-use Rattle.section_laws.specs.Laws.{PercpuIsReady, NumbersAreLeft}
+use Rattle.section_laws.specs.Laws.{PercpuIsReady, NumbersAreLeft, ChunksHaveUnits}
 use Rattle.section_laws.proofs.OneState.{in_one_state}
 use Rattle.section_laws.proofs.PlacesListed.{IsListed, IsObjectAlign}
 use Rattle.section_laws.proofs.Callers.{framed, world, has_object, setup_here, caller_here, ready, hand, listed}
@@ -50,6 +51,19 @@ few_lasts c calls = record {
 
 few_numbers : (c : Setup) (opening : List Call) (calls : List (List Call)) (w : World) → IsReached c opening calls w → AreFewNumbers w
 few_numbers c opening calls w reached = (legally_lasts c calls AreFewNumbers (few_lasts c calls) opening (omega arith, omega arith) w reached).1
+
+-- Chunks have the pages of the units.
+
+sized_lasts : (c : Setup) (calls : List (List Call)) → IsLegallyLasting c calls (λ w. AreSized c w.map.chunks)
+sized_lasts c calls = record {
+  steps = λ w k l s framed sized step.
+      let own = framed.own k l step.step.here in
+      subst (λ d. AreSized d (effect_as l.setup w.map l.caller s).chunks) own.setup (sized_section l.setup w.map l.caller s (subst (λ d. AreSized d w.map.chunks) (sym own.setup) sized));
+  joins = λ w framed one sized over. sized;
+}
+
+pub sized_reached : (c : Setup) (opening : List Call) (calls : List (List Call)) (w : World) → IsReached c opening calls w → AreSized c w.map.chunks
+sized_reached c opening calls w reached = (legally_lasts c calls (λ w. AreSized c w.map.chunks) (sized_lasts c calls) opening (record { each = λ i h at. cc }) w reached).1
 
 module _ (c : Setup) (opening : List Call) (calls : List (List Call)) (w : World) (is : IsRunning c opening calls w) (k : ℕ) (l : Local) (here : slice_get w.locals k ≡ Some l) where
   room : may_place l.place ≡ true → 1 ≤ w.map.room
@@ -98,6 +112,14 @@ percpu_ready l chunks object chunk room st =
     (subst (λ x. IsPercpuReady l.setup l.caller l.place s.w.map.chunks x chunk room) (sym same_object)
     (subst (λ x. IsPercpuReady l.setup l.caller l.place s.w.map.chunks s.w.map.next_object x room) (sym same_chunk)
     (subst (λ x. IsPercpuReady l.setup l.caller l.place s.w.map.chunks s.w.map.next_object s.w.map.next_chunk x) (sym same_room) (percpu_here s.c s.opening s.calls s.w s.running s.k l s.here))))
+
+pub units_there : ChunksHaveUnits
+units_there l chunks object chunk room st =
+    let s = in_one_state l (Percpu chunks object chunk room) st in
+    let same : chunks ≡ s.w.map.chunks = ap chunks_in s.own in
+    let sized = sized_reached s.c s.opening s.calls s.w s.running.reached in
+    let setup : l.setup ≡ s.c = setup_here s.c s.opening s.calls s.w s.running s.k l s.here in
+    λ i h at. sized.each i h (sym (ap (λ xs. slice_get xs i) same) ∙ at) ∙ ap (λ (d : Setup). d.unit_pages) (sym setup)
 
 pub numbers_left : NumbersAreLeft
 numbers_left l chunks object chunk room st =

@@ -1,5 +1,5 @@
 -- What stands in one state of a run with a caller has what its section asks for.
-use Rattle.std.specs.Prelude.{ℕ, ◌+◌, ◌^◌, ◌<◌, Bool, List, Option, ℤ}
+use Rattle.std.specs.Prelude.{◌≡◌, ℕ, ◌+◌, ◌^◌, ◌<◌, Bool, List, length, slice_get, Option, Some, ℤ}
 use Rattle.vm_model.specs.declared.areas.Span.{Span}
 use Rattle.vm_model.specs.declared.areas.Area.{Area}
 use Rattle.vm_model.specs.PlainMap.{Chunk}
@@ -24,3 +24,7 @@ PercpuIsReady = (l : Local) (chunks : List Chunk) (object chunk room : ℕ) → 
 -- there are serials left for objects, and numbers for chunks
 abbrev pub NumbersAreLeft : Type 0
 NumbersAreLeft = (l : Local) (chunks : List Chunk) (object chunk room : ℕ) → StandTogether wants IsLawful l (Percpu chunks object chunk room) → (object + 1 < 2 ^ 32) × (chunk + 1 < 2 ^ 32)
+
+-- each chunk tells of each page of a unit whether it is populated
+abbrev pub ChunksHaveUnits : Type 0
+ChunksHaveUnits = (l : Local) (chunks : List Chunk) (object chunk room : ℕ) → StandTogether wants IsLawful l (Percpu chunks object chunk room) → (i : ℕ) (h : Chunk) → slice_get chunks i ≡ Some h → length h.populated ≡ l.setup.unit_pages

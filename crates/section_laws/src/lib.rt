@@ -21,7 +21,7 @@ pub fn turns()
 {}
 
 ghost use Rattle.section_laws.specs.Words.{CellsAreSmall, AmountsAreSmall};
-ghost use Rattle.section_laws.specs.Laws.{PagesAreReady, AreasAreReady, WaitsAreReady, PercpuIsReady, NumbersAreLeft};
+ghost use Rattle.section_laws.specs.Laws.{PagesAreReady, AreasAreReady, WaitsAreReady, PercpuIsReady, NumbersAreLeft, ChunksHaveUnits};
 
 /// What stands in one state of a run with a caller, the page map, the live areas, the waiting spans or the chunks, has what
 /// the caller's section asks for.
@@ -31,6 +31,7 @@ pub fn sections()
     ensures waits { WaitsAreReady }
     ensures percpu { PercpuIsReady }
     ensures numbers { NumbersAreLeft }
+    ensures units { ChunksHaveUnits }
     ensures cells { CellsAreSmall }
     ensures amounts { AmountsAreSmall }
 {}

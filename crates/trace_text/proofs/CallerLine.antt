@@ -39,6 +39,7 @@ pub record Opens (p q : Progress) (n : ℕ) : Type 0 where
   pub opening_names : q.opening_names ≡ (if p.caller == 0 then p.names else p.opening_names)
   pub calls : q.calls.items ≡ []
   pub closed : q.closed.items ≡ p.closed.items ++ p.calls.items ∷ replicate (n - 1 - p.caller) []
+  pub counts : q.counts.items ≡ p.counts.items
   pub lines : q.lines ≡ p.lines
   pub picks : q.picks.items ≡ p.picks.items
 
@@ -62,7 +63,7 @@ held_after_caller p q r n held opens above among = record {
   calls = opens.calls ∙ sym (held.uncalled n above);
   uncalled = λ caller beyond. held.uncalled caller (omega arith);
   count = opens.lines ∙ held.count;
-  counts = held.counts;
+  counts = opens.counts ∙ held.counts;
   picks = opens.picks ∙ held.picks;
   names = λ name. rw (opens.names name, none_is (find_name r n name) (held.unnamed n name above)) refl;
   opening_names = λ opened name. ap (λ places. option_map (λ place. suc place) (place_of places name)) opens.opening_names ∙ kept_names p r held name (cases_eq p.caller 0);

@@ -13,7 +13,8 @@ use Rattle.trace_text.specs.Grammar.{aims, follows, has_room, has_word, is_cpu, 
 use Rattle.trace_text.specs.declared.progress.Progress.{Progress}
 use Rattle.trace_text.specs.Held.{Steps, has_size}
 use Rattle.trace_text.proofs.Split.{lacks-clean, same_cut}
-use Rattle.trace_text.proofs.Guess.{amount, amount-signed_decimal, clean-decimal, clean-target, nth, number, small}
+use Rattle.trace_text.proofs.Guess.{amount, clean-target, nth, number, small}
+use Rattle.trace_text.proofs.Amounts.{same_pair_and_amount}
 use Rattle.trace_text.proofs.NamedLines.{and_assoc}
 use Rattle.trace_text.proofs.TargetLines.{TargetWord, AreTargetLines, IsTargetText, no_target_text}
 
@@ -76,22 +77,6 @@ add_lines r = record {
 -- the fields behind a target are those behind any other text without spaces
 behind_target : (aim more rest : List ℕ) (t : TargetName) → lacks 32 aim ≡ true → is_name t.name ≡ true → aim ++ 32 ∷ more ≡ target_text t ++ 32 ∷ rest → (aim ≡ target_text t) × (more ≡ rest)
 behind_target aim more rest t clean named e = same_cut 32 aim (target_text t) more rest clean (lacks-clean 32 (target_text t) (omega arith) (clean-target t named)) e
-
-same_amount : (y z : ℤ) → is_amount y ≡ true → is_amount z ≡ true → signed_decimal y ≡ signed_decimal z → y ≡ z
-same_amount y z h k e = sym (amount-signed_decimal y h) ∙ ap amount e ∙ amount-signed_decimal z k
-
-cut_number : (a b : ℕ) (x y : List ℕ) → is_number a ≡ true → is_number b ≡ true → decimal a ++ 32 ∷ x ≡ decimal b ++ 32 ∷ y → (a ≡ b) × (x ≡ y)
-cut_number a b x y h k e =
-    let parts = same_cut 32 (decimal a) (decimal b) x y (lacks-clean 32 (decimal a) (omega arith) (clean-decimal a h)) (lacks-clean 32 (decimal b) (omega arith) (clean-decimal b k)) e in
-    (decimal_injective a b (small a h) (small b k) parts.0, parts.1)
-
--- one text is two numbers and an amount in one way
-pub same_pair_and_amount : (a b d e : ℕ) (y z : ℤ) → is_number a ≡ true → is_number b ≡ true → is_amount y ≡ true → is_number d ≡ true → is_number e ≡ true → is_amount z ≡ true
-    → fields (decimal a ∷ decimal b ∷ signed_decimal y ∷ []) ≡ fields (decimal d ∷ decimal e ∷ signed_decimal z ∷ []) → (a ≡ d) × (b ≡ e) × (y ≡ z)
-same_pair_and_amount a b d e y z h k m h' k' m' f =
-    let first = cut_number a d (decimal b ++ 32 ∷ signed_decimal y) (decimal e ++ 32 ∷ signed_decimal z) h h' f in
-    let second = cut_number b e (signed_decimal y) (signed_decimal z) k k' first.1 in
-    (first.0, second.0, same_amount y z m m' second.1)
 
 same_added : (y x : Added) → y.cpu ≡ x.cpu → y.index ≡ x.index → y.amount ≡ x.amount → y ≡ x
 same_added y x a b d =

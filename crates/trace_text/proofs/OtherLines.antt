@@ -5,10 +5,10 @@ use Rattle.std.specs.List.{list_all}
 use Rattle.std.specs.Str.{bytes_eq}
 use Rattle.trace_text.specs.declared.progress.Progress.{Progress}
 use Rattle.vm_model.specs.Words.{fields, within, is_number}
-use Rattle.trace_text.specs.Lines.{Line, Version, Space, Frames, Lazy, Blocks, Units, GroupOf, Callers, Caller, Vmalloc, Vfree, MapRam, UnmapRam, UnmapAliases, AllocPercpu, AllocAtomic, FreePercpu, Add, Sum, Balance, Order, End, spelled, word_of}
+use Rattle.trace_text.specs.Lines.{Line, Version, Space, Frames, Lazy, Blocks, Units, GroupOf, Callers, Counters, Caller, Vmalloc, Vfree, MapRam, UnmapRam, UnmapAliases, AllocPercpu, AllocAtomic, FreePercpu, Add, Sum, Balance, Count, Order, End, spelled, word_of}
 use Rattle.trace_text.specs.Reading.{Reading}
 use Rattle.trace_text.specs.Grammar.{stands, may_stand, follows}
-use Rattle.trace_text.specs.Built.{is_built, is_object_or_header, one_of, words_of_header}
+use Rattle.trace_text.specs.Built.{is_built, is_percpu_or_header, one_of, words_of_header}
 use Rattle.trace_text.specs.Held.{IsHeld, StepsIn}
 
 pub record BeginsNoHeader (text : List ℕ) : Type 0 where
@@ -18,6 +18,7 @@ pub record BeginsNoHeader (text : List ℕ) : Type 0 where
   pub lazy : bytes_eq (take 5 text) (codes "lazy ") ≡ false
   pub space : bytes_eq (take 6 text) (codes "space ") ≡ false
   pub unit : bytes_eq (take 5 text) (codes "unit ") ≡ false
+  pub counters : bytes_eq (take 9 text) (codes "counters ") ≡ false
   pub version : bytes_eq text (codes "vmtrace 1") ≡ false
 
 pub no_header_line : (r : Reading) (text : List ℕ) (l : Line) → stands (one_of words_of_header) r l ≡ true → text ≡ fields (spelled l) → BeginsNoHeader text → ⊥
@@ -28,34 +29,38 @@ no_header_line r text (Lazy pages) s e other = let begins = other.lazy in let ow
 no_header_line r text (Blocks pages part_limit) s e other = let begins = other.block in let own = ap (λ t. bytes_eq (take 6 t) (codes "block ")) e in cc
 no_header_line r text (Units pages atom) s e other = let begins = other.unit in let own = ap (λ t. bytes_eq (take 5 t) (codes "unit ")) e in cc
 no_header_line r text (Callers callers) s e other = let begins = other.callers in let own = ap (λ t. bytes_eq (take 8 t) (codes "callers ")) e in cc
+no_header_line r text (Counters counters batch) s e other = let begins = other.counters in let own = ap (λ t. bytes_eq (take 9 t) (codes "counters ")) e in cc
 no_header_line r text _ s e other = cc
 
-pub record BeginsNoObject (text : List ℕ) : Type 0 where
+pub record BeginsNoPercpu (text : List ℕ) : Type 0 where
   pub alloc_percpu : bytes_eq (take 13 text) (codes "alloc_percpu ") ≡ false
   pub alloc_atomic : bytes_eq (take 13 text) (codes "alloc_atomic ") ≡ false
   pub free_percpu : bytes_eq (take 12 text) (codes "free_percpu ") ≡ false
   pub add : bytes_eq (take 4 text) (codes "add ") ≡ false
   pub sum : bytes_eq (take 4 text) (codes "sum ") ≡ false
+  pub count : bytes_eq (take 6 text) (codes "count ") ≡ false
   pub balance : bytes_eq text (codes "balance") ≡ false
 
-no_object_line : (r : Reading) (text : List ℕ) (l : Line) → stands is_object_or_header r l ≡ true → text ≡ fields (spelled l) → BeginsNoObject text → ((m : Line) → stands (one_of words_of_header) r m ≡ true → text ≢ fields (spelled m)) → ⊥
-no_object_line r text Version s e other none = none Version s e
-no_object_line r text (Space pages) s e other none = none (Space pages) s e
-no_object_line r text (Frames frames) s e other none = none (Frames frames) s e
-no_object_line r text (Lazy pages) s e other none = none (Lazy pages) s e
-no_object_line r text (Blocks pages part_limit) s e other none = none (Blocks pages part_limit) s e
-no_object_line r text (Units pages atom) s e other none = none (Units pages atom) s e
-no_object_line r text (Callers callers) s e other none = none (Callers callers) s e
-no_object_line r text (AllocPercpu name bytes align) s e other none = let begins = other.alloc_percpu in let own = ap (λ t. bytes_eq (take 13 t) (codes "alloc_percpu ")) e in cc
-no_object_line r text (AllocAtomic name bytes align) s e other none = let begins = other.alloc_atomic in let own = ap (λ t. bytes_eq (take 13 t) (codes "alloc_atomic ")) e in cc
-no_object_line r text (FreePercpu target) s e other none = let begins = other.free_percpu in let own = ap (λ t. bytes_eq (take 12 t) (codes "free_percpu ")) e in cc
-no_object_line r text (Add target cpu index amount) s e other none = let begins = other.add in let own = ap (λ t. bytes_eq (take 4 t) (codes "add ")) e in cc
-no_object_line r text (Sum target index) s e other none = let begins = other.sum in let own = ap (λ t. bytes_eq (take 4 t) (codes "sum ")) e in cc
-no_object_line r text Balance s e other none = let begins = other.balance in let own = ap (λ t. bytes_eq t (codes "balance")) e in cc
-no_object_line r text _ s e other none = cc
+no_percpu_line : (r : Reading) (text : List ℕ) (l : Line) → stands is_percpu_or_header r l ≡ true → text ≡ fields (spelled l) → BeginsNoPercpu text → ((m : Line) → stands (one_of words_of_header) r m ≡ true → text ≢ fields (spelled m)) → ⊥
+no_percpu_line r text Version s e other none = none Version s e
+no_percpu_line r text (Space pages) s e other none = none (Space pages) s e
+no_percpu_line r text (Frames frames) s e other none = none (Frames frames) s e
+no_percpu_line r text (Lazy pages) s e other none = none (Lazy pages) s e
+no_percpu_line r text (Blocks pages part_limit) s e other none = none (Blocks pages part_limit) s e
+no_percpu_line r text (Units pages atom) s e other none = none (Units pages atom) s e
+no_percpu_line r text (Callers callers) s e other none = none (Callers callers) s e
+no_percpu_line r text (Counters counters batch) s e other none = none (Counters counters batch) s e
+no_percpu_line r text (AllocPercpu name bytes align) s e other none = let begins = other.alloc_percpu in let own = ap (λ t. bytes_eq (take 13 t) (codes "alloc_percpu ")) e in cc
+no_percpu_line r text (AllocAtomic name bytes align) s e other none = let begins = other.alloc_atomic in let own = ap (λ t. bytes_eq (take 13 t) (codes "alloc_atomic ")) e in cc
+no_percpu_line r text (FreePercpu target) s e other none = let begins = other.free_percpu in let own = ap (λ t. bytes_eq (take 12 t) (codes "free_percpu ")) e in cc
+no_percpu_line r text (Add target cpu index amount) s e other none = let begins = other.add in let own = ap (λ t. bytes_eq (take 4 t) (codes "add ")) e in cc
+no_percpu_line r text (Sum target index) s e other none = let begins = other.sum in let own = ap (λ t. bytes_eq (take 4 t) (codes "sum ")) e in cc
+no_percpu_line r text (Count counter cpu amount) s e other none = let begins = other.count in let own = ap (λ t. bytes_eq (take 6 t) (codes "count ")) e in cc
+no_percpu_line r text Balance s e other none = let begins = other.balance in let own = ap (λ t. bytes_eq t (codes "balance")) e in cc
+no_percpu_line r text _ s e other none = cc
 
 -- the words of the header are among those of either kind
-header_stands : (r : Reading) (l : Line) → stands (one_of words_of_header) r l ≡ true → stands is_object_or_header r l ≡ true
+header_stands : (r : Reading) (l : Line) → stands (one_of words_of_header) r l ≡ true → stands is_percpu_or_header r l ≡ true
 header_stands r Version s = s
 header_stands r (Space pages) s = s
 header_stands r (Frames frames) s = s
@@ -63,12 +68,13 @@ header_stands r (Lazy pages) s = s
 header_stands r (Blocks pages part_limit) s = s
 header_stands r (Units pages atom) s = s
 header_stands r (Callers callers) s = s
+header_stands r (Counters counters batch) s = s
 header_stands r _ s = cc
 
--- where a text begins no line of objects, a line with this text is one of the header
-pub steps_header : (r : Reading) (text : List ℕ) (b : Bool) (q : Progress) → BeginsNoObject text → StepsIn (one_of words_of_header) r text b q → StepsIn is_object_or_header r text b q
+-- where a text begins no line of per-CPU objects or counters, a line with this text is one of the header
+pub steps_header : (r : Reading) (text : List ℕ) (b : Bool) (q : Progress) → BeginsNoPercpu text → StepsIn (one_of words_of_header) r text b q → StepsIn is_percpu_or_header r text b q
 steps_header r text true q other (l, e, s, held) = (l, e, header_stands r l s, held)
-steps_header r text false q other none = λ l s e. no_object_line r text l s e other none
+steps_header r text false q other none = λ l s e. no_percpu_line r text l s e other none
 
 pub record BeginsNoCall (text : List ℕ) : Type 0 where
   pub vmalloc : bytes_eq (take 8 text) (codes "vmalloc ") ≡ false
@@ -87,7 +93,7 @@ no_order r s =
     let some = (and_parts (within 1 64 0) (list_all (within 1 r.header.callers) []) rules).0 in
     cc
 
-no_line : (r : Reading) (text : List ℕ) (l : Line) → stands is_built r l ≡ true → text ≡ fields (spelled l) → BeginsNoCall text → ((m : Line) → stands is_object_or_header r m ≡ true → text ≢ fields (spelled m)) → ⊥
+no_line : (r : Reading) (text : List ℕ) (l : Line) → stands is_built r l ≡ true → text ≡ fields (spelled l) → BeginsNoCall text → ((m : Line) → stands is_percpu_or_header r m ≡ true → text ≢ fields (spelled m)) → ⊥
 no_line r text Version s e other none = none Version s e
 no_line r text (Space pages) s e other none = none (Space pages) s e
 no_line r text (Frames frames) s e other none = none (Frames frames) s e
@@ -96,6 +102,7 @@ no_line r text (Blocks pages part_limit) s e other none = none (Blocks pages par
 no_line r text (Units pages atom) s e other none = none (Units pages atom) s e
 no_line r text (GroupOf cpus offset) s e other none = let begins = other.group in let own = ap (λ t. bytes_eq (take 6 t) (codes "group ")) e in cc
 no_line r text (Callers callers) s e other none = none (Callers callers) s e
+no_line r text (Counters counters batch) s e other none = none (Counters counters batch) s e
 no_line r text (Caller caller) s e other none = let begins = other.caller in let own = ap (λ t. bytes_eq (take 7 t) (codes "caller ")) e in cc
 no_line r text (Vmalloc name bytes align) s e other none = let begins = other.vmalloc in let own = ap (λ t. bytes_eq (take 8 t) (codes "vmalloc ")) e in cc
 no_line r text (Vfree target) s e other none = let begins = other.vfree in let own = ap (λ t. bytes_eq (take 6 t) (codes "vfree ")) e in cc
@@ -110,11 +117,11 @@ no_line r text (AllocAtomic name bytes align) s e other none = none (AllocAtomic
 no_line r text (FreePercpu target) s e other none = none (FreePercpu target) s e
 no_line r text (Add target cpu index amount) s e other none = none (Add target cpu index amount) s e
 no_line r text (Sum target index) s e other none = none (Sum target index) s e
+no_line r text (Count counter cpu amount) s e other none = none (Count counter cpu amount) s e
 no_line r text Balance s e other none = none Balance s e
-no_line r text _ s e other none = cc
 
--- the words of objects and of the header are built
-late_stands : (r : Reading) (l : Line) → stands is_object_or_header r l ≡ true → stands is_built r l ≡ true
+-- the words of these and of the header are built
+late_stands : (r : Reading) (l : Line) → stands is_percpu_or_header r l ≡ true → stands is_built r l ≡ true
 late_stands r Version s = s
 late_stands r (Space pages) s = s
 late_stands r (Frames frames) s = s
@@ -122,21 +129,23 @@ late_stands r (Lazy pages) s = s
 late_stands r (Blocks pages part_limit) s = s
 late_stands r (Units pages atom) s = s
 late_stands r (Callers callers) s = s
+late_stands r (Counters counters batch) s = s
 late_stands r (AllocPercpu name bytes align) s = s
 late_stands r (AllocAtomic name bytes align) s = s
 late_stands r (FreePercpu target) s = s
 late_stands r (Add target cpu index amount) s = s
 late_stands r (Sum target index) s = s
+late_stands r (Count counter cpu amount) s = s
 late_stands r Balance s = s
 late_stands r _ s = cc
 
--- where a text begins no line of the other words, a line with this text is one of objects or of the header
-steps_late : (r : Reading) (text : List ℕ) (b : Bool) (q : Progress) → BeginsNoCall text → StepsIn is_object_or_header r text b q → StepsIn is_built r text b q
+-- where a text begins no line of the other words, a line with this text is one of these or of the header
+steps_late : (r : Reading) (text : List ℕ) (b : Bool) (q : Progress) → BeginsNoCall text → StepsIn is_percpu_or_header r text b q → StepsIn is_built r text b q
 steps_late r text true q other (l, e, s, held) = (l, e, late_stands r l s, held)
 steps_late r text false q other none = λ l s e. no_line r text l s e other none
 
 -- and where reading it may have met no memory
 pub steps_late_if_ok : {E : Type 0} (text : List ℕ) (result : Result Bool E) (p q : Progress) → BeginsNoCall text
-    → IfOk result (λ stood. (r : Reading) → IsHeld p r → StepsIn is_object_or_header r text stood q) → IfOk result (λ stood. (r : Reading) → IsHeld p r → StepsIn is_built r text stood q)
+    → IfOk result (λ stood. (r : Reading) → IsHeld p r → StepsIn is_percpu_or_header r text stood q) → IfOk result (λ stood. (r : Reading) → IsHeld p r → StepsIn is_built r text stood q)
 steps_late_if_ok {E = E} text (Ok stood) p q other steps = λ r held. steps_late r text stood q other (steps r held)
 steps_late_if_ok {E = E} text (Err failed) p q other steps = steps

@@ -4,7 +4,7 @@ use Rattle.std.proofs.lemmas.Bool.{and_parts, and_from}
 use Rattle.std.proofs.lemmas.Fmt.{decimal_injective}
 use Rattle.trace_text.specs.declared.progress.Progress.{Progress}
 use Rattle.vm_model.specs.Words.{fields, is_number}
-use Rattle.trace_text.specs.Lines.{Line, Blocks, Units, GroupOf, spelled}
+use Rattle.trace_text.specs.Lines.{Line, Blocks, Units, GroupOf, Counters, spelled}
 use Rattle.trace_text.specs.Reading.{Reading}
 use Rattle.trace_text.specs.Grammar.{may_stand, is_allowed, follows, read}
 use Rattle.trace_text.specs.Held.{IsHeld, Steps}
@@ -28,6 +28,9 @@ unit_lines r = record { clean = refl; guessed = λ fs. refl; spells = λ a b. re
 
 pub group_lines : (r : Reading) → ArePairLines r (codes "group") GroupOf 7 (λ a b. is_allowed r (GroupOf a b))
 group_lines r = record { clean = refl; guessed = λ fs. refl; spells = λ a b. refl; stands = λ a b. refl }
+
+pub counters_lines : (r : Reading) → ArePairLines r (codes "counters") Counters 9 (λ a b. is_allowed r (Counters a b))
+counters_lines r = record { clean = refl; guessed = λ fs. refl; spells = λ a b. refl; stands = λ a b. refl }
 
 -- one text is one pair
 pub same_pair : (text : List ℕ) (a b d e : ℕ) → is_number a ≡ true → is_number b ≡ true → is_number d ≡ true → is_number e ≡ true → text ≡ fields (decimal a ∷ decimal b ∷ []) → text ≡ fields (decimal d ∷ decimal e ∷ []) → (a ≡ d) × (b ≡ e)

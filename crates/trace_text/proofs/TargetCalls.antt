@@ -103,7 +103,7 @@ opening_target p r name calls held first = by_caller r.caller refl (ap (λ secti
         (ap (λ cs. call_at cs (place_of p.opening_names name)) (sym own)
         ∙ call_at-place (calls_of 0 r.calls) (place_of p.opening_names name) (find_name r 0 name) (held.opening_names opened name) (λ n e. named_call r 0 name n held.named e))
 
-length-calls_of : (caller : ℕ) (calls : List Made) → length (calls_of caller calls) ≤ length calls
+pub length-calls_of : (caller : ℕ) (calls : List Made) → length (calls_of caller calls) ≤ length calls
 length-calls_of caller [] = omega arith
 length-calls_of caller (m ∷ calls) = by_test (m.caller == caller) (length-calls_of caller calls)
   where

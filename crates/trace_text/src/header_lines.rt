@@ -7,7 +7,7 @@ ghost use Rattle.trace_text.specs.Grammar.{is_allowed};
 ghost use Rattle.trace_text.specs.Held.{IsHeld, Steps, StepsIn};
 
 use crate::fields::{number, pair};
-use crate::progress::{BLOCK, CALLERS, FRAMES, LAZY, Progress, SPACE, UNIT, VERSION};
+use crate::progress::{BLOCK, CALLERS, COUNTERS, FRAMES, LAZY, Progress, SPACE, UNIT, VERSION};
 
 /// How many pages a space may have.
 const MOST_PAGES: u64 = 1_048_576;
@@ -32,6 +32,12 @@ const MOST_ATOM: u64 = 64;
 
 /// How many callers there may be beside the opening.
 const MOST_CALLERS: u64 = 16;
+
+/// How many counters there may be.
+const MOST_COUNTERS: u64 = 256;
+
+/// The largest amount at which a counter's cell may move into its count.
+const MOST_BATCH: u64 = 1_000_000;
 
 /// Reads `vmtrace 1`.
 fn read_version(progress: &mut Progress) -> bool
@@ -165,6 +171,25 @@ fn read_callers(progress: &mut Progress, field: &[u8]) -> bool
     true
 }
 
+/// Reads `counters K T`, after its word.
+fn read_counters(progress: &mut Progress, text: &[u8]) -> bool
+    ensures { (r : Reading) → IsHeld progress.old r → Steps r (codes "counters " ++ text.now) result progress.new }
+{
+    let Some((counters, batch)) = pair(text) else {
+        return false;
+    };
+    if progress.rank < SPACE || COUNTERS <= progress.rank {
+        return false;
+    }
+    if MOST_COUNTERS < counters || batch < 1 || MOST_BATCH < batch {
+        return false;
+    }
+    progress.counters = counters as u16;
+    progress.batch = batch as u32;
+    progress.rank = COUNTERS;
+    true
+}
+
 /// Reads a line of the header other than that of a group, where one with this text stands.
 pub fn read_header_line(progress: &mut Progress, line: &[u8]) -> bool
     ensures { (r : Reading) → IsHeld progress.old r → StepsIn (one_of words_of_header) r line.now result progress.new }
@@ -186,6 +211,9 @@ pub fn read_header_line(progress: &mut Progress, line: &[u8]) -> bool
     }
     if let Some(text) = line.strip_prefix(b"unit ") {
         return read_unit(progress, text);
+    }
+    if let Some(text) = line.strip_prefix(b"counters ") {
+        return read_counters(progress, text);
     }
     if line == b"vmtrace 1".as_slice() {
         return read_version(progress);

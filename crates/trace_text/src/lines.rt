@@ -2,16 +2,20 @@
 ghost use Rattle.std.specs.Prelude.{◌≡◌, ◌++◌, ◌==◌, List, ℕ, None, if◌then◌else◌, IfOk, codes};
 ghost use Rattle.trace_text.specs.Reading.{Reading};
 ghost use Rattle.trace_text.specs.Names.{place_of};
-ghost use Rattle.trace_text.specs.Built.{is_built};
+ghost use Rattle.trace_text.specs.Built.{is_built, is_percpu_or_header};
 ghost use Rattle.trace_text.specs.Held.{IsHeld, Steps, StepsIn};
 
 use crate::call_lines::{
     read_map_ram, read_unmap_aliases, read_unmap_ram, read_vfree, read_vmalloc,
 };
+use crate::count_lines::read_count;
 use crate::fields::number;
 use crate::groups::read_group;
+use crate::header_lines::read_header_line;
 use crate::names::Names;
-use crate::object_lines::read_object_line;
+use crate::object_lines::{
+    read_add, read_alloc_atomic, read_alloc_percpu, read_balance, read_free_percpu, read_sum,
+};
 use crate::picks::read_picks;
 use crate::progress::{CALLS, END, ORDER, Progress, SPACE};
 use crate::sections::close_section;
@@ -79,6 +83,35 @@ fn read_end(progress: &mut Progress) -> bool
     true
 }
 
+/// Reads a line of per-CPU objects or counters, or one of the header, where one with this text stands.
+fn read_percpu_line(progress: &mut Progress, line: &[u8]) -> Result<bool, AllocError>
+    requires held { (r : Reading) × IsHeld progress.old r }
+    ensures { IfOk result (λ stood. (r : Reading) → IsHeld progress.old r → StepsIn is_percpu_or_header r line.now stood progress.new) }
+{
+    if let Some(text) = line.strip_prefix(b"alloc_percpu ") {
+        return read_alloc_percpu(progress, text);
+    }
+    if let Some(text) = line.strip_prefix(b"alloc_atomic ") {
+        return read_alloc_atomic(progress, text);
+    }
+    if let Some(text) = line.strip_prefix(b"free_percpu ") {
+        return read_free_percpu(progress, text);
+    }
+    if let Some(text) = line.strip_prefix(b"add ") {
+        return read_add(progress, text);
+    }
+    if let Some(text) = line.strip_prefix(b"sum ") {
+        return read_sum(progress, text);
+    }
+    if let Some(text) = line.strip_prefix(b"count ") {
+        return read_count(progress, text);
+    }
+    if line == b"balance".as_slice() {
+        return read_balance(progress);
+    }
+    Ok(read_header_line(progress, line))
+}
+
 /// Reads a line, where one with this text stands.
 pub fn read_line(alloc: Global, progress: &mut Progress, line: &[u8]) -> Result<bool, AllocError>
     requires held { (r : Reading) × IsHeld progress.old r }
@@ -111,5 +144,5 @@ pub fn read_line(alloc: Global, progress: &mut Progress, line: &[u8]) -> Result<
     if line == b"end".as_slice() {
         return Ok(read_end(progress));
     }
-    read_object_line(progress, line)
+    read_percpu_line(progress, line)
 }

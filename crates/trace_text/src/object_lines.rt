@@ -1,14 +1,12 @@
 //! The lines of calls on per-CPU objects, as they are read.
 ghost use Rattle.std.specs.Prelude.{◌≡◌, ◌++◌, IfOk, codes};
 ghost use Rattle.trace_text.specs.Reading.{Reading};
-ghost use Rattle.trace_text.specs.Built.{is_object_or_header};
 ghost use Rattle.trace_text.specs.Grammar.{has_word, is_object};
-ghost use Rattle.trace_text.specs.Held.{IsHeld, Steps, StepsIn};
+ghost use Rattle.trace_text.specs.Held.{IsHeld, Steps};
 
 use crate::call_lines::{add_call, add_named_call, aimed_at, has_place};
 use crate::fields::{named_pair, numbered, numbered_amount};
 use crate::groups::cpu_count;
-use crate::header_lines::read_header_line;
 use crate::progress::Progress;
 use std::alloc::AllocError;
 use vm_model::Call;
@@ -17,7 +15,7 @@ use vm_model::Call;
 const WORD_BYTES: u64 = 4;
 
 /// Reads `alloc_percpu NAME BYTES ALIGN`, after its word.
-fn read_alloc_percpu(progress: &mut Progress, text: &[u8]) -> Result<bool, AllocError>
+pub fn read_alloc_percpu(progress: &mut Progress, text: &[u8]) -> Result<bool, AllocError>
     ensures { IfOk result (λ stood. (r : Reading) → IsHeld progress.old r → Steps r (codes "alloc_percpu " ++ text.now) stood progress.new) }
 {
     let Some((name, bytes, align)) = named_pair(text) else {
@@ -33,7 +31,7 @@ fn read_alloc_percpu(progress: &mut Progress, text: &[u8]) -> Result<bool, Alloc
 }
 
 /// Reads `alloc_atomic NAME BYTES ALIGN`, after its word.
-fn read_alloc_atomic(progress: &mut Progress, text: &[u8]) -> Result<bool, AllocError>
+pub fn read_alloc_atomic(progress: &mut Progress, text: &[u8]) -> Result<bool, AllocError>
     ensures { IfOk result (λ stood. (r : Reading) → IsHeld progress.old r → Steps r (codes "alloc_atomic " ++ text.now) stood progress.new) }
 {
     let Some((name, bytes, align)) = named_pair(text) else {
@@ -67,7 +65,7 @@ fn has_word(call: Call, index: u64) -> bool
 }
 
 /// Reads `free_percpu TARGET`, after its word. The target's line stands in the same section.
-fn read_free_percpu(progress: &mut Progress, text: &[u8]) -> Result<bool, AllocError>
+pub fn read_free_percpu(progress: &mut Progress, text: &[u8]) -> Result<bool, AllocError>
     requires held { (r : Reading) × IsHeld progress.old r }
     ensures { IfOk result (λ stood. (r : Reading) → IsHeld progress.old r → Steps r (codes "free_percpu " ++ text.now) stood progress.new) }
 {
@@ -88,7 +86,7 @@ fn read_free_percpu(progress: &mut Progress, text: &[u8]) -> Result<bool, AllocE
 }
 
 /// Reads `add TARGET CPU INDEX AMOUNT`, after its word.
-fn read_add(progress: &mut Progress, text: &[u8]) -> Result<bool, AllocError>
+pub fn read_add(progress: &mut Progress, text: &[u8]) -> Result<bool, AllocError>
     requires held { (r : Reading) × IsHeld progress.old r }
     ensures { IfOk result (λ stood. (r : Reading) → IsHeld progress.old r → Steps r (codes "add " ++ text.now) stood progress.new) }
 {
@@ -118,7 +116,7 @@ fn read_add(progress: &mut Progress, text: &[u8]) -> Result<bool, AllocError>
 }
 
 /// Reads `sum TARGET INDEX`, after its word.
-fn read_sum(progress: &mut Progress, text: &[u8]) -> Result<bool, AllocError>
+pub fn read_sum(progress: &mut Progress, text: &[u8]) -> Result<bool, AllocError>
     requires held { (r : Reading) × IsHeld progress.old r }
     ensures { IfOk result (λ stood. (r : Reading) → IsHeld progress.old r → Steps r (codes "sum " ++ text.now) stood progress.new) }
 {
@@ -140,7 +138,7 @@ fn read_sum(progress: &mut Progress, text: &[u8]) -> Result<bool, AllocError>
 }
 
 /// Reads `balance`.
-fn read_balance(progress: &mut Progress) -> Result<bool, AllocError>
+pub fn read_balance(progress: &mut Progress) -> Result<bool, AllocError>
     ensures { IfOk result (λ stood. (r : Reading) → IsHeld progress.old r → Steps r (codes "balance") stood progress.new) }
 {
     if !has_place(progress) {
@@ -148,30 +146,4 @@ fn read_balance(progress: &mut Progress) -> Result<bool, AllocError>
     }
     add_call(progress, Call::Balance)?;
     Ok(true)
-}
-
-/// Reads a line of per-CPU objects, or one of the header, where one with this text stands.
-pub fn read_object_line(progress: &mut Progress, line: &[u8]) -> Result<bool, AllocError>
-    requires held { (r : Reading) × IsHeld progress.old r }
-    ensures { IfOk result (λ stood. (r : Reading) → IsHeld progress.old r → StepsIn is_object_or_header r line.now stood progress.new) }
-{
-    if let Some(text) = line.strip_prefix(b"alloc_percpu ") {
-        return read_alloc_percpu(progress, text);
-    }
-    if let Some(text) = line.strip_prefix(b"alloc_atomic ") {
-        return read_alloc_atomic(progress, text);
-    }
-    if let Some(text) = line.strip_prefix(b"free_percpu ") {
-        return read_free_percpu(progress, text);
-    }
-    if let Some(text) = line.strip_prefix(b"add ") {
-        return read_add(progress, text);
-    }
-    if let Some(text) = line.strip_prefix(b"sum ") {
-        return read_sum(progress, text);
-    }
-    if line == b"balance".as_slice() {
-        return read_balance(progress);
-    }
-    Ok(read_header_line(progress, line))
 }

@@ -71,9 +71,12 @@ pub fn trace_of(alloc: Global, mut progress: Progress) -> Result<Trace, BuildErr
     let config = config(&progress, layout);
     let Progress {
         callers,
+        counters,
+        batch,
         caller,
         calls,
         closed,
+        counts,
         picks,
         ..
     } = progress;
@@ -82,10 +85,10 @@ pub fn trace_of(alloc: Global, mut progress: Progress) -> Result<Trace, BuildErr
     Ok(Trace {
         config,
         calls: CallsList::of(sections),
-        counts: CountLineList::of(Vec::new(alloc)),
+        counts: CountLineList::of(counts),
         picks: PickList::of(picks),
         callers,
-        counters: 0,
-        batch: 32,
+        counters,
+        batch,
     })
 }

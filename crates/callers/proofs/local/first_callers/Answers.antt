@@ -24,6 +24,6 @@ loop-alloc-preserved c =
     record {
       told = c.loop-alloc.invariant.told ∙ callers_next (setup_of (arc_value c.args.config.now)) (map answer_of (arc_value c.args.opening.now)) c.loop-alloc.callers.items c.push.new.self.items c.loop-alloc.rest.items c.remove-calls.new.self.items c.remove-calls.result split pushed;
       few = let n = ap length split in let m = ap length pushed ∙ length-append c.loop-alloc.callers.items _ in let low = c.loop-alloc.invariant.few in omega arith;
-      built = λ k own h. c.loop-alloc.invariant.built (suc k) own (ap (λ xs. slice_get xs (suc k)) split ∙ h);
+      sound = λ k own h. c.loop-alloc.invariant.sound (suc k) own (ap (λ xs. slice_get xs (suc k)) split ∙ h);
       short = λ k own h. c.loop-alloc.invariant.short (suc k) own (ap (λ xs. slice_get xs (suc k)) split ∙ h);
     }

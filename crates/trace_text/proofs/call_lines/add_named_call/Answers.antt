@@ -15,7 +15,7 @@ pub returns-clause-added : goal.returns-clause-added
 returns-clause-added c = λ r held new.
     let p = c.args.progress.now in
     held_with_name p _ r c.args.name.now c.args.call held
-    (record { rank = refl; header = refl; cpus = refl; caller = refl; calls = c.in_ok-push.ensures.items; closed = refl; lines = refl; picks = refl; opening_names = refl })
+    (record { rank = refl; header = refl; cpus = refl; caller = refl; calls = c.in_ok-push.ensures.items; closed = refl; counts = refl; lines = refl; picks = refl; opening_names = refl })
     c.requires.size new
     (λ other.
     let length : c.len-place.result ≡ length p.calls.items = search rules in

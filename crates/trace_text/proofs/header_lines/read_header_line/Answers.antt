@@ -32,6 +32,10 @@ pub returns-in-Some-strip_prefix-5 : goal.returns-in-Some-strip_prefix-5
 returns-in-Some-strip_prefix-5 c = λ r held. steps_behind (one_of words_of_header) (codes "unit") c.in-Some-strip_prefix-5.text.now r c.args.line.now c.read_unit.result c.read_unit.new.progress refl refl
     (with_front 5 c.args.line.now (codes "unit ") c.in-Some-strip_prefix-5.text.now c.in-Some-strip_prefix-5.ensures.cases.0 c.in-Some-strip_prefix-5.ensures.cases.1) (c.read_unit.ensures r held)
 
+pub returns-in-Some-strip_prefix-6 : goal.returns-in-Some-strip_prefix-6
+returns-in-Some-strip_prefix-6 c = λ r held. steps_behind (one_of words_of_header) (codes "counters") c.in-Some-strip_prefix-6.text.now r c.args.line.now c.read_counters.result c.read_counters.new.progress refl refl
+    (with_front 9 c.args.line.now (codes "counters ") c.in-Some-strip_prefix-6.text.now c.in-Some-strip_prefix-6.ensures.cases.0 c.in-Some-strip_prefix-6.ensures.cases.1) (c.read_counters.ensures r held)
+
 pub returns-then-eq : goal.returns-then-eq
 returns-then-eq c = λ r held.
     let same : c.args.line.now ≡ codes "vmtrace 1" = (bytes_eq-Decides c.args.line.now (codes "vmtrace 1")).0 (search rules) in
@@ -46,5 +50,6 @@ returns c = λ r held l s e. no_header_line r c.args.line.now l s e
       lazy = c.in_default-strip_prefix-3.ensures.cases;
       space = c.in_default-strip_prefix-4.ensures.cases;
       unit = c.in_default-strip_prefix-5.ensures.cases;
+      counters = c.in_default-strip_prefix-6.ensures.cases;
       version = search rules;
     })

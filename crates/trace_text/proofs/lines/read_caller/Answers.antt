@@ -22,6 +22,7 @@ returns c = λ r held.
       opening_names = c.close_names.ensures.kept;
       calls = ap (λ (q : Progress). q.calls.items) same ∙ ap (λ (v : _). v.items) c.replace-calls.ensures.after ∙ c.new.ensures.items;
       closed = ap (λ (q : Progress). q.closed.items) same ∙ c.in_ok-close_section.ensures ∙ ap (λ (v : _). p.closed.items ++ v.items ∷ replicate (c.in-Some.caller - 1 - p.caller) []) c.replace-calls.ensures.value;
+      counts = ap (λ (q : Progress). q.counts.items) same;
       lines = ap (λ (q : Progress). q.lines) same;
       picks = ap (λ (q : Progress). q.picks.items) same;
     })

@@ -47,7 +47,7 @@ returns-then-eq-2 c = λ r held.
     steps_in is_built (codes "end") [] r c.args.line.now c.read_end.result c.read_end.new.progress refl (ap (split_at 32) same) (subst (λ t. Steps r t c.read_end.result c.read_end.new.progress) (sym same) (c.read_end.ensures r held))
 
 pub returns : goal.returns
-returns c = steps_late_if_ok c.args.line.now c.read_object_line.result c.args.progress.now c.read_object_line.new.progress
+returns c = steps_late_if_ok c.args.line.now c.read_percpu_line.result c.args.progress.now c.read_percpu_line.new.progress
     (record {
       vmalloc = c.in_default.ensures.cases;
       vfree = c.in_default-strip_prefix.ensures.cases;
@@ -59,4 +59,4 @@ returns c = steps_late_if_ok c.args.line.now c.read_object_line.result c.args.pr
       group = c.in_default-strip_prefix-6.ensures.cases;
       end = search rules;
     })
-    c.read_object_line.ensures
+    c.read_percpu_line.ensures

@@ -15,10 +15,13 @@ returns c = held_at_first _ (record {
   groups = c.new.ensures.items;
   cpus = refl;
   callers = refl;
+  counters = refl;
+  batch = refl;
   caller = refl;
   names = c.new-2.ensures;
   calls = c.new-4.ensures.items;
   closed = c.new-5.ensures.items;
+  counts = c.new-6.ensures.items;
   lines = refl;
-  picks = c.new-6.ensures.items;
+  picks = c.new-7.ensures.items;
 })

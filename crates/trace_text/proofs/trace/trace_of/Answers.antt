@@ -17,7 +17,7 @@ returns-clause-trace c = λ r held.
     record {
       config = c.config-config.ensures ∙ ap laid (c.in_ok-layout.ensures.layout ∙ ap (λ groups. layout_of (asked_layout p.unit_pages p.atom groups)) same) ∙ ap config_of (sym held.header);
       calls = c.of.ensures ∙ c.in_ok-close_section.ensures ∙ held_sections p r p.callers held among ∙ ap (λ n. sections_below (suc n) r.calls) callers;
-      counts = c.of-2.ensures ∙ c.new-2.ensures.items ∙ sym held.counts;
+      counts = c.of-2.ensures ∙ held.counts;
       picks = c.of-3.ensures ∙ held.picks;
       callers = callers;
       counters = ap (λ (h : Header). h.counters) (sym held.header);

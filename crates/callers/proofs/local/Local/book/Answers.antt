@@ -7,4 +7,4 @@ use Rattle.callers.proofs.local.Local.book.Goals as goal
 pub returns-clause-rows : goal.returns-clause-rows
 returns-clause-rows c =
     let room = c.self.invariant.room in
-    sym (noted_again c.self.inside.calls c.self.inside.book.rows c.self.inside.made.items c.self.invariant.made (omega arith)) ∙ ap (λ (l : Local). map note_of l.answers) c.self.view_is
+    sym (noted_again c.self.inside.calls c.self.inside.book.rows c.self.inside.outcomes.items c.self.invariant.made (omega arith)) ∙ ap (λ (l : Local). map note_of l.answers) c.self.view_is

@@ -1,0 +1,9 @@
+pub mod TraceLines
+pub mod SectionSizes
+pub mod RuledSections
+pub mod SmallCalls
+pub mod AllSections
+pub mod Targets
+pub mod RuledLines
+pub mod PicksAndCounts
+pub mod TracesRuled
