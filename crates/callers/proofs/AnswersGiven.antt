@@ -20,7 +20,7 @@ use Rattle.callers.specs.declared.place.Place.TheVariants as place
 use Rattle.vm_model.specs.Places.{Place as Stood}
 use Rattle.vm_model.specs.Calls.{Answered, begin, made_in, was_freed}
 use Rattle.vm_model.specs.Places as model
-use Rattle.vm_model.specs.Places.{MadeNothing}
+use Rattle.vm_model.specs.Places.{MadeNothing, Waiting, SpareAgain}
 use Rattle.std.proofs.lemmas.Option.{slice_get-map, slice_get_within}
 use Rattle.history_book.specs.declared.noted.Noted.{Noted}
 use Rattle.callers.specs.declared.answers.Made.{Made}
@@ -28,7 +28,7 @@ use Rattle.callers.specs.declared.answers.Outcome.{Outcome}
 use Rattle.callers.specs.declared.place.Place.{Place}
 use Rattle.callers.specs.declared.local.Local.TheInside.{Inside}
 use Rattle.callers.specs.CarriedPlaces.{Carried, carried_at, groups_carried, filled_by, IsSized, IsWhole, IsEmptyHanded, CarriesNoSpans, place_of, nothing, made_of}
-use Rattle.callers.specs.CallerParts.{answer_with, answers_with, carried_of, local_of, HasCall, IsOrderly, IsAt, MadeBy, TellFreed, after_reply, IsSoundCall}
+use Rattle.callers.specs.CallerParts.{answer_with, answers_with, carried_of, local_of, HasCall, WaitsForGroups, IsOrderly, IsAt, MadeBy, TellFreed, after_reply, IsSoundCall}
 use Rattle.callers.proofs.FreedTold.{length-after_reply, answers_after_reply, unfreed, freed_more}
 
 pub length-answers_with : (calls : List Call) (rows : List Noted) (made : List Outcome) → length made ≡ length rows → length rows ≤ length calls → length (answers_with calls rows made) ≡ length rows
@@ -65,9 +65,15 @@ carried_told (place.LookingAtDirty cpu) carried = refl
 carried_told (place.WaitingForGroups base) carried = refl
 carried_told _ carried = refl
 
+-- the groups that wait are those that it carries there
+groups_told : (c : Setup) (p : Place) (carried : Carried) → carried.groups ≡ groups_carried c p → WaitsForGroups c p (place_of p carried)
+groups_told c (place.WaitingForGroups base) carried same = ap (λ groups. Waiting groups SpareAgain) same
+groups_told c _ carried same = tt
+
 pub at_place : (a : Inside) → IsOrderly a → IsAt a.place (local_of a)
 at_place a is = record {
   place = carried_told a.place (carried_of a);
+  groups = groups_told (setup_of (arc_value a.config)) a.place (carried_of a) refl;
   sized = is.sized;
   whole = is.whole;
   filled = is.filled;

@@ -3,9 +3,11 @@ use Rattle.std.specs.Prelude.{◌≡◌, ℕ, zero, suc, ◌+◌, ◌-◌, ◌<�
 use Rattle.std.specs.Arc.{arc_value}
 use Rattle.vm_model.specs.declared.calls.Call.{Call}
 use Rattle.unit_layout.specs.Config.{setup_of}
-use Rattle.vm_model.specs.Setup.{cpus}
+use Rattle.vm_model.specs.Setup.{Setup, cpus, groups_at}
 use Rattle.vm_model.specs.Rules.{IsSetup}
 use Rattle.vm_model.specs.Calls as model
+use Rattle.vm_model.specs.Places as places
+use Rattle.vm_model.specs.Places.{Waiting, SpareAgain}
 use Rattle.vm_model.specs.History as history
 use Rattle.vm_model.specs.declared.calls.Call.TheVariants.{MapRam, FreePercpu, Add, Sum}
 use Rattle.vm_model.specs.declared.calls.Reply.{Reply}
@@ -14,7 +16,7 @@ use Rattle.history_book.specs.declared.noted.Noted.{Noted}
 use Rattle.callers.specs.declared.answers.Outcome.{Outcome}
 use Rattle.callers.specs.declared.answers.Answered.{Answered}
 use Rattle.callers.specs.declared.place.Place.{Place}
-use Rattle.callers.specs.declared.place.Place.TheVariants.{Over}
+use Rattle.callers.specs.declared.place.Place.TheVariants.{Over, WaitingForGroups}
 use Rattle.callers.specs.declared.local.Local.TheInside.{Inside}
 use Rattle.callers.specs.CarriedPlaces.{Carried, place_of, carried_at, groups_carried, filled_by, made_of, IsSized, IsWhole}
 
@@ -103,9 +105,15 @@ pub record IsOrderly (a : Inside) : Type 0 where
   pub range_room : cpus (setup_of (arc_value a.config)) ≤ vec_capacity a.ranges
   pub at_hand : HasCall a.place (length a.book.rows) a.calls
 
+-- the spans that wait there are those of the groups at the base of the code's place
+abbrev pub WaitsForGroups : Setup → Place → places.Place → Type 0
+WaitsForGroups c (WaitingForGroups base) at = at ≡ Waiting (groups_at c base) SpareAgain
+WaitsForGroups c _ at = Unit {0}
+
 -- a caller stands at this place of the code, with what it needs there: what it carries is whole, and a call is at hand unless it is over
 pub record IsAt (p : Place) (l : history.Local) : Type 0 where
   pub place : l.place ≡ place_of p (carried_at l.place)
+  pub groups : WaitsForGroups l.setup p l.place
   pub sized : IsSized p
   pub whole : IsWhole l.setup l.place
   pub filled : filled_by p ≤ l.events
