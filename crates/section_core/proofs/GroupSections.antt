@@ -1,5 +1,6 @@
 -- The sections over the pages and areas of a chunk's groups.
-use Rattle.std.proofs.Common.{◌≡◌, ℕ, zero, suc, ◌+◌, ◌≤◌, ◌<◌, ◌^◌, ◌++◌, nat_lt, if◌then◌else◌, All, List, [], ◌∷◌, length, map, slice_get, get_or, Bool, true, false, Option, Some, None, IsSome, IsSomeAnd, refl, ap, sym, ◌∙◌, subst, arith}
+use Rattle.std.proofs.Common.{◌≡◌, ℕ, zero, suc, ◌+◌, ◌≤◌, ◌<◌, ◌^◌, ◌++◌, nat_lt, if◌then◌else◌, All, List, [], ◌∷◌, length, map, slice_get, get_or, Bool, true, false, Option, Some, None, IsSome, IsSomeAnd, IfSome, IfNone, option_map, refl, ap, sym, ◌∙◌, subst, arith}
+use Rattle.std.proofs.lemmas.Bool.Decides.{nat_tests}
 use Rattle.std.proofs.lemmas.Option.{slice_get-get_or}
 use Rattle.std.proofs.lemmas.List.Elements.{All-nil, All-cons, All-head, All-tail}
 use Rattle.vm_model.specs.declared.areas.Span.{Span}
@@ -17,13 +18,20 @@ use Rattle.vm_model.specs.Next.{Next, Go, next}
 use Rattle.vm_model.specs.History.{Local, moved_to}
 use Rattle.vm_model.specs.Parts.{Region, FreeRuns, LiveAreas, WaitingSpans, map_with}
 use Rattle.unit_layout.specs.declared.layout.Group.{Group}
+use Rattle.unit_layout.specs.declared.config.Config.{Config}
+use Rattle.unit_layout.specs.Config.{setup_of}
 use Rattle.unit_layout.proofs.Ceilings.{power_pos}
+use Rattle.augmented_tree.specs.FreeBlocks.{FreeBlocks, LeavesRunsWithout}
 use Rattle.busy_areas.specs.LiveRows.{LiveRows, with_new}
 use Rattle.busy_areas.specs.Kept.{asked_spans}
-use Rattle.congruent_areas.specs.Groups.{HasGroups, AreLaidOut, span_at, spans_at}
+use Rattle.congruent_areas.specs.declared.bundle.Bundle.{Bundle}
+use Rattle.congruent_areas.specs.Groups.{HasGroups, AreLaidOut, IsBaseOfTheMap, HasBaseOfTheMap, span_at, spans_at}
+use Rattle.congruent_areas.specs.Groups.{spans_of as groups_of}
 use Rattle.congruent_areas.proofs.LaidOut.{machines, spans}
 use Rattle.section_laws.specs.Needs.{CanSettle}
 use Rattle.section_core.specs.MadeSections.{IsMoved, MayGrow, TakesMemory}
+use Rattle.section_core.specs.StandsWell.{AreRunsOf, CanWait}
+use Rattle.callers.specs.CarriedPlaces.{carried_at}
 use Rattle.section_core.proofs.Moved.{moved_as}
 use Rattle.section_core.proofs.FreeSections.{same, painted}
 
@@ -85,6 +93,37 @@ module _ (c : Setup) (laid : List Group) (align : ℕ) (setup : IsSetup c) (has 
   pub starts_within : (base : ℕ) → All HasEnd (groups_at c base) → All (λ (g : Group). base + g.offset < 2 ^ 32) laid
   starts_within base ends = low_starts base laid (subst (All HasEnd) (are_spans base) ends)
 
+-- the groups and the alignment of a caller's config
+pub has_groups : (c : Setup) (config : Config) (laid : List Group) (align : ℕ) → setup_of config ≡ c → laid ≡ config.layout.groups → align ≡ config.layout.atom → HasGroups c laid align
+has_groups c config laid align same groups atom = record {
+  groups = ap (λ (d : Setup). d.groups) (sym same) ∙ ap groups_of (sym groups);
+  atom = ap (λ (d : Setup). d.atom) (sym same) ∙ sym atom;
+}
+
+-- What a search for groups leaves.
+
+module _ (l : Local) (laid : List Group) (align : ℕ) (has : HasGroups l.setup laid align) (old new : FreeBlocks) (stands : AreRunsOf l.setup old.blocks) where
+  module _ (p : Place) (at : l.place ≡ p) (asks : ask l.setup p ≡ AskSearch ForGroups) (found : Option Bundle) (base : IsBaseOfTheMap old laid align (option_map (λ (b : Bundle). b.base) found)) (n : Next) (l' : Local) (local : l' ≡ moved_to l n) where
+    pub carves : (bundle : Bundle) → found ≡ Some bundle → IfSome found (λ (b : Bundle). b.spans ≡ spans_at b.base laid) → IfSome found (λ (b : Bundle). LeavesRunsWithout old new (covers b.spans))
+        → next l.setup p (CarveGroups bundle.base) ≡ n → IsMoved l (FreeRuns old.blocks) l' (FreeRuns new.blocks)
+    carves bundle is cut carved on =
+        let spans : bundle.spans ≡ groups_at l.setup bundle.base = subst (λ o. IfSome o (λ (b : Bundle). b.spans ≡ spans_at b.base laid)) is cut ∙ sym (spans l.setup laid align bundle.base has) in
+        let left : new.blocks ≡ runs (paint (covers bundle.spans) true stands.0) = subst (λ o. IfSome o (λ (b : Bundle). LeavesRunsWithout old new (covers b.spans))) is carved stands.0 stands.2 in
+        subst (λ blocks. IsMoved l (FreeRuns blocks) l' (FreeRuns new.blocks)) (sym stands.2)
+        (finds_base l stands.0 stands.1 p at asks n l' local bundle.base new.blocks (sym (ap (option_map (λ (b : Bundle). b.base)) is) ∙ base l.setup stands.0 has stands.2) on
+        (left ∙ ap (λ spans. runs (paint (covers spans) true stands.0)) spans))
+
+    pub carves_none : found ≡ None → IfNone found (new ≡ old) → next l.setup p (NoHole ForGroups) ≡ n → IsMoved l (FreeRuns old.blocks) l' (FreeRuns new.blocks)
+    carves_none is kept on =
+        let same : new ≡ old = subst (λ o. IfNone o (new ≡ old)) is kept in
+        subst (λ blocks. IsMoved l (FreeRuns old.blocks) l' (FreeRuns blocks)) (sym (ap (λ (side : FreeBlocks). side.blocks) same))
+        (subst (λ blocks. IsMoved l (FreeRuns blocks) l' (FreeRuns blocks)) (sym stands.2)
+        (finds_no_base l stands.0 stands.1 p at asks n l' local (sym (ap (option_map (λ (b : Bundle). b.base)) is) ∙ base l.setup stands.0 has stands.2) on))
+
+  -- a search that finds a base may want memory
+  pub carves_with_memory : ask l.setup l.place ≡ AskSearch ForGroups → HasBaseOfTheMap old laid align → TakesMemory l (FreeRuns old.blocks)
+  carves_with_memory asks fits = subst (λ blocks. TakesMemory l (FreeRuns blocks)) (sym stands.2) (finds_base_with_memory l stands.0 stands.1 asks (fits l.setup stands.0 has stands.2))
+
 -- what holds of each by its place holds of all
 each : {X : Type 0} (P : X → Type 0) (xs : List X) → ((i : ℕ) (x : X) → slice_get xs i ≡ Some x → P x) → All P xs
 each P xs of = λ k d h. of k (get_or xs k d) (slice_get-get_or xs k d h)
@@ -124,10 +163,6 @@ settles_groups l base chunk bytes align rows rows' l' at local left =
     moved_as l (LiveAreas rows.areas rows.next) (SettlingGroups base chunk bytes align) (Settle (group_areas l.setup chunk base) rows.next) (Go (AddingChunk base chunk bytes align)) l' (LiveAreas rows'.areas rows'.next) at refl refl local
     (ap (λ (r : LiveRows). LiveAreas r.areas r.next) left)
 
-pub settles_groups_with_memory : (l : Local) (base chunk bytes align : ℕ) (rows : LiveRows) → l.place ≡ SettlingGroups base chunk bytes align → TakesMemory l (LiveAreas rows.areas rows.next)
-settles_groups_with_memory l base chunk bytes align rows at =
-    subst (λ s. IsSomeAnd s MayGrow) (sym (ap (λ p. given l.setup (map_with l.setup (LiveAreas rows.areas rows.next)) (ask l.setup p)) at)) tt
-
 pub unlinks_groups : (l : Local) (base : ℕ) (rows rows' : LiveRows) (l' : Local) → l.place ≡ UnlinkingGroups base → l' ≡ moved_to l (Go (Waiting (groups_at l.setup base) SpareAgain))
     → rows' ≡ record rows { areas = areas_elsewhere (group_starts l.setup base) rows.areas } → IsMoved l (LiveAreas rows.areas rows.next) l' (LiveAreas rows'.areas rows'.next)
 unlinks_groups l base rows rows' l' at local left =
@@ -136,11 +171,18 @@ unlinks_groups l base rows rows' l' at local left =
 
 -- Groups that wait.
 
-pub waits_for_groups : (l : Local) (groups waiting waiting' : List Span) (over : Bool) (l' : Local) → l.place ≡ Waiting groups SpareAgain → nat_lt l.setup.lazy (sum_of_pages (waiting ++ groups)) ≡ over
-    → l' ≡ moved_to l (if over then Go (PurgeTaking None SpareAgain) else Go Sparing) → waiting' ≡ waiting ++ groups → IsMoved l (WaitingSpans waiting) l' (WaitingSpans waiting')
-waits_for_groups l groups waiting waiting' over l' at is local left =
-    moved_as l (WaitingSpans waiting) (Waiting groups SpareAgain) (Wait groups (sum_of_pages (waiting ++ groups))) (if over then Go (PurgeTaking None SpareAgain) else Go Sparing) l' (WaitingSpans waiting') at refl
-    (ap (λ b. if b then Go (PurgeTaking None SpareAgain) else Go Sparing) is) local (ap WaitingSpans left)
+module _ (l : Local) (groups waiting waiting' : List Span) (limit pages : ℕ) (l' : Local) (at : l.place ≡ Waiting groups SpareAgain) (lazy : limit ≡ l.setup.lazy) (counted : pages ≡ sum_of_pages (waiting ++ groups)) (left : waiting' ≡ waiting ++ groups) where
+  waits : (over : Bool) → nat_lt limit pages ≡ over → l' ≡ moved_to l (if over then Go (PurgeTaking None SpareAgain) else Go Sparing) → IsMoved l (WaitingSpans waiting) l' (WaitingSpans waiting')
+  waits over is local =
+      moved_as l (WaitingSpans waiting) (Waiting groups SpareAgain) (Wait groups (sum_of_pages (waiting ++ groups))) (if over then Go (PurgeTaking None SpareAgain) else Go Sparing) l' (WaitingSpans waiting') at refl
+      (ap (λ b. if b then Go (PurgeTaking None SpareAgain) else Go Sparing) (ap (λ n. nat_lt n (sum_of_pages (waiting ++ groups))) (sym lazy) ∙ ap (nat_lt limit) (sym counted) ∙ is)) local (ap WaitingSpans left)
 
-pub waits_with_memory : (l : Local) (groups waiting : List Span) (after : Then) → l.place ≡ Waiting groups after → TakesMemory l (WaitingSpans waiting)
-waits_with_memory l groups waiting after at = subst (λ s. IsSomeAnd s MayGrow) (sym (ap (λ p. given l.setup (map_with l.setup (WaitingSpans waiting)) (ask l.setup p)) at)) tt
+  pub waits_and_purges : limit < pages → l' ≡ moved_to l (Go (PurgeTaking None SpareAgain)) → IsMoved l (WaitingSpans waiting) l' (WaitingSpans waiting')
+  waits_and_purges more local = waits true (grind (arith, nat_tests)) local
+
+  pub waits_and_spares : pages ≤ limit → l' ≡ moved_to l (Go Sparing) → IsMoved l (WaitingSpans waiting) l' (WaitingSpans waiting')
+  waits_and_spares few local = waits false (grind (arith, nat_tests)) local
+
+-- the groups of a caller that waits for them can wait
+pub can_wait : (l : Local) (base : ℕ) (waiting : List Span) → l.place ≡ Waiting (groups_at l.setup base) SpareAgain → CanWait (carried_at l.place).groups waiting → CanWait (groups_at l.setup base) waiting
+can_wait l base waiting at can = subst (λ spans. CanWait spans waiting) (ap (λ p. (carried_at p).groups) at) can

@@ -1,5 +1,6 @@
 pub mod Moved
 pub mod FreeSections
+pub mod GroupSections
 pub mod BlockSections
 pub mod Counted
 pub mod LawfulCallers

@@ -8,7 +8,7 @@ ghost use Rattle.section_core.specs.StandsWell.{CanMake};
 use callers::{Local, Made, Place};
 use chunk_slots::PcpuSide;
 use page_pool::PageSide;
-use populate_balance::{mark_populated, next_to_populate, take_spare_chunk};
+use populate_balance::{mark_populated, take_spare_chunk};
 use vm_model::{PageSet, Reply};
 
 /// Takes out a spare chunk, or goes on to fill pages.
@@ -41,7 +41,7 @@ pub(crate) fn next_page(local: &mut Local, percpu: &mut PcpuSide, filled: u32)
     ensures { IsMoved local.old (percpu_region percpu.old) local.new (percpu_region percpu.new) }
 {
     percpu.set_unit_pages(local.config().layout.unit_pages());
-    match next_to_populate(percpu) {
+    match populate_balance::next_page(percpu) {
         Some(next) => local.go(Place::Filling {
             chunk: next.chunk,
             base: next.base,
