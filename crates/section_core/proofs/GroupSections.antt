@@ -138,21 +138,25 @@ length-kinds chunk group (s ∷ groups) = ap suc (length-kinds chunk (suc group)
 
 -- The areas of groups that can be settled.
 
-module _ (c : Setup) (setup : IsSetup c) (chunk base : ℕ) (rows : LiveRows) (can : CanSettle c rows.areas rows.next (groups_at c base)) (new : List (Span × AreaKind)) (are : new ≡ group_areas c chunk base) where
-  asked : asked_spans new ≡ groups_at c base
-  asked = ap asked_spans are ∙ asked_are chunk 0 (groups_at c base)
+module _ (c : Setup) (laid : List Group) (align : ℕ) (has : HasGroups c laid align) (chunk base : ℕ) (rows : LiveRows) (can : CanSettle c rows.areas rows.next (groups_at c base)) where
+  module _ (new : List (Span × AreaKind)) (are : new ≡ group_kinds chunk 0 (spans_at base laid)) where
+    pub are_areas : new ≡ group_areas c chunk base
+    are_areas = are ∙ ap (group_kinds chunk 0) (sym (spans c laid align base has))
 
-  pub settled_pages : All (λ (s : Span). 0 < s.pages) (asked_spans new)
-  settled_pages = subst (All (λ (s : Span). 0 < s.pages)) (sym asked) (each (λ (s : Span). 0 < s.pages) (groups_at c base) can.some)
+    asked : asked_spans new ≡ groups_at c base
+    asked = ap asked_spans are_areas ∙ asked_are chunk 0 (groups_at c base)
 
-  pub settled_unused : (page : ℕ) → covers (asked_spans new) page ≡ true → covers (spans_of rows.areas) page ≡ false
-  settled_unused page h = can.unused page (ap (λ spans. covers spans page) (sym asked) ∙ h)
+    pub settled_pages : All (λ (s : Span). 0 < s.pages) (asked_spans new)
+    settled_pages = subst (All (λ (s : Span). 0 < s.pages)) (sym asked) (each (λ (s : Span). 0 < s.pages) (groups_at c base) can.some)
 
-  pub settled_disjoint : (page : ℕ) → times page (asked_spans new) ≤ 1
-  settled_disjoint page = subst (λ n. n ≤ 1) (ap (times page) (sym asked)) (can.disjoint page)
+    pub settled_unused : (page : ℕ) → covers (asked_spans new) page ≡ true → covers (spans_of rows.areas) page ≡ false
+    settled_unused page h = can.unused page (ap (λ spans. covers spans page) (sym asked) ∙ h)
 
-  pub settled_serials : rows.next + length new < 2 ^ 32
-  settled_serials = subst (λ n. rows.next + n < 2 ^ 32) (sym (ap (λ (xs : List (Span × AreaKind)). length xs) are ∙ length-kinds chunk 0 (groups_at c base))) can.serials
+    pub settled_disjoint : (page : ℕ) → times page (asked_spans new) ≤ 1
+    settled_disjoint page = subst (λ n. n ≤ 1) (ap (times page) (sym asked)) (can.disjoint page)
+
+    pub settled_serials : rows.next + length new < 2 ^ 32
+    settled_serials = subst (λ n. rows.next + n < 2 ^ 32) (sym (ap (λ (xs : List (Span × AreaKind)). length xs) are_areas ∙ length-kinds chunk 0 (groups_at c base))) can.serials
 
 pub settled_ends : (c : Setup) (areas : List Area) (next base : ℕ) → IsSetup c → CanSettle c areas next (groups_at c base) → All HasEnd (groups_at c base)
 settled_ends c areas next base setup can = each HasEnd (groups_at c base) (λ i s e. let low = can.inside i s e in let high = setup.space_high in omega arith)
