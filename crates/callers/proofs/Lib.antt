@@ -4,3 +4,4 @@ pub mod AnswersGiven
 pub mod Hulls
 pub mod CarriedLists
 pub mod CallersStarted
+pub mod SoundCalls

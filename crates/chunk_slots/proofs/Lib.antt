@@ -19,3 +19,5 @@ pub mod InSlots
 pub mod NewChunks
 pub mod LiveRows
 pub mod UnitPages
+mod PlainScans
+mod TableViews

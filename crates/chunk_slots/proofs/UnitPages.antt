@@ -1,15 +1,15 @@
 -- Chunks have as many pages as the units of a side, so its clauses hold of any machine whose units have as many.
-use Rattle.std.proofs.Common.{◌≡◌, ℕ, suc, ◌≤◌, true, false, ◌==◌, List, [], ◌∷◌, length, map, filter, slice_get, Option, Some, refl, sym, ◌∙◌, subst}
+use Rattle.std.proofs.Common.{◌≡◌, ℕ, suc, ◌≤◌, true, false, ◌==◌, List, [], ◌∷◌, length, map, flat_map, filter, slice_get, Option, Some, refl, sym, ◌∙◌, subst}
 use Rattle.std.proofs.lemmas.List.Elements.{All-nil, All-cons, All-head}
 use Rattle.vm_model.specs.Setup.{Setup}
 use Rattle.vm_model.specs.PlainMap.{Chunk}
 use Rattle.vm_model.specs.Chunks.{placement, plain_fit, atomic_fit, slot, empty_count}
-use Rattle.vm_model.specs.Tables.{chunk_row}
+use Rattle.vm_model.specs.Tables.{chunk_row, chunk_audit, hint_rows}
 use Rattle.chunk_slots.specs.declared.holders.Holder.{Holder}
 use Rattle.chunk_slots.specs.declared.slots.InSlot.{InSlot}
 use Rattle.chunk_slots.specs.KeptChunks.{KeptRow}
 use Rattle.chunk_slots.specs.KeptSides.{chunk_in, chunks_in, Each, IsKeptRow, AreKept}
-use Rattle.chunk_slots.specs.ChunkRegion.{ChunkRegion, unit_of, setup_of, AreOfUnits, place_for, chunk_table, numbers_in_slot}
+use Rattle.chunk_slots.specs.ChunkRegion.{ChunkRegion, unit_of, setup_of, AreOfUnits, place_for, chunk_table, audit_table, hint_table, numbers_in_slot}
 
 abbrev has_pages : ℕ → Chunk → Type 0
 has_pages pages h = length h.populated ≡ pages
@@ -71,3 +71,9 @@ module _ (c : Setup) (r : ChunkRegion) (own : AreOfUnits r.unit_pages r.chunks) 
 
   pub rows_of_machine : chunk_table r ≡ map (chunk_row c) r.chunks
   rows_of_machine = by_pages (λ p chunks. map (chunk_row (unit_of p)) chunks) (λ p q. refl)
+
+  pub audits_of_machine : audit_table r ≡ map (chunk_audit c) r.chunks
+  audits_of_machine = by_pages (λ p chunks. map (chunk_audit (unit_of p)) chunks) (λ p q. refl)
+
+  pub hints_of_machine : hint_table r ≡ flat_map (hint_rows c) r.chunks
+  hints_of_machine = by_pages (λ p chunks. flat_map (hint_rows (unit_of p)) chunks) (λ p q. refl)

@@ -3,11 +3,13 @@ use Rattle.std.specs.Prelude.{◌≡◌, ℕ, suc, ◌-◌, ◌&&◌, not, ◌==
 use Rattle.std.specs.List.{list_any}
 use Rattle.vm_model.specs.declared.rows.ChunkRow.{ChunkRow}
 use Rattle.vm_model.specs.declared.rows.ObjectRow.{ObjectRow}
+use Rattle.vm_model.specs.declared.rows.ChunkAudit.{ChunkAudit}
+use Rattle.vm_model.specs.declared.rows.HintRow.{HintRow}
 use Rattle.vm_model.specs.Setup.{Setup}
 use Rattle.vm_model.specs.PlainMap.{Chunk, Object, InHand, Lives, lives_as}
 use Rattle.vm_model.specs.Chunks as model
 use Rattle.vm_model.specs.Chunks.{ObjectAt, slot, chunks_numbered, change_chunk, with_object, without_object, with_live_object, with_page, new_chunk, find_object, placement, plain_fit, atomic_fit}
-use Rattle.vm_model.specs.Tables.{chunk_row, object_rows}
+use Rattle.vm_model.specs.Tables.{chunk_row, chunk_audit, hint_rows, object_rows}
 use Rattle.chunk_slots.specs.declared.placed.Placed.{Placed}
 use Rattle.vm_model.specs.PageSets.{pages_in}
 use Rattle.vm_model.specs.Space.{sort_by}
@@ -93,9 +95,15 @@ live_bytes chunk off serial r =
 abbrev pub at_offset : (chunk off : ℕ) → ObjectAt
 at_offset chunk off = record { chunk = chunk; base = 0; off = off; bytes = 0 }
 
--- the rows of the chunks, and of the live objects
+-- the rows of the chunks, their audits and hints, and the rows of the live objects
 abbrev pub chunk_table : ChunkRegion → List ChunkRow
 chunk_table r = map (chunk_row (setup_of r)) r.chunks
+
+abbrev pub audit_table : ChunkRegion → List ChunkAudit
+audit_table r = map (chunk_audit (setup_of r)) r.chunks
+
+abbrev pub hint_table : ChunkRegion → List HintRow
+hint_table r = flat_map (hint_rows (setup_of r)) r.chunks
 
 abbrev pub object_table : ChunkRegion → List ObjectRow
 object_table r = flat_map object_rows r.chunks

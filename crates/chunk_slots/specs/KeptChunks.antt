@@ -3,8 +3,11 @@ use Rattle.std.specs.Prelude.{◌≡◌, ℕ, ◌*◌, ◌≤◌, ◌==◌, Bool
 use Rattle.vm_model.specs.declared.areas.PageSet.{PageSet}
 use Rattle.vm_model.specs.declared.areas.Span.{Span}
 use Rattle.vm_model.specs.declared.rows.ChunkRow.{ChunkRow}
+use Rattle.vm_model.specs.declared.rows.ChunkAudit.{ChunkAudit}
+use Rattle.vm_model.specs.declared.rows.HintRow.{HintRow}
 use Rattle.vm_model.specs.Space.{span, count_from, begins_free, longest, paint, taken_by}
 use Rattle.vm_model.specs.Bits.{slot_of, free_count}
+use Rattle.vm_model.specs.Tables.{hint_row}
 use Rattle.chunk_bitmaps.specs.ChunkMap.{ChunkMap, taken_bits, empty_chunk, with_object_at, without_object_at}
 use Rattle.vm_model.specs.PageSets.{has_page}
 
@@ -57,6 +60,19 @@ row_of row = record {
   run_start = (longest (taken_bits row.bits)).start;
   run = (longest (taken_bits row.bits)).pages;
 }
+
+-- the numbers of its audit, and the hints of its pages of bits
+abbrev pub audit_of : KeptRow → ChunkAudit
+audit_of row = record {
+  chunk = row.number;
+  run_start = (longest (taken_bits row.bits)).start;
+  run = (longest (taken_bits row.bits)).pages;
+  slot = slot_in row;
+  empty = length (empty_in row);
+}
+
+abbrev pub hints_of : KeptRow → List HintRow
+hints_of row = map (hint_row row.number (taken_bits row.bits)) (count_from (length row.populated) 0)
 
 -- how many bytes the object has that begins at an offset
 abbrev pub bytes_at : (off : ℕ) → KeptRow → Option ℕ

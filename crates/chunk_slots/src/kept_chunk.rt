@@ -1,21 +1,22 @@
 //! A chunk as its side keeps it.
-ghost use Rattle.std.specs.Prelude.{◌≡◌, ◌+◌, ◌-◌, ◌*◌, ◌/◌, ◌<◌, ◌≤◌, ◌^◌, ◌&&◌, not, if◌then◌else◌, ℕ, Some, IfOk, IfSome, IfNone, length, filter, MatchOption, [], ◌∷◌};
+ghost use Rattle.std.specs.Prelude.{◌≡◌, ◌+◌, ◌-◌, ◌*◌, ◌/◌, ◌<◌, ◌≤◌, ◌^◌, ◌&&◌, not, if◌then◌else◌, ℕ, Some, IfOk, IfSome, IfNone, OnOk, length, filter, MatchOption, [], ◌∷◌, ◌++◌};
 ghost use Rattle.vm_model.specs.Space.{lowest, count_from, is_among};
 ghost use Rattle.vm_model.specs.Bits.{slot_of, hint_of, block_bits, free_count};
 ghost use Rattle.vm_model.specs.Frames.{pages_of_bytes};
 ghost use Rattle.chunk_bitmaps.specs.ChunkMap.{taken_bits, object_bits_at, with_object_at, objects_from};
 ghost use Rattle.vm_model.specs.PageSets.{has_page};
 ghost use Rattle.block_hints.specs.Populated.{blocked_bits};
-ghost use Rattle.chunk_slots.specs.KeptChunks.{KeptRow, fresh_row, taken_for, slot_in, empty_in, row_of, bytes_at, with_bits, without_bits, with_pages, has_populated, populated_in, pages_as, page_is_free};
+ghost use Rattle.chunk_slots.specs.KeptChunks.{KeptRow, fresh_row, taken_for, slot_in, empty_in, row_of, bytes_at, with_bits, without_bits, with_pages, has_populated, populated_in, pages_as, page_is_free, audit_of, hints_of};
 ghost use Rattle.vm_model.specs.PageSets.{pages_in};
 
+use crate::plain_scan::{plain_bits, plain_empty, plain_hint, plain_slot};
 use crate::rising::Keyed;
 use crate::sizes::slot_for;
 use block_hints::HintedChunk;
 use chunk_bitmaps::{BLOCK_BITS, ChunkBits};
 use std::alloc::{AllocError, Global};
 use std::marker::Model;
-use vm_model::{ChunkRow, Hint, PageSet, Span};
+use vm_model::{ChunkAudit, ChunkRow, Hint, HintRow, PageSet, Span, plain_longest};
 
 /// The bytes of a page.
 const PAGE_BYTES: u32 = 4096;
@@ -209,6 +210,51 @@ impl KeptChunk {
             run_start: longest.run_start,
             run: longest.run,
         }
+    }
+
+    /// The bits one after another, true where taken. It takes memory for them.
+    pub(crate) fn plain_bits(&self, alloc: Global) -> Result<Vec<bool>, AllocError>
+        ensures { IfOk result (λ plain. plain.items ≡ taken_bits self.now.bits) }
+    {
+        plain_bits(alloc, self.bits.bits())
+    }
+
+    /// The numbers of the chunk that a scan of its bits finds.
+    pub(crate) fn audit(&self, plain: &[bool]) -> ChunkAudit
+        requires { plain.now ≡ taken_bits self.now.bits }
+        ensures { result ≡ audit_of self.now }
+    {
+        let pages = self.pages;
+        let (run_start, run) = plain_longest(plain);
+        ChunkAudit {
+            chunk: self.number,
+            run_start,
+            run,
+            slot: plain_slot(plain),
+            empty: plain_empty(plain, self.populated, pages),
+        }
+    }
+
+    /// Appends the hint of each page of the bits, as it is kept and as a scan of the page finds it. After an error some of
+    /// them may be there.
+    pub(crate) fn push_hints(
+        &self,
+        plain: &[bool],
+        rows: &mut Vec<HintRow>,
+    ) -> Result<(), AllocError>
+        requires { plain.now ≡ taken_bits self.now.bits }
+        ensures { OnOk result (rows.new.items ≡ rows.old.items ++ hints_of self.now) }
+    {
+        for block in 0..self.pages {
+            let low = (BLOCK_BITS * block) as usize;
+            rows.push(HintRow {
+                chunk: self.number,
+                block,
+                kept: self.bits.hint(block),
+                plain: plain_hint(&plain[low..low + 1024]),
+            })?;
+        }
+        Ok(())
     }
 
     /// Takes the lowest fit for an object of so many bits, as `pcpu_alloc_area`; an atomic one only among populated

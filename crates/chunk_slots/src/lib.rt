@@ -16,6 +16,9 @@
 //! - `slot_of`, `in_slot`, `in_order`, `free_slot`, `empty_pages`, `chunk_at`, `base_at`, `hint_at`, `populated_at`, `find`:
 //!   what is kept of slots, hints and empty pages is that of the bits. The chunks rise by number, and those of the free slot
 //!   are those without an object.
+//! - `unit_pages`, `set_unit_pages`: each chunk has as many pages as a unit of the side (`AreOfUnits`).
+//! - `chunk_rows`, `chunk_audits`, `hint_rows`: the tables of the chunks (`chunk_table`, `audit_table`, `hint_table`), each in
+//!   one pass. A row has what is kept of a chunk; an audit has what a scan of its bits finds, and reads nothing that is kept.
 //! - `objects`, `object_at`, `object_rows`: the rows of the live objects by chunk and then by offset
 //!   (`object_table`), how many there are, one of them, or all in one pass.
 #![tactic(auto)]
@@ -25,6 +28,7 @@ mod kept_chunk;
 mod object_rows;
 mod pcpu_side;
 mod placed;
+mod plain_scan;
 mod rising;
 mod sizes;
 mod slots;

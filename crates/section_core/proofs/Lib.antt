@@ -1,12 +1,14 @@
 pub mod Moved
 pub mod FreeSections
 pub mod GroupSections
+pub mod PageSections
 pub mod BlockSections
 pub mod Counted
 pub mod LawfulCallers
 pub mod NextParts
 pub mod LawfulBlocks
 pub mod LawfulRegions
+pub mod LawfulGroups
 pub mod SideRows
 pub mod Standing
 pub mod TurnSections

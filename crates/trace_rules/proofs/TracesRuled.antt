@@ -40,16 +40,16 @@ module _ (r : Reading) (all : AreAllRuled r) where
   own_ruled first (suc n) (suc k) own low h = own_ruled (first + 1) n k own (omega arith) h
 
 pub traces_keep_the_rules : TracesKeepTheRules
-traces_keep_the_rules built bytes r trace laid =
-    let callers = (header_in_range built bytes r trace).callers in
-    let lines = of_trace IsRuledSoFar ruled_first line_ruled built bytes r trace in
-    let few = of_trace HasFewLines (omega arith) few_kept built bytes r trace in
-    let picked = of_trace ArePicked picked_first picks_kept built bytes r trace in
-    let counted = of_trace AreCounted counted_first counts_kept built bytes r trace in
+traces_keep_the_rules bytes r trace laid =
+    let callers = (header_in_range bytes r trace).callers in
+    let lines = of_trace IsRuledSoFar ruled_first line_ruled bytes r trace in
+    let few = of_trace HasFewLines (omega arith) few_kept bytes r trace in
+    let picked = of_trace ArePicked picked_first picks_kept bytes r trace in
+    let counted = of_trace AreCounted counted_first counts_kept bytes r trace in
     let many = length-map-range_with_len (λ k. calls_of k r.calls) 1 r.header.callers in
     record {
       trace = record {
-        setup = trace_gives_setup built bytes r trace laid;
+        setup = trace_gives_setup bytes r trace laid;
         callers_low = let low = callers.0 in omega arith;
         callers_high = let high = callers.1 in omega arith;
         few = omega (arith, sections_length (suc r.header.callers) r.calls, sum_by-cons {X = List Call} length (calls_of 0 r.calls) (map (λ k. calls_of k r.calls) (range_with_len 1 r.header.callers)));

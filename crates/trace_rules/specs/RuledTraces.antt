@@ -1,5 +1,5 @@
--- What every trace keeps of the rules of the model, whatever words its lines begin with.
-use Rattle.std.specs.Prelude.{◌≡◌, ◌+◌, ◌<◌, ◌≤◌, ℕ, Bool, List, All, length, map, IsTrue, None}
+-- What every trace keeps of the rules of the model.
+use Rattle.std.specs.Prelude.{◌≡◌, ◌+◌, ◌<◌, ◌≤◌, ℕ, List, All, length, map, IsTrue, None}
 use Rattle.std.specs.List.{range_with_len}
 use Rattle.vm_model.specs.declared.calls.CountLine.{CountLine}
 use Rattle.vm_model.specs.Rules.{IsTrace}
@@ -35,6 +35,6 @@ pub record IsRuledTrace (r : Reading) : Type 0 where
   pub batch_high : r.header.batch ≤ 1000000
   pub counts : All (IsCount r.header.counters (cpus_of r.header)) r.counts
 
--- whichever words are built, a text that is a trace and whose layout is not refused keeps the rules
+-- a text that is a trace and whose layout is not refused keeps the rules
 abbrev pub TracesKeepTheRules : Type 0
-TracesKeepTheRules = (built : List ℕ → Bool) (bytes : List ℕ) (r : Reading) → IsTraceOf built bytes r → refusal (layout_spec r.header) ≡ None → IsRuledTrace r
+TracesKeepTheRules = (bytes : List ℕ) (r : Reading) → IsTraceOf bytes r → refusal (layout_spec r.header) ≡ None → IsRuledTrace r

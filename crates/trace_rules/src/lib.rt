@@ -5,7 +5,7 @@
 //!   earlier call of its section or a call of the opening, of the kind that its word asks for, an index lies in its
 //!   object, and a processor is one of the header. The amounts that are added are signed numbers of 32 bits, each
 //!   pick is a caller, and each count line gives a small amount to a counter by a processor of the header
-//!   (`IsRuledTrace`). It is said for all words of the grammar, and for any choice of those that are built.
+//!   (`IsRuledTrace`).
 #![tactic(auto)]
 
 ghost use Rattle.trace_rules.specs.RuledTraces.{TracesKeepTheRules};

@@ -1,14 +1,14 @@
 -- The numbers of a trace's header are in their ranges.
-use Rattle.std.proofs.Common.{◌≡◌, ℕ, ◌<◌, ◌≤◌, Bool, true, List, [], ◌∷◌, refl, sym, subst, arith}
+use Rattle.std.proofs.Common.{◌≡◌, ℕ, ◌<◌, ◌≤◌, true, List, [], ◌∷◌, refl, sym, subst, arith}
 use Rattle.std.proofs.lemmas.Bool.{and_parts, eqb-true}
 use Rattle.std.proofs.lemmas.Bool.Decides.{nat_tests}
 use Rattle.unit_layout.specs.Config.{setup_of}
 use Rattle.unit_layout.specs.Ranges.{IsInRange}
 use Rattle.unit_layout.proofs.Standing.{layouts_stand}
-use Rattle.trace_text.specs.Lines.{Line, Space, Frames, Lazy, Blocks, Units, GroupOf, Callers, word_of}
+use Rattle.trace_text.specs.Lines.{Line, Space, Frames, Lazy, Blocks, Units, GroupOf, Callers}
 use Rattle.trace_text.specs.Reading.{Reading, unread}
 use Rattle.trace_text.specs.Told.{config_of, layout_spec}
-use Rattle.trace_text.specs.Grammar.{stands, may_stand, follows, rank_of, all_stand, read, read_all, IsTraceOf}
+use Rattle.trace_text.specs.Grammar.{may_stand, follows, rank_of, all_stand, read, read_all, IsTraceOf}
 use Rattle.trace_text.specs.Laws.{TraceGivesSetup}
 use Rattle.trace_text.proofs.HeaderLines.{AreBlockSizes, block_sizes, in_range, unit_sizes}
 use Rattle.trace_text.proofs.LayoutRanges.{place_and_rule, next_group, one_more, ungrouped_layout}
@@ -110,11 +110,11 @@ line_kept r l h has = record {
   callers = has.callers;
 }
 
-lines_kept : (built : List ℕ → Bool) (r : Reading) (lines : List Line) → all_stand built r lines ≡ true → HasRanges r → HasRanges (read_all r lines)
-lines_kept built r [] h has = has
-lines_kept built r (l ∷ lines) h has =
-    let parts = and_parts (stands built r l) (all_stand built (read r l) lines) h in
-    lines_kept built (read r l) lines parts.1 (line_kept r l (and_parts (built (word_of l)) (may_stand r l) parts.0).1 has)
+lines_kept : (r : Reading) (lines : List Line) → all_stand r lines ≡ true → HasRanges r → HasRanges (read_all r lines)
+lines_kept r [] h has = has
+lines_kept r (l ∷ lines) h has =
+    let parts = and_parts (may_stand r l) (all_stand (read r l) lines) h in
+    lines_kept (read r l) lines parts.1 (line_kept r l parts.0 has)
 
 at_first : HasRanges unread
 at_first = record {
@@ -128,13 +128,13 @@ at_first = record {
 }
 
 -- a trace's header is in its ranges
-pub header_in_range : (built : List ℕ → Bool) (bytes : List ℕ) (r : Reading) → IsTraceOf built bytes r → HasRanges r
-header_in_range built bytes r trace = subst HasRanges (sym trace.tells) (lines_kept built unread trace.lines trace.stand at_first)
+pub header_in_range : (bytes : List ℕ) (r : Reading) → IsTraceOf bytes r → HasRanges r
+header_in_range bytes r trace = subst HasRanges (sym trace.tells) (lines_kept unread trace.lines trace.stand at_first)
 
 -- and gives a machine, where its layout stands
 pub trace_gives_setup : TraceGivesSetup
-trace_gives_setup built bytes r trace none =
-    let has = header_in_range built bytes r trace in
+trace_gives_setup bytes r trace none =
+    let has = header_in_range bytes r trace in
     let ended : r.rank ≡ 12 = eqb-true r.rank 12 trace.ended in
     let space = has.space (omega arith) in
     let laid = layouts_stand (layout_spec r.header) (setup_of (config_of r.header)) has.layout none in

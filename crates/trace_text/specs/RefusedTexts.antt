@@ -2,7 +2,6 @@
 use Rattle.std.specs.Prelude.{ℕ, List, [], ◌∷◌, codes}
 use Rattle.unit_layout.specs.declared.errors.LayoutError.{LayoutError}
 use Rattle.unit_layout.specs.declared.errors.LayoutError.TheVariants.{NoCpu, TooManyGroups, Overlap, TooWide}
-use Rattle.trace_text.specs.Built.{is_built}
 use Rattle.trace_text.specs.Told.{IsRefusedLayout}
 
 pub record RefusedText : Type 0 where
@@ -21,7 +20,7 @@ refused_texts =
 
 abbrev pub AreRefused : List RefusedText → Type 0
 AreRefused [] = Unit {0}
-AreRefused (refused ∷ texts) = IsRefusedLayout is_built refused.text refused.error × AreRefused texts
+AreRefused (refused ∷ texts) = IsRefusedLayout refused.text refused.error × AreRefused texts
 
 abbrev pub LayoutsAreRefused : Type 0
 LayoutsAreRefused = AreRefused refused_texts

@@ -1,7 +1,7 @@
 //! The lines of the header, as they are read.
 ghost use Rattle.std.specs.Prelude.{◌≡◌, ◌++◌, codes};
 ghost use Rattle.trace_text.specs.Reading.{Reading};
-ghost use Rattle.trace_text.specs.Built.{one_of, words_of_header};
+ghost use Rattle.trace_text.specs.LineWords.{one_of, words_of_header};
 ghost use Rattle.trace_text.specs.Lines.{Blocks, Units};
 ghost use Rattle.trace_text.specs.Grammar.{is_allowed};
 ghost use Rattle.trace_text.specs.Held.{IsHeld, Steps, StepsIn};

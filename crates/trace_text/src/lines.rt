@@ -2,7 +2,7 @@
 ghost use Rattle.std.specs.Prelude.{◌≡◌, ◌++◌, ◌==◌, List, ℕ, None, if◌then◌else◌, IfOk, codes};
 ghost use Rattle.trace_text.specs.Reading.{Reading};
 ghost use Rattle.trace_text.specs.Names.{place_of};
-ghost use Rattle.trace_text.specs.Built.{is_built, is_percpu_or_header};
+ghost use Rattle.trace_text.specs.LineWords.{is_percpu_or_header};
 ghost use Rattle.trace_text.specs.Held.{IsHeld, Steps, StepsIn};
 
 use crate::call_lines::{
@@ -115,7 +115,7 @@ fn read_percpu_line(progress: &mut Progress, line: &[u8]) -> Result<bool, AllocE
 /// Reads a line, where one with this text stands.
 pub fn read_line(alloc: Global, progress: &mut Progress, line: &[u8]) -> Result<bool, AllocError>
     requires held { (r : Reading) × IsHeld progress.old r }
-    ensures { IfOk result (λ stood. (r : Reading) → IsHeld progress.old r → StepsIn is_built r line.now stood progress.new) }
+    ensures { IfOk result (λ stood. (r : Reading) → IsHeld progress.old r → Steps r line.now stood progress.new) }
 {
     if let Some(text) = line.strip_prefix(b"vmalloc ") {
         return read_vmalloc(progress, text);

@@ -1,0 +1,6 @@
+use Rattle.std.proofs.Common.{◌≡◌, ◌++◌, drop, map}
+use Rattle.chunk_slots.specs.KeptChunks.{audit_of}
+use Rattle.chunk_slots.proofs.pcpu_side.PcpuSide.chunk_audits.Given as goal
+
+abbrev pub invariant-loop-chunk : goal.invariant-loop-chunk
+invariant-loop-chunk l = l.rows.items ++ map audit_of (drop l.chunk-index l.chunk-items) ≡ map audit_of l.chunk-items
