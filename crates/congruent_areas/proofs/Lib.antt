@@ -1,5 +1,5 @@
 mod TopBlocks
 mod Lowering
 mod Bases
-mod LaidOut
+pub mod LaidOut
 mod Carving

@@ -1,5 +1,5 @@
 -- The groups of a layout at a base, over free blocks.
-use Rattle.std.specs.Prelude.{◌≡◌, ℕ, ◌+◌, ◌%◌, ◌≤◌, Bool, false, max, List, length, map, All, Option}
+use Rattle.std.specs.Prelude.{◌≡◌, ℕ, ◌+◌, ◌%◌, ◌≤◌, Bool, false, max, List, length, map, All, Option, IsSome}
 use Rattle.vm_model.specs.declared.areas.Span.{Span}
 use Rattle.vm_model.specs.Space.{span, end_of, covers}
 use Rattle.vm_model.specs.Setup.{Setup, highest}
@@ -47,6 +47,10 @@ pub record IsGreatestBase (blocks : List Span) (groups : List Group) (align base
 -- what the plain map finds for each machine with these groups
 abbrev pub IsBaseOfTheMap : FreeBlocks → List Group → (align : ℕ) → Option ℕ → Type 0
 IsBaseOfTheMap side groups align found = (c : Setup) (taken : List Bool) → HasGroups c groups align → AreFreeRuns side taken → found ≡ highest c taken
+
+-- the plain map finds a base for each machine with these groups
+abbrev pub HasBaseOfTheMap : FreeBlocks → List Group → (align : ℕ) → Type 0
+HasBaseOfTheMap side groups align = (c : Setup) (taken : List Bool) → HasGroups c groups align → AreFreeRuns side taken → IsSome (highest c taken)
 
 -- the pages of a block are free, it begins at a page or before, and from its end up to that page nothing is free
 pub record IsLastUpTo (blocks : List Span) (page : ℕ) (block : Span) : Type 0 where

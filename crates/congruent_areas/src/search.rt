@@ -3,7 +3,7 @@ ghost use Rattle.std.specs.Prelude.{◌≡◌, ◌+◌, ◌-◌, ◌%◌, ◌<�
 ghost use Rattle.vm_model.specs.Space.{covers};
 ghost use Rattle.augmented_tree.specs.FreeBlocks.{AreFreeRuns, IsFree, LeavesRunsWithout};
 ghost use Rattle.unit_layout.specs.declared.layout.Group.{Group};
-ghost use Rattle.congruent_areas.specs.Groups.{AreLaidOut, IsBase, HasBase, IsGreatestBase, IsBaseOfTheMap, IsLastUpTo, span_at, spans_at};
+ghost use Rattle.congruent_areas.specs.Groups.{AreLaidOut, IsBase, HasBase, IsGreatestBase, IsBaseOfTheMap, HasBaseOfTheMap, IsLastUpTo, span_at, spans_at};
 ghost use Rattle.congruent_areas.specs.declared.bundle.Bundle.{Bundle};
 
 use crate::bundle::{Bundle, GroupSpans};
@@ -130,6 +130,7 @@ pub fn carve_groups(
     ensures none { IfOk result (λ found. IfNone found (HasBase free.old.blocks groups.now align → ⊥)) }
     ensures unchanged { IfOk result (λ found. IfNone found (free.new ≡ free.old)) }
     ensures memory { OnErr result (HasBase free.old.blocks groups.now align) }
+    ensures fits { OnErr result (HasBaseOfTheMap free.old groups.now align) }
     ensures err { OnErr result (free.new ≡ free.old) }
 {
     let Some(base) = highest(free, groups, align) else {

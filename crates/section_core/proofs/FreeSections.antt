@@ -22,10 +22,10 @@ module _ (l : Local) (bits : List Bool) (wide : length bits ≡ l.setup.space) w
   here : PlainMap
   here = map_with l.setup (FreeRuns (runs bits))
 
-  same : taken (map_with l.setup (FreeRuns (runs bits))) ≡ bits
+  pub same : taken (map_with l.setup (FreeRuns (runs bits))) ≡ bits
   same = taken_of_runs l.setup bits wide
 
-  painted : (test : ℕ → Bool) (mark : Mark) → runs (taken_in (paint test mark (map_with l.setup (FreeRuns (runs bits))).marks)) ≡ runs (paint test (not (is_free mark)) bits)
+  pub painted : (test : ℕ → Bool) (mark : Mark) → runs (taken_in (paint test mark (map_with l.setup (FreeRuns (runs bits))).marks)) ≡ runs (paint test (not (is_free mark)) bits)
   painted test mark = ap runs (map-paint (λ mark. not (is_free mark)) test mark (map_with l.setup (FreeRuns (runs bits))).marks ∙ ap (paint test (not (is_free mark))) same)
 
   module _ (pages align : ℕ) (p : Place) (at : l.place ≡ p) (asks : ask l.setup p ≡ AskSearch (ForPages pages align)) (n : Next) (l' : Local) (local : l' ≡ moved_to l n) where

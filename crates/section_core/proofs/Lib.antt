@@ -1,5 +1,6 @@
 pub mod Moved
 pub mod FreeSections
+pub mod GroupSections
 pub mod PageSections
 pub mod BlockSections
 pub mod ChunkSections
@@ -8,6 +9,7 @@ pub mod LawfulCallers
 pub mod NextParts
 pub mod LawfulBlocks
 pub mod LawfulRegions
+pub mod LawfulGroups
 pub mod SideRows
 pub mod Standing
 pub mod TurnSections

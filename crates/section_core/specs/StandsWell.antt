@@ -3,10 +3,10 @@ use Rattle.std.specs.Prelude.{◌+◌, ◌*◌, ◌≤◌, ◌<◌, ◌^◌, ◌
 use Rattle.vm_model.specs.declared.areas.Span.{Span}
 use Rattle.vm_model.specs.declared.areas.Area.{Area}
 use Rattle.vm_model.specs.Space.{HasEnd, span, end_of, holds, covers, runs, times}
-use Rattle.vm_model.specs.Setup.{Setup, cpus}
+use Rattle.vm_model.specs.Setup.{Setup, cpus, groups_at}
 use Rattle.vm_model.specs.Areas.{mapped_part}
 use Rattle.vm_model.specs.Blocks.{first_page, mapped_pages, blocks_of, dirty_hull}
-use Rattle.vm_model.specs.Places.{Place, MappingArea, SettlingArea, Dropping, UnmappingArea, Waiting, PurgeFragmenting, PurgeWaiting, PurgeFlushing, PurgeReturning, CuttingPart, SettlingBlock, AddingBlock, MappingPart, SettlingPart, BeginningUnmap, UnmappingPart, Retiring, LookingAtDirty, Adding, block_spans}
+use Rattle.vm_model.specs.Places.{Place, MappingArea, SettlingArea, Dropping, UnmappingArea, Waiting, PurgeFragmenting, PurgeWaiting, PurgeFlushing, PurgeReturning, CuttingPart, SettlingBlock, AddingBlock, MappingPart, SettlingPart, BeginningUnmap, UnmappingPart, Retiring, LookingAtDirty, Adding, UnlinkingGroups, block_spans}
 use Rattle.vm_model.specs.PlainMap.{Chunk}
 use Rattle.vm_model.specs.History.{Local}
 use Rattle.vm_model.specs.Parts.{Region, FreeRuns, LiveAreas, WaitingSpans, CpuBlocks, moves}
@@ -88,6 +88,11 @@ IsSettledWell (SettlingArea s k) areas = IsUnused areas s
 IsSettledWell (SettlingBlock s cpu pages) areas = IsUnused areas s
 IsSettledWell _ areas = Unit {0}
 
+-- the groups that are unlinked lie in the largest space
+abbrev pub AreUnlinkedWell : Setup → Place → Type 0
+AreUnlinkedWell c (UnlinkingGroups base) = All HasEnd (groups_at c base)
+AreUnlinkedWell c _ = Unit {0}
+
 -- a processor's blocks have the pages that the header names, and none of another processor is among them
 pub record AreOwn (c : Setup) (side : BlockRows) : Type 0 where
   pub cpu : side.cpu < cpus c
@@ -132,6 +137,7 @@ pub record StandsOverFree (c : Setup) (p : Place) (blocks : List Span) : Type 0 
 
 pub record StandsOverAreas (c : Setup) (p : Place) (areas : List Area) (next : ℕ) : Type 0 where
   pub settled : IsSettledWell p areas
+  pub unlinked : AreUnlinkedWell c p
   pub ready : AreAreasReady c p areas next
   pub serials : next + 1 < 2 ^ 32
 

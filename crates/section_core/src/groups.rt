@@ -93,26 +93,26 @@ fn group_spans(alloc: Global, groups: &[Group], base: u32) -> SmallVec<Span, 8>
     spans
 }
 
-/// The areas of all groups of a chunk, at most 8. It takes no memory.
+/// The areas of all groups of a chunk. An error comes for want of memory only.
 fn group_areas(
     alloc: Global,
     groups: &[Group],
     chunk: u32,
     base: u32,
-) -> SmallVec<(Span, AreaKind), 8>
+) -> Result<Vec<(Span, AreaKind)>, AllocError>
     requires few { length groups.now ≤ 8 }
     requires within { All (λ (g : Group). base + g.offset < 2 ^ 32) groups.now }
-    ensures { result.items ≡ group_kinds chunk 0 (spans_at base groups.now) }
+    ensures { IfOk result (λ areas. areas.items ≡ group_kinds chunk 0 (spans_at base groups.now)) }
 {
-    let mut areas = SmallVec::new(alloc);
+    let mut areas = Vec::with_capacity(alloc, groups.len())?;
     for (number, group) in groups.iter().enumerate() {
         let kind = AreaKind::Chunk {
             chunk,
-            group: number as u16,
+            group: number as u8,
         };
-        areas.push_reserved((span_at(*group, base), kind));
+        areas.push((span_at(*group, base), kind))?;
     }
-    areas
+    Ok(areas)
 }
 
 /// The first pages of all groups, at most 8. It takes no memory.
@@ -141,8 +141,8 @@ pub(crate) fn settle_groups(
     ensures err { OnErr result ((local.new ≡ local.old) × (busy.new ≡ busy.old)) }
 {
     let groups = local.config().layout.groups();
-    let areas = group_areas(local.alloc(), groups, wanted.number, base);
-    busy.insert_all(areas.as_slice(), local.caller())?;
+    let areas = group_areas(local.alloc(), groups, wanted.number, base)?;
+    busy.insert_all(&areas, local.caller())?;
     local.go(Place::AddingChunk { base, wanted });
     Ok(())
 }
