@@ -1,8 +1,16 @@
 -- The sections over the pages and words of per-CPU objects.
-use Rattle.std.proofs.Common.{◌≡◌, ℕ, ◌+◌, ◌*◌, ◌/◌, ◌<◌, ◌≤◌, Bool, true, false, not, nat_lt, if◌then◌else◌, List, [], ◌∷◌, length, filter, map, slice_index, Some, ℤ, ◌+ℤ◌, refl, ap, sym, ◌∙◌, subst, arith}
+use Rattle.std.proofs.Common.{◌≡◌, ℕ, ◌+◌, ◌*◌, ◌/◌, ◌<◌, ◌≤◌, ◌==◌, ◌&&◌, ◌⊎◌, inl, inr, Bool, true, false, not, nat_lt, nat_le, if◌then◌else◌, List, [], ◌∷◌, length, filter, map, slice_index, slice_get, Some, None, ℤ, ◌+ℤ◌, refl, ap, sym, ◌∙◌, subst, arith}
 use Rattle.std.proofs.lemmas.Bool.Decides.{nat_tests}
 use Rattle.vm_model.specs.declared.calls.Reply.TheVariants as reply
-use Rattle.vm_model.specs.Space.{count_from}
+use Rattle.vm_model.specs.Space.{count_from, is_among, one_if}
+use Rattle.vm_model.specs.declared.areas.PageSet.{PageSet}
+use Rattle.vm_model.specs.PageSets.{has_page}
+use Rattle.vm_model.specs.PageSets.{pages_in as pages_set}
+use Rattle.vm_model.specs.Carried.{count_of}
+use Rattle.vm_model.proofs.Tabulated.{filter-same}
+use Rattle.map_laws.proofs.BlockFacts.{count_cons, among_count}
+use Rattle.map_laws.proofs.PlaceMoves.{given_all, given_still}
+use Rattle.chunk_slots.proofs.PageBits.{inside, from_before}
 use Rattle.vm_model.specs.Setup.{pages_in_units}
 use Rattle.vm_model.specs.PlainMap.{PlainMap}
 use Rattle.vm_model.specs.Frames.{is_used, free_frames, give_frames, sum_words}
@@ -14,12 +22,37 @@ use Rattle.vm_model.specs.Given.{given, with_frames}
 use Rattle.vm_model.specs.Next.{Next, Go, Answer, just, next}
 use Rattle.vm_model.specs.History.{Local, moved_to}
 use Rattle.vm_model.specs.Parts.{map_with}
-use Rattle.page_pool.specs.Pages.{Pages, free_of}
-use Rattle.page_pool.specs.Units.{pages_at, bytes_at, with_frames_for, without_frames_for, with_zeroed, with_added, word_of, sum_of}
+use Rattle.page_pool.specs.Pages.{Pages, free_of, IsMapped}
+use Rattle.page_pool.specs.Units.{AreDistinct, pages_at, bytes_at, with_frames_for, without_frames_for, with_zeroed, with_added, word_of, sum_of}
 use Rattle.page_pool.specs.Sections.{pages_in}
 use Rattle.section_core.specs.MadeSections.{IsMoved}
 use Rattle.section_core.specs.RegionSides.{pages_region}
 use Rattle.section_core.proofs.Moved.{moved_as}
+
+-- pages of which each stands once
+pub distinct_once : (pages : List ℕ) → ((page : ℕ) → count_of page pages ≤ 1) → AreDistinct pages
+distinct_once [] once = tt
+distinct_once (page ∷ pages) once =
+    (by (is_among pages page) refl, distinct_once pages (λ other. (let few = once other in omega (arith, count_cons other page pages))))
+  where
+    by : (b : Bool) → is_among pages page ≡ b → is_among pages page ≡ false
+    by false e = e
+    by true e =
+        let here : (page == page) ≡ true = grind (arith, nat_tests) in
+        let few = once page in absurd (omega (arith, count_cons page page pages, ap one_if here, among_count page pages e))
+
+-- where each of some pages has a frame or gets one, all are mapped then
+pub mapped_then : (p : Pages) (pages : List ℕ) (page : ℕ) → length pages ≤ length (free_of p) → ((other : ℕ) → is_among pages other ≡ true → slice_get p.frames other ≡ Some None)
+    → (is_among pages page ≡ true) ⊎ ((frame : ℕ) × (slice_get p.frames page ≡ Some (Some frame))) → IsMapped (with_frames_for pages p) page
+mapped_then p pages page low unmapped is = elim is [
+  | inl among ↦ given_all pages (free_of p) p.frames page None among low (unmapped page among)
+  | inr mapped ↦ given_still pages (free_of p) p.frames page mapped.0 mapped.1
+]
+
+-- a set of one page
+pub one_page : (set : PageSet) (page : ℕ) → page < 64 → ((other : ℕ) → other < 64 → has_page set other ≡ (nat_le page other && nat_lt other (page + 1))) → pages_set set ≡ page ∷ []
+unfolding pages_set
+one_page set page low is = filter-same (has_page set) (inside page (page + 1)) 64 0 (λ other a b. is other (omega arith)) ∙ from_before page 1 64 0 (omega arith) (omega arith)
 
 module _ (l : Local) (p : Pages) (memory : length p.cells ≡ 1024 * l.setup.frames) where
   abbrev here : PlainMap
