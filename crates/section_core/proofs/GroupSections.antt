@@ -125,7 +125,7 @@ module _ (l : Local) (laid : List Group) (align : ℕ) (has : HasGroups l.setup 
   carves_with_memory asks fits = subst (λ blocks. TakesMemory l (FreeRuns blocks)) (sym stands.2) (finds_base_with_memory l stands.0 stands.1 asks (fits l.setup stands.0 has stands.2))
 
 -- what holds of each by its place holds of all
-each : {X : Type 0} (P : X → Type 0) (xs : List X) → ((i : ℕ) (x : X) → slice_get xs i ≡ Some x → P x) → All P xs
+pub each : {X : Type 0} (P : X → Type 0) (xs : List X) → ((i : ℕ) (x : X) → slice_get xs i ≡ Some x → P x) → All P xs
 each P xs of = λ k d h. of k (get_or xs k d) (slice_get-get_or xs k d h)
 
 asked_are : (chunk group : ℕ) (groups : List Span) → asked_spans (group_kinds chunk group groups) ≡ groups

@@ -1,7 +1,9 @@
 -- A caller and its region that stand in one state of a run: the section can be made, and the place stands before the side that it wants.
 use Rattle.std.proofs.Common.{◌≡◌, ℕ, ◌+◌, ◌<◌, Bool, true, false, List, length, Option, Some, Result, Ok, Err, OnErr, sym, ap, ◌∙◌, subst, refl, arith}
 use Rattle.vm_model.specs.Setup.{Setup}
-use Rattle.vm_model.specs.Places.{ask}
+use Rattle.vm_model.specs.PlainMap.{Chunk}
+use Rattle.vm_model.specs.Places.{ask, Adding}
+use Rattle.vm_model.specs.Places.{Place as Stood}
 use Rattle.vm_model.specs.Given.{can_move}
 use Rattle.vm_model.specs.History.{Local}
 use Rattle.vm_model.specs.Parts.{Region, FreeRuns, LiveAreas, WaitingSpans, CpuBlocks, map_with, number_of, wants, moves}
@@ -25,19 +27,50 @@ use Rattle.callers.specs.CallerParts.{IsAt}
 use Rattle.section_core.specs.declared.region.Side.{Side}
 use Rattle.section_core.specs.declared.region.Side.TheVariants.{Desk, Purge, Free, Busy, Lazy, Pages, Blocks}
 use Rattle.section_core.specs.RegionSides.{region_of}
-use Rattle.section_core.specs.StandsWell.{StandsWell, CanMake}
+use Rattle.section_core.specs.SectionRows.{is_row}
+use Rattle.section_core.specs.StandsWell.{IsAmountWell, StandsWell, CanMake}
 use Rattle.section_laws.specs.Lawful.{IsLawful}
+use Rattle.section_laws.proofs.AreasReady.{areas_ready}
+use Rattle.section_laws.proofs.PagesReady.{pages_ready}
+use Rattle.section_laws.proofs.PercpuReady.{percpu_ready, numbers_left, units_there}
+use Rattle.section_laws.proofs.WordsSmall.{cells_small, amounts_small}
+use Rattle.section_core.proofs.GroupSections.{each}
+use Rattle.section_core.proofs.LawfulGroups.{unlinked_there}
 use Rattle.section_core.proofs.LawfulCallers.{number_of_region, few_more, wanted_number}
 use Rattle.section_core.proofs.LawfulRegions.{runs_there, dropped_there, returned_there, mapped_there, unmapped_there, flushed_there, memory_there, pages_wide_there, serials_there, settled_there, can_wait_there}
 use Rattle.section_core.proofs.LawfulBlocks.{own_there, processor_there, blocks_well_there}
 
-pub stands_well : (l : Local) (r : Region) → StandTogether wants IsLawful l r → IsWhole l.setup l.place → StandsWell l.setup l.place r
+-- what is added is an amount of 32 bits
+amount_there : (l : Local) (r : Region) → StandTogether wants IsLawful l r → IsAmountWell l.place
+amount_there l r st = by_place l.place refl
+  where
+    by_place : (p : Stood) → l.place ≡ p → IsAmountWell p
+    by_place (Adding at serial cpu index amount) e = amounts_small l r at serial cpu index amount st e
+    by_place _ e = tt
+
+pub stands_well : (l : Local) (r : Region) → StandTogether wants IsLawful l r → IsWhole l.setup l.place → StandsWell l.setup l.caller l.place r
 stands_well l (FreeRuns blocks) st whole = record { runs = runs_there l blocks st; dropped = dropped_there l blocks st whole; returned = returned_there l blocks st whole }
-stands_well l (LiveAreas areas next) st whole = record { settled = settled_there l areas next st; serials = serials_there l areas next st }
+stands_well l (LiveAreas areas next) st whole = record { settled = settled_there l areas next st; unlinked = unlinked_there l areas next st; ready = areas_ready l areas next st; serials = serials_there l areas next st }
 stands_well l (WaitingSpans spans) st whole = can_wait_there l spans st whole
 stands_well l (parts.Pages frames stale cells) st whole =
     let pages : pool.Pages = record { frames = frames; stale = stale; cells = cells } in
-    record { mapped = mapped_there l pages st whole; unmapped = unmapped_there l pages st whole; flushed = flushed_there l pages st whole; wide = pages_wide_there l pages st; memory = memory_there l pages st }
+    record {
+      mapped = mapped_there l pages st whole;
+      unmapped = unmapped_there l pages st whole;
+      flushed = flushed_there l pages st whole;
+      ready = pages_ready l frames stale cells st;
+      small = record { words = cells_small l frames stale cells st; amount = amount_there l (parts.Pages frames stale cells) st };
+      wide = pages_wide_there l pages st;
+      memory = memory_there l pages st;
+    }
+stands_well l (parts.Percpu chunks object chunk room) st whole =
+    let left = numbers_left l chunks object chunk room st in
+    record {
+      ready = percpu_ready l chunks object chunk room st;
+      units = each (λ (h : Chunk). length h.populated ≡ l.setup.unit_pages) chunks (units_there l chunks object chunk room st);
+      objects = left.0;
+      numbers = left.1;
+    }
 stands_well l (CpuBlocks cpu pages blocks next) st whole =
     let side : BlockRows = record { cpu = cpu; pages = pages; blocks = blocks; next = next } in
     record { own = own_there l side st; cpu = processor_there l side st; well = blocks_well_there l side st }
@@ -54,7 +87,7 @@ can_make l r p st m at = record {
   at_hand = more_there p l r at m;
   events = few_more l r st;
   moves = m;
-  stands = subst (λ q. StandsWell l.setup q r) at.place (stands_well l r st at.whole);
+  stands = subst (λ q. StandsWell l.setup l.caller q r) at.place (stands_well l r st at.whole);
 }
 
 -- a row of the table
