@@ -60,10 +60,12 @@ pub fn section(local: &mut Local, region: &mut Region) -> Result<Stepped, AllocE
 pub fn moves(local: &Local, region: &Region) -> bool
     ensures { result ≡ moves local.now region.now }
 {
-    match (local.place(), &region.side) {
-        (Place::Over, _)
-        | (Place::PurgeTaking { .. }, Side::Purge(Some(_)))
-        | (Place::TakingAlloc(_) | Place::TakingToBalance, Side::Alloc(Some(_))) => false,
+    match local.place() {
+        Place::Over => false,
+        Place::PurgeTaking { .. } => !matches!(region.side, Side::Purge(Some(_))),
+        Place::TakingAlloc(_) | Place::TakingToBalance => {
+            !matches!(region.side, Side::Alloc(Some(_)))
+        }
         _ => true,
     }
 }
