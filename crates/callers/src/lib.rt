@@ -18,6 +18,7 @@ pub mod answers;
 mod begin;
 mod carried;
 pub mod local;
+mod noting;
 mod place;
 mod placing;
 pub mod region_number;

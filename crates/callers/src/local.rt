@@ -1,29 +1,25 @@
 //! A caller: its calls, how they were answered, and where it stands.
-ghost use Rattle.std.specs.Prelude.{◌≡◌, ◌≢◌, ◌≤◌, ◌<◌, ◌+◌, ◌^◌, ◌++◌, ℕ, List, [], All, Option, Some, slice_get, length, map, option_to_list, IfOk, OnOk, OnErr};
+ghost use Rattle.std.specs.Prelude.{◌≡◌, ◌≤◌, ◌<◌, ◌+◌, ◌^◌, ℕ, List, All, Some, slice_get, length, map, IfOk};
 ghost use Rattle.std.specs.Arc.{arc_value};
 ghost use Rattle.unit_layout.specs.Config.{setup_of};
-ghost use Rattle.vm_model.specs.Setup.{cpus, groups_at};
+ghost use Rattle.vm_model.specs.Setup.{groups_at};
 ghost use Rattle.vm_model.specs.Rules.{IsSetup};
-ghost use Rattle.vm_model.specs.Next.{Go, Answer, go_on, next, after_collecting, after_flush};
-ghost use Rattle.vm_model.specs.Events.{Fragment, Dirty};
+ghost use Rattle.vm_model.specs.Next.{Go, Answer, go_on};
 ghost use Rattle.vm_model.specs.History.{started, moved_to, callers_from};
-ghost use Rattle.vm_model.specs.declared.areas.Span.{Span};
 ghost use Rattle.vm_model.specs.declared.calls.Call.{Call};
 ghost use Rattle.vm_model.specs.Parts.{wants};
 ghost use Rattle.history_book.specs.declared.noted.Noted.{Noted};
 ghost use Rattle.history_book.specs.Entries.{note_of};
-ghost use Rattle.vm_model.specs.Space.{HasEnd, hull};
-ghost use Rattle.lazy_purge.specs.Waits.{HasPage};
 ghost use Rattle.vm_model.specs.Places as model;
-ghost use Rattle.vm_model.specs.Places.{Then, SpareAgain};
-ghost use Rattle.callers.specs.declared.answers.Answered.{Answered as Code};
-ghost use Rattle.map_blocks.specs.BlockRows as rows;
-ghost use Rattle.callers.specs.CarriedPlaces.{place_of, nothing, then_of, made_of, carried_at, filled_by, IsSized, IsWhole, IsExtra, IsSizedAfter, IsEmptyHanded, CarriesNoSpans};
-ghost use Rattle.callers.specs.CallerParts.{answer_of, answers_with, AreSound, OpeningTellsFreed, after_reply, HasCall, IsAt};
+ghost use Rattle.vm_model.specs.Places.{SpareAgain};
+ghost use Rattle.callers.specs.CarriedPlaces.{place_of, nothing, then_of, made_of, filled_by, IsSized, IsWhole, IsSizedAfter, IsEmptyHanded};
+ghost use Rattle.callers.specs.CallerParts.{answer_of, AreSound, OpeningTellsFreed, HasCall, IsAt};
 
-use crate::answers::{AnswerList, Answered, Made, Outcome};
+mod purge;
+
+use crate::answers::{AnswerList, Made, Outcome};
 use crate::begin::place_before;
-use crate::carried::{after_fragments, after_range, joined_hull, push_range};
+use crate::noting::{answers_noted, note_free};
 use crate::place::{After, Place};
 use crate::region_number::{
     ALLOC_TURN, CHUNKS, DESK, FIRST_BLOCKS, FREE_BLOCKS, LIVE_AREAS, PAGE_MAP, PURGE_TURN,
@@ -31,12 +27,11 @@ use crate::region_number::{
 };
 use history_book::Book;
 use lazy_purge::{Batch, LazySide};
-use map_blocks::BlockSide;
 use std::alloc::{AllocError, Global};
 use std::marker::Model;
 use std::sync::Arc;
 use unit_layout::Config;
-use vm_model::{Call, CallerCalls, Reply, Span};
+use vm_model::{CallerCalls, Reply, Span};
 
 /// A caller between two of its sections: all that its next one needs beside its region.
 #[derive(Drop)]
@@ -134,38 +129,6 @@ impl Local {
         self.alloc
     }
 
-    /// The starts of the blocks that its purge has taken out.
-    pub fn gone(&self) -> &[u32]
-        requires { (extra : Option Span) × (after : Then) × (self.now.place ≡ model.PurgeUnlinking (carried_at self.now.place).gone extra after) }
-        ensures { result.now ≡ (carried_at self.now.place).gone }
-    {
-        self.gone.as_slice()
-    }
-
-    /// The spans of the blocks that its purge has taken out.
-    pub fn gone_spans(&self) -> Result<Vec<Span>, AllocError>
-        requires { (extra : Option Span) × (after : Then) × (self.now.place ≡ model.PurgeWaiting (carried_at self.now.place).gone extra after) }
-        ensures { IfOk result (λ spans. spans.items ≡ model.block_spans self.now.setup (carried_at self.now.place).gone) }
-    {
-        let pages = self.config.block_pages;
-        self.gone
-            .iter()
-            .map(|start| Span {
-                start: *start,
-                pages,
-            })
-            .collect(self.alloc)
-    }
-
-    /// The spans that its purge has flushed and returns.
-    pub fn waited(&self) -> &[Span]
-        requires { (after : Then) × (self.now.place ≡ model.PurgeReturning (carried_at self.now.place).waited after) }
-        ensures spans { result.now ≡ (carried_at self.now.place).waited }
-        ensures some { All HasPage result.now }
-    {
-        self.waited.spans()
-    }
-
     /// One event more, after which it stands there.
     pub fn go(&mut self, place: Place)
         requires empty_handed { IsEmptyHanded place }
@@ -195,97 +158,6 @@ impl Local {
         }
     }
 
-    /// One event more, which took the purge turn. No block is taken out yet.
-    pub fn take_purge(&mut self, extra: Option<Span>, after: After)
-        requires extra { IsExtra self.old.setup.space extra }
-        requires sized { IsSizedAfter after }
-        requires at_hand { length self.old.answers < length self.old.calls }
-        requires events { self.old.events + 1 < 2 ^ 32 }
-        ensures { self.new ≡ moved_to self.old (Go (model.PurgeFragmenting 0 [] extra (then_of after))) }
-    {
-        self.events += 1;
-        self.gone.clear();
-        self.place = Place::PurgeFragmenting {
-            cpu: 0,
-            extra,
-            after,
-        };
-    }
-
-    /// One event more, which takes the fragmented blocks of a processor out. The next processor's come then, or all of
-    /// them are unlinked, if there are any. An error leaves all as it was.
-    pub fn take_fragmented(
-        &mut self,
-        blocks: &mut BlockSide,
-        cpu: u8,
-        extra: Option<Span>,
-        after: After,
-    ) -> Result<(), AllocError>
-        requires place { self.old.place ≡ model.PurgeFragmenting cpu (carried_at self.old.place).gone extra (then_of after) }
-        requires sized { IsSizedAfter after }
-        requires at_hand { length self.old.answers < length self.old.calls }
-        requires events { self.old.events + 1 < 2 ^ 32 }
-        ensures local { OnOk result (self.new ≡ moved_to self.old (next self.old.setup self.old.place (Fragment cpu (rows.fragmented blocks.old)))) }
-        ensures blocks { OnOk result (blocks.new ≡ rows.without_blocks (rows.fragmented blocks.old) blocks.old) }
-        ensures memory { OnErr result (rows.fragmented blocks.old ≢ []) }
-        ensures err { OnErr result ((self.new ≡ self.old) × (blocks.new ≡ blocks.old)) }
-    {
-        self.gone.reserve(blocks.fragmented())?;
-        let starts = blocks.take_fragmented()?;
-        self.gone.extend_from_slice(starts.as_slice())?;
-        self.events += 1;
-        self.place = after_fragments(cpu, self.config.layout.cpus(), &self.gone, extra, after);
-        Ok(())
-    }
-
-    /// One event more, which unlinked the blocks that its purge has taken out.
-    pub fn unlinked(&mut self, extra: Option<Span>, after: After)
-        requires place { self.old.place ≡ model.PurgeUnlinking (carried_at self.old.place).gone extra (then_of after) }
-        requires sized { IsSizedAfter after }
-        requires at_hand { length self.old.answers < length self.old.calls }
-        requires events { self.old.events + 1 < 2 ^ 32 }
-        ensures { self.new ≡ moved_to self.old (Go (model.PurgeWaiting (carried_at self.old.place).gone extra (then_of after))) }
-    {
-        self.events += 1;
-        self.place = Place::PurgeWaiting { extra, after };
-    }
-
-    /// One event more, which collected these spans to flush with the extra one. Where there are none, only the turn is left
-    /// to give back.
-    pub fn collect(&mut self, batch: Batch, extra: Option<Span>, after: After)
-        requires some { All HasPage batch }
-        requires ends { All HasEnd batch }
-        requires space { self.old.setup.space ≤ 1048576 }
-        requires extra { IsExtra self.old.setup.space extra }
-        requires sized { IsSizedAfter after }
-        requires at_hand { length self.old.answers < length self.old.calls }
-        requires events { self.old.events + 1 < 2 ^ 32 }
-        ensures { self.new ≡ moved_to self.old (after_collecting batch (hull (batch ++ option_to_list extra)) (then_of after)) }
-    {
-        let Some(hull) = joined_hull(&batch, extra) else {
-            return self.go(Place::PurgeGiving(after));
-        };
-        self.events += 1;
-        self.place = Place::PurgeFlushing { hull, after };
-        self.waited = batch;
-    }
-
-    /// One event more, which flushed the spans that were collected.
-    pub fn flushed(&mut self, after: After)
-        requires sized { IsSizedAfter after }
-        requires place { (hull : Span) × (self.old.place ≡ model.PurgeFlushing hull (carried_at self.old.place).waited (then_of after)) }
-        requires at_hand { length self.old.answers < length self.old.calls }
-        requires events { self.old.events + 1 < 2 ^ 32 }
-        ensures { self.new ≡ moved_to self.old (after_flush (carried_at self.old.place).waited (then_of after)) }
-    {
-        self.events += 1;
-        self.place = if self.waited.spans().is_empty() {
-            Place::PurgeGiving(after)
-        } else {
-            Place::PurgeReturning(after)
-        };
-    }
-
     /// One event more, which unlinked the areas of the chunk at this base. Their spans wait next.
     pub fn unlinked_groups(&mut self, base: u32)
         requires at_hand { length self.old.answers < length self.old.calls }
@@ -294,20 +166,6 @@ impl Local {
     {
         self.events += 1;
         self.place = Place::WaitingForGroups { base };
-    }
-
-    /// One event more, which saw the hull of a processor's dirty ranges. The next processor's comes then, or a purge that
-    /// flushes the hull of them all.
-    pub fn saw_dirty(&mut self, cpu: u8, range: Option<Span>)
-        requires place { self.old.place ≡ model.LookingAtDirty cpu (carried_at self.old.place).ranges }
-        requires range { IsExtra self.old.setup.space range }
-        requires at_hand { length self.old.answers < length self.old.calls }
-        requires events { self.old.events + 1 < 2 ^ 32 }
-        ensures { self.new ≡ moved_to self.old (next self.old.setup self.old.place (Dirty cpu range)) }
-    {
-        push_range(&mut self.ranges, range);
-        self.events += 1;
-        self.place = after_range(cpu, self.config.layout.cpus(), &self.ranges);
     }
 
     /// One event more, which answers the call at hand.
@@ -419,46 +277,6 @@ impl Local {
     {
         answers_noted(alloc, self.calls.as_slice(), &self.book, &self.outcomes)
     }
-}
-
-/// Notes what the call at hand freed, where it is a `free_percpu` that is answered Done: its target's call.
-fn note_free(outcomes: &mut [Outcome], calls: &[Call], reply: Reply)
-    requires sound { AreSound calls.now }
-    ensures freed { outcomes.new ≡ after_reply (slice_get calls.now (length outcomes.old)) reply outcomes.old }
-{
-    let Some(call) = calls.get(outcomes.len()) else {
-        return;
-    };
-    let (Call::FreePercpu { target }, Reply::Done) = (*call, reply) else {
-        return;
-    };
-    outcomes[target.call as usize - 1].freed = true;
-}
-
-/// The answered calls, with what was noted of each and what each made.
-fn answers_noted(
-    alloc: Global,
-    calls: &[Call],
-    book: &Book,
-    outcomes: &[Outcome],
-) -> Result<AnswerList, AllocError>
-    requires few { length calls.now ≤ 100000 }
-    requires calls { length book.now.rows ≤ length calls.now }
-    requires made { length outcomes.now ≡ length book.now.rows }
-    ensures answers { IfOk result (λ answers. map answer_of answers ≡ answers_with calls.now book.now.rows outcomes.now) }
-    ensures outcomes { IfOk result (λ answers. map (λ (a : Code). a.outcome) answers ≡ outcomes.now) }
-{
-    let mut answers = Vec::with_capacity(alloc, outcomes.len())?;
-    for (index, outcome) in outcomes.iter().enumerate() {
-        let number = index as u32 + 1;
-        answers.push_reserved(Answered {
-            call: calls[index],
-            reply: book.reply_at(number),
-            outcome: *outcome,
-            own_event: book.own_event_at(number),
-        });
-    }
-    Ok(AnswerList::of(answers))
 }
 
 /// The callers from 1 on before their first calls, once the opening has these answers.

@@ -70,7 +70,8 @@ without_chunk chunk r = record r { chunks = filter (λ (h : Chunk). not (h.numbe
 pub record IsHeld (at : ObjectAt) (chunks : List Chunk) : Type 0 where
   pub object : Object
   pub found : find_object at chunks ≡ Some object
-  pub life : object.life ≡ InHand object.caller
+  pub caller : ℕ
+  pub life : object.life ≡ InHand caller
   pub bytes : object.bytes ≡ at.bytes
 
 -- the page is not populated, and no object has a byte of it

@@ -2,7 +2,6 @@ pub mod SectionsMade
 pub mod CallersThere
 pub mod Picks
 pub mod Callers
-pub mod PlainWorlds
 pub mod Starts
 pub mod TablesTold
 pub mod Sorted

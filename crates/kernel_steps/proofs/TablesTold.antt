@@ -1,5 +1,5 @@
 -- The tables of a kernel that stands in a world.
-use Rattle.std.proofs.Common.{◌-◌, drop, slice_index, lit<, slice_index_or, count_by, is_some, append-nil, add-one, ◌≡◌, ℕ, suc, ◌+◌, ◌/◌, ◌<◌, ◌≤◌, All, List, [], ◌∷◌, ◌++◌, length, map, flat_map, take, slice_get, filter, not, Some, refl, ap, sym, ◌∙◌, subst, arith}
+use Rattle.std.proofs.Common.{◌-◌, drop, slice_index, lit<, slice_index_or, append-nil, add-one, ◌≡◌, ℕ, suc, ◌+◌, ◌/◌, ◌<◌, ◌≤◌, All, List, [], ◌∷◌, ◌++◌, length, map, take, slice_get, filter, not, Some, refl, ap, sym, ◌∙◌, subst, arith}
 use Rattle.std.proofs.lemmas.Grind.{flat_map-append}
 use Rattle.vm_model.specs.declared.calls.Call.{Call}
 use Rattle.vm_model.specs.declared.calls.Entry.{Entry}
@@ -20,7 +20,6 @@ use Rattle.kernel_steps.specs.Kernels.{KernelState, IsStanding, IsSomewhere, IsO
 use Rattle.section_core.proofs.LawfulCallers.{sound}
 use Rattle.section_core.proofs.Counted.{reached_counted, events_of, length-numbers_of}
 use Rattle.callers.proofs.AnswersGiven.{take_one}
-use Rattle.kernel_steps.proofs.PlainWorlds.{plain_world}
 use Rattle.section_core.proofs.LawfulRegions.{free_there, pages_there}
 use Rattle.section_laws.proofs.Memory.{memory_reached}
 use Rattle.page_pool.specs.Pages as pool
@@ -29,15 +28,14 @@ use Rattle.std.proofs.Math.Nat.{mul-div_cancel_left}
 use Rattle.std.proofs.lemmas.Option.{slice_get_read}
 use Rattle.vm_model.specs.declared.areas.Span.{Span}
 use Rattle.vm_model.specs.declared.areas.Area.{Area}
-use Rattle.unit_layout.specs.declared.config.Config.{Config}
 use Rattle.vm_model.specs.declared.tables.Tables.{Tables}
-use Rattle.vm_model.specs.Space.{sort_by, longest_of, count_from}
-use Rattle.unit_layout.specs.Config.{setup_of}
-use Rattle.vm_model.specs.PlainMap.{PlainMap, free_runs}
+use Rattle.vm_model.specs.Space.{count_from}
+use Rattle.vm_model.specs.PlainMap.{PlainMap, Chunk, free_runs}
 use Rattle.vm_model.specs.Frames.{free_frames, is_used}
-use Rattle.vm_model.specs.Parts.{FreeRuns, LiveAreas, Pages, Region, WaitingSpans, cpu_blocks, regions_of}
-use Rattle.vm_model.specs.Tables.{chunk_row, object_rows, hint_rows, tables_of}
-use Rattle.vm_model.specs.Tables.{chunk_audit as chunk_audit_of}
+use Rattle.vm_model.specs.Parts.{FreeRuns, LiveAreas, Pages, Percpu, Region, WaitingSpans, cpu_blocks, regions_of}
+use Rattle.map_laws.proofs.TraceWorlds.{trace_reached}
+use Rattle.chunk_slots.specs.ChunkRegion.{AreOfUnits}
+use Rattle.chunk_slots.proofs.UnitPages.{of_units}
 
 -- a caller's events are its places among the movers
 own_places : (c : Setup) (opening : List Call) (calls : List (List Call)) (w : World) (k : ℕ) (l : Local) → IsRunning c opening calls w → slice_get w.locals k ≡ Some l → length (places_of l.caller 1 (movers w.events)) ≡ l.events
@@ -75,7 +73,7 @@ entries_next c opening calls w k i l caller rows held entries entries' st here m
     ∙ entries_more w.events w.locals i l at ∙ ap (λ n. entries_of w.events (take n w.locals)) (sym (add-one i))
 
 -- tables that agree in each part
-same_tables : (t u : Tables) → t.entries ≡ u.entries → t.events ≡ u.events → t.frames ≡ u.frames → t.mapped ≡ u.mapped → t.stale ≡ u.stale → t.free ≡ u.free → t.areas ≡ u.areas → t.waiting ≡ u.waiting → t.blocks ≡ u.blocks → t.parts ≡ u.parts → t.chunks ≡ u.chunks → t.objects ≡ u.objects → t.tree_blocks ≡ u.tree_blocks → t.tree_largest ≡ u.tree_largest → t.plain_largest ≡ u.plain_largest → t.chunk_audit ≡ u.chunk_audit → t.hints ≡ u.hints → t ≡ u
+pub same_tables : (t u : Tables) → t.entries ≡ u.entries → t.events ≡ u.events → t.frames ≡ u.frames → t.mapped ≡ u.mapped → t.stale ≡ u.stale → t.free ≡ u.free → t.areas ≡ u.areas → t.waiting ≡ u.waiting → t.blocks ≡ u.blocks → t.parts ≡ u.parts → t.chunks ≡ u.chunks → t.objects ≡ u.objects → t.tree_blocks ≡ u.tree_blocks → t.tree_largest ≡ u.tree_largest → t.plain_largest ≡ u.plain_largest → t.chunk_audit ≡ u.chunk_audit → t.hints ≡ u.hints → t ≡ u
 same_tables t u e0 e1 e2 e3 e4 e5 e6 e7 e8 e9 e10 e11 e12 e13 e14 e15 e16 =
     ap (λ x. record { entries = x; events = t.events; frames = t.frames; mapped = t.mapped; stale = t.stale; free = t.free; areas = t.areas; waiting = t.waiting; blocks = t.blocks; parts = t.parts; chunks = t.chunks; objects = t.objects; tree_blocks = t.tree_blocks; tree_largest = t.tree_largest; plain_largest = t.plain_largest; chunk_audit = t.chunk_audit; hints = t.hints }) e0
     ∙ ap (λ x. record { entries = u.entries; events = x; frames = t.frames; mapped = t.mapped; stale = t.stale; free = t.free; areas = t.areas; waiting = t.waiting; blocks = t.blocks; parts = t.parts; chunks = t.chunks; objects = t.objects; tree_blocks = t.tree_blocks; tree_largest = t.tree_largest; plain_largest = t.plain_largest; chunk_audit = t.chunk_audit; hints = t.hints }) e1
@@ -94,22 +92,6 @@ same_tables t u e0 e1 e2 e3 e4 e5 e6 e7 e8 e9 e10 e11 e12 e13 e14 e15 e16 =
     ∙ ap (λ x. record { entries = u.entries; events = u.events; frames = u.frames; mapped = u.mapped; stale = u.stale; free = u.free; areas = u.areas; waiting = u.waiting; blocks = u.blocks; parts = u.parts; chunks = u.chunks; objects = u.objects; tree_blocks = u.tree_blocks; tree_largest = u.tree_largest; plain_largest = x; chunk_audit = t.chunk_audit; hints = t.hints }) e14
     ∙ ap (λ x. record { entries = u.entries; events = u.events; frames = u.frames; mapped = u.mapped; stale = u.stale; free = u.free; areas = u.areas; waiting = u.waiting; blocks = u.blocks; parts = u.parts; chunks = u.chunks; objects = u.objects; tree_blocks = u.tree_blocks; tree_largest = u.tree_largest; plain_largest = u.plain_largest; chunk_audit = x; hints = t.hints }) e15
     ∙ ap (λ x. record { entries = u.entries; events = u.events; frames = u.frames; mapped = u.mapped; stale = u.stale; free = u.free; areas = u.areas; waiting = u.waiting; blocks = u.blocks; parts = u.parts; chunks = u.chunks; objects = u.objects; tree_blocks = u.tree_blocks; tree_largest = u.tree_largest; plain_largest = u.plain_largest; chunk_audit = u.chunk_audit; hints = x }) e16
-
--- the tables of a world of the built words, from what its regions tell
-pub tables_told : (config : Config) (opening : List Call) (calls : List (List Call)) (w : World) (t : Tables) → IsRunning (setup_of config) opening calls w → t.entries ≡ entries_of w.events w.locals → t.events ≡ length w.events
-    → t.frames ≡ length (free_frames (setup_of config) w.map.frames) → t.mapped ≡ count_by is_some w.map.frames → t.stale ≡ count_by (λ b. b) w.map.stale → t.free ≡ free_runs w.map → t.areas ≡ w.map.areas
-    → t.waiting ≡ sort_by (λ (s : Span). s.start) w.map.waiting → t.blocks ≡ (tables_of (setup_of config) w).blocks → t.parts ≡ (tables_of (setup_of config) w).parts → t.chunks ≡ [] → t.objects ≡ [] → t.tree_blocks ≡ length (free_runs w.map) → t.tree_largest ≡ (longest_of (free_runs w.map)).pages → t.plain_largest ≡ (longest_of (free_runs w.map)).pages
-    → t.chunk_audit ≡ [] → t.hints ≡ [] → t ≡ tables_of (setup_of config) w
-tables_told config opening calls w t is entries events frames mapped stale free areas waiting blocks parts chunks objects tree_blocks tree_largest plain_largest chunk_audit hints =
-    let empty = (plain_world (setup_of config) opening calls w is).empty in
-    same_tables t (tables_of (setup_of config) w) entries events frames mapped stale free areas
-    waiting
-    blocks parts
-    (chunks ∙ ap (map (chunk_row (setup_of config))) (sym empty))
-    (objects ∙ ap (flat_map object_rows) (sym empty))
-    tree_blocks tree_largest plain_largest
-    (chunk_audit ∙ ap (map (chunk_audit_of (setup_of config))) (sym empty))
-    (hints ∙ ap (flat_map (hint_rows (setup_of config))) (sym empty))
 
 -- the regions of a kernel by their numbers
 pub region_at : (c : Setup) (opening : List Call) (calls : List (List Call)) (w : World) (k : KernelState) (held : List Region) (n : ℕ) (r : Region) → IsStanding c opening calls w k → held ≡ k.regions → r ≡ slice_index_or held n r → n < length held
@@ -139,6 +121,19 @@ waiting_held _ = []
 
 pub waiting_is : (c : Setup) (m : PlainMap) (r : Region) (spans : List Span) → slice_get (regions_of c m) 5 ≡ Some r → r ≡ WaitingSpans spans → spans ≡ m.waiting
 waiting_is c m r spans at is = let same : WaitingSpans spans ≡ WaitingSpans m.waiting = (let both : Some (WaitingSpans m.waiting) ≡ Some (WaitingSpans spans) = at ∙ ap (λ r. Some r) is in cc) in ap waiting_held same
+
+abbrev chunks_held : Region → List Chunk
+chunks_held (Percpu chunks object chunk room) = chunks
+chunks_held _ = []
+
+pub chunks_are : (c : Setup) (m : PlainMap) (r : Region) (chunks : List Chunk) (object chunk room : ℕ) → slice_get (regions_of c m) 7 ≡ Some r → r ≡ Percpu chunks object chunk room → chunks ≡ m.chunks
+chunks_are c m r chunks object chunk room at is =
+    let same : Percpu chunks object chunk room ≡ Percpu m.chunks m.next_object m.next_chunk m.room = (let both : Some (Percpu m.chunks m.next_object m.next_chunk m.room) ≡ Some (Percpu chunks object chunk room) = at ∙ ap (λ r. Some r) is in cc) in
+    ap chunks_held same
+
+-- the chunks of a world have the pages of its machine's units
+pub world_units : (c : Setup) (opening : List Call) (calls : List (List Call)) (w : World) → IsRunning c opening calls w → AreOfUnits c.unit_pages w.map.chunks
+world_units c opening calls w is = of_units c.unit_pages w.map.chunks (λ i h at. ((trace_reached c opening calls is.trace w is.reached).1.chunks.chunks h (record { place = i; at = at })).long)
 
 -- the free frames of the page map are those of the world
 pub free_count : (c : Setup) (opening : List Call) (calls : List (List Call)) (w : World) → IsRunning c opening calls w → length (pool.free_of (record { frames = w.map.frames; stale = w.map.stale; cells = w.map.cells })) ≡ length (free_frames c w.map.frames)

@@ -2,7 +2,7 @@
 ghost use Rattle.std.specs.Prelude.{◌∷◌, ◌≡◌, ◌≢◌, ◌<◌, ◌≤◌, ℕ, true, false, List, All, Some, length, take, drop, slice_get, reverse, IfOk, IfSome, OnOk, OnErr};
 ghost use Rattle.vm_model.specs.declared.calls.Call.{Call};
 ghost use Rattle.vm_model.specs.Setup.{Setup};
-ghost use Rattle.vm_model.specs.Space.{sort_by};
+ghost use Rattle.vm_model.specs.Space.{sort_by, longest_of};
 ghost use Rattle.vm_model.specs.declared.areas.Span.{Span};
 ghost use Rattle.vm_model.specs.declared.rows.BlockRow.{BlockRow};
 ghost use Rattle.vm_model.specs.declared.rows.PartRow.{PartRow};
@@ -20,7 +20,9 @@ ghost use Rattle.section_laws.specs.Lawful.{IsRunning, IsLawful};
 ghost use Rattle.kernel_steps.specs.Kernels.{KernelState, IsStanding, IsSteppedAs, SectionAs, CanStart, IsBefore, CanJoin, IsOfBlocks, start_of, opening_of, callers_of};
 
 use augmented_tree::FreeSide;
-use callers::region_number::{FIRST_BLOCKS, FREE_BLOCKS, LIVE_AREAS, PAGE_MAP, WAITING_SPANS};
+use callers::region_number::{
+    CHUNKS, FIRST_BLOCKS, FREE_BLOCKS, LIVE_AREAS, PAGE_MAP, WAITING_SPANS,
+};
 use callers::{AnswerList, Local, first_callers, placing_calls};
 use history_book::number;
 use lazy_purge::LazySide;
@@ -231,15 +233,18 @@ impl Kernel {
     {
         let alloc = self.alloc;
         let free = self.regions[FREE_BLOCKS as usize].free();
+        let blocks = free_blocks(alloc, free)?;
+        let largest = plain_largest(&blocks);
         let pages = self.regions[PAGE_MAP as usize].pages();
-        let largest = free.largest();
+        let percpu = self.regions[CHUNKS as usize].percpu();
+        let _units = percpu.unit_pages();
         Ok(Tables {
             entries: EntryList::of(self.entries()?),
             events: self.moved.len() as u64,
             frames: pages.free_frames(),
             mapped: pages.mapped(),
             stale: pages.stale(),
-            free: SpanList::of(free_blocks(alloc, free)?),
+            free: SpanList::of(blocks),
             areas: self.regions[LIVE_AREAS as usize].busy().areas()?,
             waiting: SpanList::of(waiting_spans(
                 alloc,
@@ -247,13 +252,13 @@ impl Kernel {
             )?),
             blocks: BlockList::of(block_rows(alloc, &self.regions[FIRST_BLOCKS as usize..])?),
             parts: PartList::of(part_rows(alloc, &self.regions[FIRST_BLOCKS as usize..])?),
-            chunks: ChunkList::of(Vec::new(alloc)),
-            objects: ObjectList::of(Vec::new(alloc)),
+            chunks: ChunkList::of(percpu.chunk_rows(alloc)?),
+            objects: ObjectList::of(percpu.object_rows(alloc)?),
             tree_blocks: free.len(),
-            tree_largest: largest,
+            tree_largest: free.largest(),
             plain_largest: largest,
-            chunk_audit: ChunkAuditList::of(Vec::new(alloc)),
-            hints: HintList::of(Vec::new(alloc)),
+            chunk_audit: ChunkAuditList::of(percpu.chunk_audits(alloc)?),
+            hints: HintList::of(percpu.hint_rows(alloc)?),
         })
     }
 
@@ -274,6 +279,17 @@ fn free_blocks(alloc: Global, free: &FreeSide) -> Result<Vec<Span>, AllocError>
         spans.push(free.block_at(index))?;
     }
     Ok(spans)
+}
+
+/// The pages of the largest free block, by a look at each.
+fn plain_largest(blocks: &[Span]) -> u32
+    ensures { result ≡ (longest_of blocks.now).pages }
+{
+    let mut largest = 0;
+    for block in blocks {
+        largest = largest.max(block.pages);
+    }
+    largest
 }
 
 /// The spans that wait, the latest first.

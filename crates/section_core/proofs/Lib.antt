@@ -3,6 +3,7 @@ pub mod FreeSections
 pub mod GroupSections
 pub mod PageSections
 pub mod BlockSections
+pub mod ChunkSections
 pub mod Counted
 pub mod LawfulCallers
 pub mod NextParts

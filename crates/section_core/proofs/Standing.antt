@@ -1,7 +1,6 @@
 -- A caller and its region that stand in one state of a run: the section can be made, and the place stands before the side that it wants.
 use Rattle.std.proofs.Common.{◌≡◌, ℕ, ◌+◌, ◌<◌, Bool, true, false, List, length, Option, Some, Result, Ok, Err, OnErr, sym, ap, ◌∙◌, subst, refl, arith}
 use Rattle.vm_model.specs.Setup.{Setup}
-use Rattle.vm_model.specs.PlainMap.{Chunk}
 use Rattle.vm_model.specs.Places.{ask, Adding}
 use Rattle.vm_model.specs.Places.{Place as Stood}
 use Rattle.vm_model.specs.Given.{can_move}
@@ -30,17 +29,17 @@ use Rattle.section_core.specs.RegionSides.{region_of}
 use Rattle.section_core.specs.SectionRows.{is_row}
 use Rattle.section_core.specs.StandsWell.{IsAmountWell, StandsWell, CanMake}
 use Rattle.section_laws.specs.Lawful.{IsLawful}
-use Rattle.section_laws.proofs.AreasReady.{areas_ready}
+use Rattle.chunk_slots.proofs.UnitPages.{of_units}
 use Rattle.section_laws.proofs.PagesReady.{pages_ready}
+use Rattle.section_laws.proofs.AreasReady.{areas_ready}
 use Rattle.section_laws.proofs.PercpuReady.{percpu_ready, numbers_left, units_there}
 use Rattle.section_laws.proofs.WordsSmall.{cells_small, amounts_small}
-use Rattle.section_core.proofs.GroupSections.{each}
-use Rattle.section_core.proofs.LawfulGroups.{unlinked_there}
-use Rattle.section_core.proofs.LawfulCallers.{number_of_region, few_more, wanted_number}
+use Rattle.section_core.proofs.LawfulCallers.{few_more}
 use Rattle.section_core.proofs.LawfulRegions.{runs_there, dropped_there, returned_there, mapped_there, unmapped_there, flushed_there, memory_there, pages_wide_there, serials_there, settled_there, can_wait_there}
+use Rattle.section_core.proofs.LawfulGroups.{unlinked_there}
 use Rattle.section_core.proofs.LawfulBlocks.{own_there, processor_there, blocks_well_there}
 
--- what is added is an amount of 32 bits
+-- what is added is an amount
 amount_there : (l : Local) (r : Region) → StandTogether wants IsLawful l r → IsAmountWell l.place
 amount_there l r st = by_place l.place refl
   where
@@ -63,14 +62,12 @@ stands_well l (parts.Pages frames stale cells) st whole =
       wide = pages_wide_there l pages st;
       memory = memory_there l pages st;
     }
-stands_well l (parts.Percpu chunks object chunk room) st whole =
-    let left = numbers_left l chunks object chunk room st in
-    record {
-      ready = percpu_ready l chunks object chunk room st;
-      units = each (λ (h : Chunk). length h.populated ≡ l.setup.unit_pages) chunks (units_there l chunks object chunk room st);
-      objects = left.0;
-      numbers = left.1;
-    }
+stands_well l (parts.Percpu chunks object chunk room) st whole = record {
+  ready = percpu_ready l chunks object chunk room st;
+  units = of_units l.setup.unit_pages chunks (units_there l chunks object chunk room st);
+  objects = (numbers_left l chunks object chunk room st).0;
+  numbers = (numbers_left l chunks object chunk room st).1;
+}
 stands_well l (CpuBlocks cpu pages blocks next) st whole =
     let side : BlockRows = record { cpu = cpu; pages = pages; blocks = blocks; next = next } in
     record { own = own_there l side st; cpu = processor_there l side st; well = blocks_well_there l side st }

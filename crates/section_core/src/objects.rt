@@ -75,10 +75,7 @@ pub(crate) fn settle_object(local: &mut Local, percpu: &mut PcpuSide, placed: Pl
     ensures { IsMoved local.old (percpu_region percpu.old) local.new (percpu_region percpu.new) }
 {
     let serial = percpu.settle(&placed);
-    local.go(Place::GivingAlloc(
-        address_in(placed),
-        made_at(placed, serial),
-    ));
+    local.go(Place::GivingAlloc(address_in(placed), made_at(placed, serial)));
 }
 
 /// Gives up an object for whose pages there were too few frames.

@@ -13,12 +13,14 @@ use Rattle.map_laws.proofs.Frames.{IsFramed}
 use Rattle.map_laws.proofs.MadeNext.{IsNow}
 use Rattle.map_laws.proofs.MapLegal.{IsReady}
 use Rattle.map_laws.proofs.ObjectFacts.{IsObject, IsObjectAt}
+use Rattle.map_laws.proofs.ObjectWorlds.{SomeonePlaces}
 use Rattle.map_laws.proofs.ObjectsReady.{ready_here}
 use Rattle.map_laws.proofs.SizedCalls.{AreSized, sized_lasts, sized_first}
 use Rattle.map_laws.proofs.TraceWorlds.{IsTraceWorld, trace_reached}
 use Rattle.section_laws.specs.Lawful.{IsRunning}
 use Rattle.section_laws.specs.Needs.{LiesInUnits, HasObject}
 use Rattle.section_laws.proofs.Memory.{pages_reached}
+use Rattle.section_laws.proofs.ObjectsFound.{object_found}
 use Rattle.section_laws.proofs.PlacesListed.{IsListed, all_listed}
 
 module _ (c : Setup) (opening : List Call) (calls : List (List Call)) (w : World) (is : IsRunning c opening calls w) where
@@ -58,6 +60,7 @@ module _ (c : Setup) (opening : List Call) (calls : List (List Call)) (w : World
     off = object.off;
     bytes = object.bytes;
     lives = object.lives;
+    found = object_found c (SomeonePlaces w) w.map.chunks world.objects.fine at life object;
   }
 
   pub sized : AreSized opening calls w

@@ -4,6 +4,7 @@ pub mod Memory
 pub mod NextAreas
 pub mod UnitPages
 pub mod PlacesListed
+pub mod ObjectsFound
 pub mod Callers
 pub mod PagesReady
 pub mod AreasReady

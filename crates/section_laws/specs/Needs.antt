@@ -7,7 +7,7 @@ use Rattle.vm_model.specs.Space.{end_of, covers, times, is_among}
 use Rattle.vm_model.specs.Setup.{Setup, cpus, groups_at, pages_in_units}
 use Rattle.vm_model.specs.PlainMap.{Chunk, Object, Life, InHand}
 use Rattle.vm_model.specs.Areas.{spans_of, areas_at}
-use Rattle.vm_model.specs.Chunks.{ObjectAt, object_pages, chunks_numbered, touches}
+use Rattle.vm_model.specs.Chunks.{ObjectAt, object_pages, chunks_numbered, touches, find_object}
 use Rattle.vm_model.specs.Legal.{OnPages}
 use Rattle.vm_model.specs.Carried.{count_of}
 use Rattle.vm_model.specs.Rules.{IsPower}
@@ -102,7 +102,7 @@ pub record CanBeAsked (bytes align : ℕ) : Type 0 where
   pub align_low : 4 ≤ align
   pub align_high : align ≤ 4096
 
--- one of the chunks has the object, as far as it has come
+-- one of the chunks has the object, as far as it has come, and no other is at its place
 pub record HasObject (chunks : List Chunk) (at : ObjectAt) (life : Life) : Type 0 where
   pub number : ℕ
   pub chunk : Chunk
@@ -115,6 +115,7 @@ pub record HasObject (chunks : List Chunk) (at : ObjectAt) (life : Life) : Type 
   pub off : object.off ≡ at.off
   pub bytes : object.bytes ≡ at.bytes
   pub lives : object.life ≡ life
+  pub found : find_object at chunks ≡ Some object
 
 -- a chunk has this page, unpopulated, and no object has a byte in it
 pub record CanNoteFilled (chunks : List Chunk) (number page : ℕ) : Type 0 where

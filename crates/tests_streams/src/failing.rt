@@ -1,7 +1,7 @@
 //! Readers and writers of std some of whose calls fail, are interrupted, or move nothing.
 ghost use Rattle.std.specs.Prelude.{◌≤◌, IfOk};
 
-use crate::replayed::{REPORT, TRACE, replayed};
+use crate::replayed::{GENERATED, REPORT, TRACE, made, replayed};
 use std::alloc::Global;
 use std::io::{self, ErrorKind, Read, Write};
 use trace_replay::StreamSource;
@@ -102,6 +102,12 @@ fn failing_write(alloc: Global, piece: usize, faults: Faults) -> (u8, Vec<u8>) {
     (status, writer.inner)
 }
 
+/// The exit status of a generated trace where writes have faults, and what is written then.
+fn failing_make(alloc: Global, piece: usize, faults: Faults) -> (u8, Vec<u8>) {
+    let (status, writer) = made(alloc, 0, 1, Faulty::new(Vec::new(alloc), piece, faults));
+    (status, writer.inner)
+}
+
 /// The pieces, with the reads of the trace, one of which is its end, and the writes of its report that they take.
 const PIECES: [(usize, u32, u32); 3] = [(1, 38, 201), (7, 7, 29), (4096, 2, 1)];
 
@@ -134,6 +140,22 @@ fn each_write_fails_in_turn(rt: HostRuntime) {
         }
         let (status, taken) = failing_write(rt.alloc(), piece, fails_at(writes + 1));
         assert!(rt; status == 0 && taken.as_slice() == REPORT, "at {piece}");
+    }
+}
+
+#[test]
+fn each_write_of_a_generated_trace_fails_in_turn(rt: HostRuntime) {
+    for (piece, writes) in [(1, 134), (7, 20), (4096, 1)] {
+        for failing in 1..=writes {
+            let (status, taken) = failing_make(rt.alloc(), piece, fails_at(failing));
+            let before = piece.saturating_mul(failing as usize - 1);
+            assert!(rt;
+                status == 5 && taken.len() == before && GENERATED.starts_with(taken.as_slice()),
+                "at {piece}, {failing}"
+            );
+        }
+        let (status, taken) = failing_make(rt.alloc(), piece, fails_at(writes + 1));
+        assert!(rt; status == 0 && taken.as_slice() == GENERATED, "at {piece}");
     }
 }
 

@@ -1,6 +1,6 @@
 //! The most bytes and the most calls that a text may have, and long traces.
 
-use crate::replayed::replayed;
+use crate::replayed::{made, replayed};
 use std::alloc::{AllocError, Global};
 use std::io::{self, Read};
 use trace_replay::StreamSource;
@@ -63,4 +63,12 @@ fn long_traces_are_done(rt: HostRuntime) -> Result<(), AllocError> {
         assert!(rt; ended == 0 && tally, "of {times} lines");
     }
     Ok(())
+}
+
+/// There is memory for the longest generated trace: its header, the sections of eight callers, and 400,000 picks.
+#[test]
+fn the_longest_generated_trace(rt: HostRuntime) {
+    let (ended, written) = made(rt.alloc(), 7, 100_000, Vec::new(rt.alloc()));
+    let lines = written.as_slice().split(|byte| *byte == b'\n').count();
+    assert!(rt; ended == 0 && lines == 9 + 8 + 100_000 + 12_500 + 1 + 1);
 }

@@ -8,6 +8,6 @@ pub mod LegalHistories
 pub mod Replays
 pub mod Reported
 pub mod Told
-pub mod OneWord
+pub mod OneCommand
 pub mod ReplayTexts
 pub mod RuledTraces

@@ -9,59 +9,65 @@ use Rattle.trace_text.specs.Built.{is_built}
 use Rattle.trace_text.proofs.Outcomes.{Outcome, Whole, Bad, reads, reads-whole}
 use Rattle.trace_text.proofs.Exclusive.{one_trace, trace_or_bad}
 use Rattle.trace_text.proofs.ReadLayouts.{stands_or_refused}
+use Rattle.trace_replay.specs.declared.words.Mode.{Mode}
+use Rattle.trace_replay.specs.declared.words.Mode.TheVariants.{Replay, Audit}
 use Rattle.trace_replay.specs.declared.status.Status.{Status}
 use Rattle.trace_replay.specs.declared.status.Status.TheVariants.{Done, BadTrace, BadLayout, Unbuilt, Usage, OutOfMemory, ReadFault, WriteFault, TooLong}
 use Rattle.trace_replay.specs.BuiltReadings.{HasLayout}
 use Rattle.trace_replay.specs.Headline.{report_of, Writes, most_bytes}
-use Rattle.trace_replay.specs.WorkedReplays.{IsReplayedAs, free_space, free_space_report, OneFreeSpace, two_areas, two_areas_report, TwoAreasWithGuards, two_callers, two_callers_report, PlacesAsPicked, two_purges, two_purges_report, APickStays}
+use Rattle.trace_replay.specs.WorkedReplays.{IsReplayedAs, free_space, free_space_report, OneFreeSpace, free_space_audit, OneFreeSpaceAudited, two_areas, two_areas_report, TwoAreasWithGuards, two_callers, two_callers_report, PlacesAsPicked, two_purges, two_purges_report, APickStays}
 
 abbrev reading_of : Outcome → Reading
 reading_of (Whole r) = r
 reading_of (Bad number rest) = unread
 
-replayed_as : (bytes text : List ℕ) → reads is_built bytes ≡ Whole (reading_of (reads is_built bytes)) → HasLayout (reading_of (reads is_built bytes)) → report_of (reading_of (reads is_built bytes)) ≡ text → IsReplayedAs bytes text
-replayed_as bytes text whole stands same =
+replayed_as : (mode : Mode) (bytes text : List ℕ) → reads is_built bytes ≡ Whole (reading_of (reads is_built bytes)) → HasLayout (reading_of (reads is_built bytes)) → report_of mode (reading_of (reads is_built bytes)) ≡ text → IsReplayedAs mode bytes text
+replayed_as mode bytes text whole stands same =
     let r : Reading = reading_of (reads is_built bytes) in
     let trace : IsTraceOf is_built bytes r = reads-whole is_built bytes r whole in
     record {
       trace = (r, trace);
       stands = λ other is. subst HasLayout (one_trace is_built bytes r other trace is) stands;
-      report = λ other is. ap report_of (one_trace is_built bytes other r is trace) ∙ same;
+      report = λ other is. ap (report_of mode) (one_trace is_built bytes other r is trace) ∙ same;
     }
 
 pub one_free_space : OneFreeSpace
 unfolding digits ones history_of finish
-one_free_space = replayed_as free_space free_space_report refl refl refl
+one_free_space = replayed_as Replay free_space free_space_report refl refl refl
+
+pub one_free_space_audited : OneFreeSpaceAudited
+unfolding digits ones history_of finish
+one_free_space_audited = replayed_as Audit free_space free_space_audit refl refl refl
 
 pub two_areas_with_guards : TwoAreasWithGuards
 unfolding digits ones history_of finish
-two_areas_with_guards = replayed_as two_areas two_areas_report refl refl refl
+two_areas_with_guards = replayed_as Replay two_areas two_areas_report refl refl refl
 
 pub places_as_picked : PlacesAsPicked
 unfolding digits ones history_of finish
-places_as_picked = replayed_as two_callers two_callers_report refl refl refl
+places_as_picked = replayed_as Replay two_callers two_callers_report refl refl refl
 
 pub a_pick_stays : APickStays
 unfolding digits ones history_of finish
-a_pick_stays = replayed_as two_purges two_purges_report refl refl refl
+a_pick_stays = replayed_as Replay two_purges two_purges_report refl refl refl
 
 -- what may be written for a trace is its report
-pub only_report : (bytes text : List ℕ) (room : ℕ) → IsReplayedAs bytes text → length bytes ≤ most_bytes → length text ≤ room → (status : Status) (written : List ℕ) → Writes bytes status written → length written ≤ room
-only_report bytes text room is short low Done written w = let (r, trace, stands, legal, same) = w.1 in omega (arith, ap length (same ∙ is.report r trace))
-only_report bytes text room is short low (BadTrace line) written w = let (rest, stops, other) = w.1 in absurd (trace_or_bad is_built bytes is.trace.0 line is.trace.1 (rest, stops))
-only_report bytes text room is short low (BadLayout error) written w = absurd (stands_or_refused is_built bytes error is.stands w.1)
-only_report bytes text room is short low (Unbuilt line) written w = let (rest, stops, other) = w.1 in absurd (trace_or_bad is_built bytes is.trace.0 line is.trace.1 (rest, stops))
-only_report bytes text room is short low TooLong written w = absurd (omega arith)
-only_report bytes text room is short low Usage written w = absurd w
-only_report bytes text room is short low OutOfMemory written w = absurd w
-only_report bytes text room is short low ReadFault written w = absurd w
-only_report bytes text room is short low WriteFault written w = absurd w
+pub only_report : (mode : Mode) (bytes text : List ℕ) (room : ℕ) → IsReplayedAs mode bytes text → length bytes ≤ most_bytes → length text ≤ room → (status : Status) (written : List ℕ) → Writes mode bytes status written → length written ≤ room
+only_report mode bytes text room is short low Done written w = let (r, trace, stands, legal, same) = w.1 in omega (arith, ap length (same ∙ is.report r trace))
+only_report mode bytes text room is short low (BadTrace line) written w = let (rest, stops, other) = w.1 in absurd (trace_or_bad is_built bytes is.trace.0 line is.trace.1 (rest, stops))
+only_report mode bytes text room is short low (BadLayout error) written w = absurd (stands_or_refused is_built bytes error is.stands w.1)
+only_report mode bytes text room is short low (Unbuilt line) written w = let (rest, stops, other) = w.1 in absurd (trace_or_bad is_built bytes is.trace.0 line is.trace.1 (rest, stops))
+only_report mode bytes text room is short low TooLong written w = absurd (omega arith)
+only_report mode bytes text room is short low Usage written w = absurd w
+only_report mode bytes text room is short low OutOfMemory written w = absurd w
+only_report mode bytes text room is short low ReadFault written w = absurd w
+only_report mode bytes text room is short low WriteFault written w = absurd w
 
 -- room for 400 bytes is enough for them
-pub room_for_free_space : (bytes : List ℕ) (room : ℕ) → bytes ≡ free_space → 400 ≤ room → (status : Status) (written : List ℕ) → Writes bytes status written → length written ≤ room
+pub room_for_free_space : (bytes : List ℕ) (room : ℕ) → bytes ≡ free_space → 400 ≤ room → (status : Status) (written : List ℕ) → Writes Replay bytes status written → length written ≤ room
 room_for_free_space bytes room same wide status written w =
-    only_report free_space free_space_report room one_free_space (lit≤ tt) (let l : length free_space_report ≤ 400 = lit≤ tt in omega arith) status written (subst (λ b. Writes b status written) same w)
+    only_report Replay free_space free_space_report room one_free_space (lit≤ tt) (let l : length free_space_report ≤ 400 = lit≤ tt in omega arith) status written (subst (λ b. Writes Replay b status written) same w)
 
-pub room_for_two_areas : (bytes : List ℕ) (room : ℕ) → bytes ≡ two_areas → 400 ≤ room → (status : Status) (written : List ℕ) → Writes bytes status written → length written ≤ room
+pub room_for_two_areas : (bytes : List ℕ) (room : ℕ) → bytes ≡ two_areas → 400 ≤ room → (status : Status) (written : List ℕ) → Writes Replay bytes status written → length written ≤ room
 room_for_two_areas bytes room same wide status written w =
-    only_report two_areas two_areas_report room two_areas_with_guards (lit≤ tt) (let l : length two_areas_report ≤ 400 = lit≤ tt in omega arith) status written (subst (λ b. Writes b status written) same w)
+    only_report Replay two_areas two_areas_report room two_areas_with_guards (lit≤ tt) (let l : length two_areas_report ≤ 400 = lit≤ tt in omega arith) status written (subst (λ b. Writes Replay b status written) same w)

@@ -1,14 +1,10 @@
 -- What a kernel tells that ran the opening, the picks and the rest of a trace is its history.
-use Rattle.std.proofs.Common.{All, ◌≡◌, ℕ, zero, suc, ◌+◌, ◌<◌, List, [], ◌∷◌, length, Option, Some, None, refl, sym, ap, ◌∙◌, subst, arith, length-append, length-set, slice_get}
+use Rattle.std.proofs.Common.{All, ◌≡◌, ℕ, ◌+◌, ◌<◌, List, length, sym, ap, ◌∙◌, subst, arith}
 use Rattle.vm_model.specs.declared.calls.Call.{Call}
 use Rattle.unit_layout.specs.declared.config.Config.{Config}
 use Rattle.vm_model.specs.declared.tables.Tables.{Tables}
-use Rattle.vm_model.specs.Setup.{Setup}
 use Rattle.unit_layout.specs.Config.{setup_of}
-use Rattle.vm_model.specs.Events.{Section}
-use Rattle.vm_model.specs.Calls.{Answered}
-use Rattle.vm_model.specs.Next.{next}
-use Rattle.vm_model.specs.History.{World, Local, section_of, made_if, step_of, step, moved_to, first_mover, finish, most_events, opening_world, opening_answers, callers_from, pick_all, history_of}
+use Rattle.vm_model.specs.History.{finish, most_events, pick_all, history_of}
 use Rattle.vm_model.specs.Tables.{tables_of}
 use Rattle.trace_text.specs.Reading.{Reading, calls_of}
 use Rattle.trace_text.specs.Told.{config_of, all_calls}

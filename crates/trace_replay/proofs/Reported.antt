@@ -3,6 +3,7 @@ use Rattle.std.proofs.Common.{◌≡◌, ◌≤◌, ℕ, ap, sym, subst, List, [
 use Rattle.trace_text.specs.Grammar.{IsTraceOf}
 use Rattle.trace_text.specs.Built.{is_built}
 use Rattle.trace_replay.specs.declared.answer.Outcome.{Outcome}
+use Rattle.trace_replay.specs.declared.words.Mode.{Mode}
 use Rattle.trace_replay.specs.Headline.{Writes, Reports, most_bytes}
 use Rattle.trace_text.specs.Reading.{Reading, cpus_of}
 use Rattle.report_text.specs.CounterTotals.{counter_rows}
@@ -12,5 +13,5 @@ pub no_counters : (r : Reading) → IsBuilt r → counter_rows r.header.counters
 no_counters r built = ap (λ n. counter_rows n (cpus_of r.header) r.header.batch r.counts) built.counters
 
 -- a report that was made is what is written under its status
-pub done : (bytes : List ℕ) (o : Outcome) (r : Reading) → length bytes ≤ most_bytes → IsTraceOf is_built bytes r → HasLayout r → Reports r o.status o.text → Writes bytes o.status o.text
-done bytes o r short trace stands is = subst (λ s. Writes bytes s o.text) (sym is.0) (short, (r, trace, stands, is.1, is.2))
+pub done : (mode : Mode) (bytes : List ℕ) (o : Outcome) (r : Reading) → length bytes ≤ most_bytes → IsTraceOf is_built bytes r → HasLayout r → Reports mode r o.status o.text → Writes mode bytes o.status o.text
+done mode bytes o r short trace stands is = subst (λ s. Writes mode bytes s o.text) (sym is.0) (short, (r, trace, stands, is.1, is.2))

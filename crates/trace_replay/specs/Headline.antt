@@ -1,6 +1,7 @@
--- What is written for the bytes of a trace: the report of its one history, or the line that tells what is wrong.
-use Rattle.std.specs.Prelude.{◌≡◌, slice_get, ◌⊎◌, ◌<◌, ◌≤◌, ◌++◌, ℕ, List, [], ◌∷◌, map, take, length, false, codes, Option, Some, None}
+-- What is written for the bytes of a trace: the report of its one history, or the line that tells what is wrong; and what the other commands write.
+use Rattle.std.specs.Prelude.{◌≡◌, slice_get, ◌⊎◌, ◌<◌, ◌≤◌, ◌++◌, ℕ, List, [], map, take, length, Option, Some, None}
 use Rattle.std.specs.List.{range_with_len}
+use Rattle.std.specs.Option.{ForSome}
 use Rattle.vm_model.specs.declared.calls.Call.{Call}
 use Rattle.vm_model.specs.Setup.{Setup}
 use Rattle.unit_layout.specs.Config.{setup_of}
@@ -17,6 +18,8 @@ use Rattle.trace_text.specs.Grammar.{IsTraceOf}
 use Rattle.trace_text.specs.Built.{is_built, is_waiting, IsBadLine, IsUnbuiltLine}
 use Rattle.report_text.specs.Report.{report, fault_line}
 use Rattle.trace_replay.specs.Streams.{RoseByOne, IsReadInPart}
+use Rattle.trace_replay.specs.Words.{audits}
+use Rattle.trace_replay.specs.declared.words.Mode.{Mode}
 use Rattle.trace_replay.specs.BuiltReadings.{HasLayout}
 use Rattle.trace_replay.specs.declared.status.Status.{Status}
 use Rattle.trace_replay.specs.declared.status.Status.TheVariants.{Done, BadTrace, BadLayout, Unbuilt, Usage, OutOfMemory, ReadFault, WriteFault, TooLong}
@@ -31,12 +34,12 @@ opening_calls r = calls_of 0 r.calls
 abbrev pub own_calls : Reading → List (List Call)
 own_calls r = map (λ k. calls_of k r.calls) (range_with_len 1 r.header.callers)
 
--- the history of a trace, and its report
+-- the history of a trace, and its report: with `audit`, the audit lines stand in it
 abbrev pub history_of_trace : Reading → World
 history_of_trace r = history_of (setup r) (opening_calls r) (own_calls r) r.picks
 
-abbrev pub report_of : Reading → List ℕ
-report_of r = report (tables_of (setup r) (history_of_trace r)) (counter_rows r.header.counters (cpus_of r.header) r.header.batch r.counts) false
+abbrev pub report_of : Mode → Reading → List ℕ
+report_of mode r = report (tables_of (setup r) (history_of_trace r)) (counter_rows r.header.counters (cpus_of r.header) r.header.batch r.counts) (audits mode)
 
 -- the history of a trace is one legal history of the plain map, in which every caller ends, so each of its calls is answered; and it keeps the laws of every history, those of its calls and those of its map
 pub record HasLegalHistory (r : Reading) : Type 0 where
@@ -47,28 +50,28 @@ pub record HasLegalHistory (r : Reading) : Type 0 where
   pub always : (w : World) → IsReached (setup r) (opening_calls r) (own_calls r) w → KeepsTheLaws (setup r) (opening_calls r) (own_calls r) w
 
 -- a run that has ended well wrote the report of this trace
-abbrev pub Reports : Reading → Status → List ℕ → Type 0
-Reports r status text = (status ≡ Done) × HasLegalHistory r × (text ≡ report_of r)
+abbrev pub Reports : Mode → Reading → Status → List ℕ → Type 0
+Reports mode r status text = (status ≡ Done) × HasLegalHistory r × (text ≡ report_of mode r)
 
 -- the most bytes of a trace
 abbrev pub most_bytes : ℕ
 most_bytes = 16777216
 
 -- what a status says of the bytes, and the text that is written with it
-abbrev pub Writes : List ℕ → Status → List ℕ → Type 0
-Writes bytes Done text = (length bytes ≤ most_bytes) × ((r : Reading) × IsTraceOf is_built bytes r × HasLayout r × HasLegalHistory r × (text ≡ report_of r))
-Writes bytes (BadTrace line) text = (length bytes ≤ most_bytes) × IsBadLine is_built is_waiting bytes line × (text ≡ fault_line (fault.Line line))
-Writes bytes (BadLayout error) text = (length bytes ≤ most_bytes) × IsRefusedLayout is_built bytes error × (text ≡ fault_line (fault.Layout error))
-Writes bytes (Unbuilt line) text = (length bytes ≤ most_bytes) × IsUnbuiltLine is_built is_waiting bytes line × (text ≡ fault_line (fault.Unbuilt line))
-Writes bytes TooLong text = (most_bytes < length bytes) × (text ≡ fault_line fault.Length)
-Writes bytes _ text = ⊥
+abbrev pub Writes : Mode → List ℕ → Status → List ℕ → Type 0
+Writes mode bytes Done text = (length bytes ≤ most_bytes) × ((r : Reading) × IsTraceOf is_built bytes r × HasLayout r × HasLegalHistory r × (text ≡ report_of mode r))
+Writes mode bytes (BadTrace line) text = (length bytes ≤ most_bytes) × IsBadLine is_built is_waiting bytes line × (text ≡ fault_line (fault.Line line))
+Writes mode bytes (BadLayout error) text = (length bytes ≤ most_bytes) × IsRefusedLayout is_built bytes error × (text ≡ fault_line (fault.Layout error))
+Writes mode bytes (Unbuilt line) text = (length bytes ≤ most_bytes) × IsUnbuiltLine is_built is_waiting bytes line × (text ≡ fault_line (fault.Unbuilt line))
+Writes mode bytes TooLong text = (most_bytes < length bytes) × (text ≡ fault_line fault.Length)
+Writes mode bytes _ text = ⊥
 
 -- what is written: the text whole, a prefix of it where a write failed, or nothing
-abbrev pub IsWritten : List ℕ → Status → (before : List ℕ) (after : Option (List ℕ)) → Type 0
-IsWritten bytes ReadFault before after = after ≡ Some before
-IsWritten bytes OutOfMemory before after = after ≡ Some before
-IsWritten bytes WriteFault before after = (status : Status) × (text : List ℕ) × (n : ℕ) × Writes bytes status text × (after ≡ Some (before ++ take n text))
-IsWritten bytes status before after = (text : List ℕ) × Writes bytes status text × (after ≡ Some (before ++ text))
+abbrev pub IsWritten : Mode → List ℕ → Status → (before : List ℕ) (after : Option (List ℕ)) → Type 0
+IsWritten mode bytes ReadFault before after = after ≡ Some before
+IsWritten mode bytes OutOfMemory before after = after ≡ Some before
+IsWritten mode bytes WriteFault before after = (status : Status) × (text : List ℕ) × (n : ℕ) × Writes mode bytes status text × (after ≡ Some (before ++ take n text))
+IsWritten mode bytes status before after = (text : List ℕ) × Writes mode bytes status text × (after ≡ Some (before ++ text))
 
 -- how far the source was read: to its end, or up to the read that failed, which came before too many bytes
 abbrev pub IsRead : List ℕ → Status → Option (List ℕ) → Type 0
@@ -80,18 +83,18 @@ IsRead bytes ReadFault left = IsReadInPart most_bytes bytes left
 IsRead bytes _ left = Unit {0}
 
 -- a sink that tells its room has enough for each text that may be written
-abbrev pub HasRoomFor : (left : Option (List ℕ)) (room : Option ℕ) → Type 0
-HasRoomFor left None = Unit {0}
-HasRoomFor None (Some room) = ⊥
-HasRoomFor (Some bytes) (Some room) = (status : Status) (text : List ℕ) → Writes bytes status text → length text ≤ room
+abbrev pub HasRoomFor : Mode → (left : Option (List ℕ)) (room : Option ℕ) → Type 0
+HasRoomFor mode left None = Unit {0}
+HasRoomFor mode None (Some room) = ⊥
+HasRoomFor mode (Some bytes) (Some room) = (status : Status) (text : List ℕ) → Writes mode bytes status text → length text ≤ room
 
 -- a status that says something of the bytes says what holds
-abbrev pub Answers : List ℕ → Status → Type 0
-Answers bytes Usage = ⊥
-Answers bytes OutOfMemory = Unit {0}
-Answers bytes ReadFault = Unit {0}
-Answers bytes WriteFault = Unit {0}
-Answers bytes status = (text : List ℕ) × Writes bytes status text
+abbrev pub Answers : Mode → List ℕ → Status → Type 0
+Answers mode bytes Usage = ⊥
+Answers mode bytes OutOfMemory = Unit {0}
+Answers mode bytes ReadFault = Unit {0}
+Answers mode bytes WriteFault = Unit {0}
+Answers mode bytes status = (text : List ℕ) × Writes mode bytes status text
 
 -- a status under which nothing is written
 abbrev pub IsSilent : Status → Type 0
@@ -105,18 +108,16 @@ IsTold status text answer first after before now =
     ((answer ≡ status) × ((bytes : List ℕ) → first ≡ Some bytes → after ≡ Some (bytes ++ text)))
     ⊎ ((answer ≡ WriteFault) × RoseByOne before now × ((bytes : List ℕ) → first ≡ Some bytes → (n : ℕ) × (after ≡ Some (bytes ++ take n text))))
 
--- the words of the one command
-abbrev pub ReplayWords : List (List ℕ) → Type 0
-ReplayWords words = words ≡ codes "replay" ∷ []
+-- what a command that reads nothing leaves, whose whole text comes with a status of its own: the text, a prefix of it where a write failed, or nothing
+abbrev pub IsSent : (own : Status) (text : List ℕ) → Status → (before : List ℕ) (after : Option (List ℕ)) → Type 0
+IsSent own text OutOfMemory before after = after ≡ Some before
+IsSent own text WriteFault before after = (n : ℕ) × (after ≡ Some (before ++ take n text))
+IsSent own text status before after = (status ≡ own) × (after ≡ Some (before ++ text))
 
--- what is written where the words name no command
-abbrev pub IsRefused : Status → (before : List ℕ) (after : Option (List ℕ)) → Type 0
-IsRefused Usage before after = after ≡ Some (before ++ fault_line fault.Usage)
-IsRefused OutOfMemory before after = after ≡ Some before
-IsRefused WriteFault before after = (n : ℕ) × (after ≡ Some (before ++ take n (fault_line fault.Usage)))
-IsRefused _ before after = ⊥
+-- how such a command ends
+abbrev pub EndsAs : (own : Status) → Status → Type 0
+EndsAs own status = (status ≡ own) ⊎ ((status ≡ OutOfMemory) ⊎ (status ≡ WriteFault))
 
--- there is room for the line that tells it
-abbrev pub HasRoomForUsage : Option ℕ → Type 0
-HasRoomForUsage None = Unit {0}
-HasRoomForUsage (Some room) = length (fault_line fault.Usage) ≤ room
+-- a sink that tells its room has enough for this text
+abbrev pub HasRoomOf : (text : List ℕ) → Option ℕ → Type 0
+HasRoomOf text room = ForSome room (λ most. length text ≤ most)

@@ -8,6 +8,7 @@ ghost use Rattle.trace_replay.specs.BuiltReadings.{IsBuilt};
 ghost use Rattle.trace_replay.specs.Headline.{Writes, Reports, setup, history_of_trace, most_bytes};
 
 use crate::status::Status;
+use crate::words::Mode;
 use kernel_steps::Kernel;
 use report_text::{Fault, Text, write_fault, write_report};
 use std::alloc::{AllocError, Global};
@@ -39,13 +40,13 @@ fn tables_of_trace(alloc: Global, trace: Trace) -> Result<Tables, AllocError>
 }
 
 /// The report of a trace.
-fn report(alloc: Global, trace: Trace) -> Result<Outcome, AllocError>
+fn report(alloc: Global, mode: Mode, trace: Trace) -> Result<Outcome, AllocError>
     requires { (reading : Reading) × IsBuilt reading × Tells trace reading }
-    ensures { IfOk result (λ outcome. (reading : Reading) → IsBuilt reading → Tells trace reading → Reports reading outcome.status outcome.text) }
+    ensures { IfOk result (λ outcome. (reading : Reading) → IsBuilt reading → Tells trace reading → Reports mode reading outcome.status outcome.text) }
 {
     let tables = tables_of_trace(alloc, trace)?;
     let counters = CounterList::of(Vec::new(alloc));
-    let text = write_report(alloc, &tables, &counters, false)?;
+    let text = write_report(alloc, &tables, &counters, mode.audits())?;
     Ok(Outcome {
         status: Status::Done,
         text,
@@ -61,12 +62,12 @@ fn fault(alloc: Global, status: Status, fault: &Fault) -> Result<Outcome, AllocE
 }
 
 /// The answer to all bytes of a source.
-pub fn answer(alloc: Global, bytes: &[u8]) -> Result<Outcome, AllocError>
+pub fn answer(alloc: Global, mode: Mode, bytes: &[u8]) -> Result<Outcome, AllocError>
     requires { length bytes.now ≤ most_bytes }
-    ensures { IfOk result (λ outcome. Writes bytes.now outcome.status outcome.text) }
+    ensures { IfOk result (λ outcome. Writes mode bytes.now outcome.status outcome.text) }
 {
     match read_trace(alloc, bytes) {
-        Ok(trace) => report(alloc, trace),
+        Ok(trace) => report(alloc, mode, trace),
         Err(TraceError::BadLine { line }) => {
             fault(alloc, Status::BadTrace { line }, &Fault::Line { line })
         }

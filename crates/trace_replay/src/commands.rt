@@ -1,12 +1,16 @@
 //! The commands: what each reads, and what it writes.
-ghost use Rattle.std.specs.Prelude.{◌≡◌, ◌≢◌, ◌≤◌, ◌<◌, ◌⊎◌, ◌↔◌, ℕ, List, Some, Err, IfOk, IsTrue, length, map, string_bytes};
-ghost use Rattle.std.specs.Option.{ForSome};
+ghost use Rattle.std.specs.Prelude.{◌≡◌, ◌≢◌, ◌≤◌, ◌<◌, ◌^◌, ◌⊎◌, ℕ, List, Some, Err, IfOk, length, map, string_bytes};
 ghost use Rattle.trace_text.specs.Reading.{Reading};
 ghost use Rattle.trace_text.specs.Grammar.{IsTraceOf};
 ghost use Rattle.trace_text.specs.Built.{is_built};
 ghost use Rattle.trace_replay.specs.Streams.{RoseByOne, IsReadInPart};
 ghost use Rattle.trace_replay.specs.BuiltReadings.{HasLayout};
-ghost use Rattle.trace_replay.specs.Headline.{Writes, IsWritten, IsRead, Answers, HasRoomFor, IsTold, ReplayWords, IsRefused, IsSilent, HasRoomForUsage, most_bytes};
+ghost use Rattle.report_text.specs.Report.{fault_line};
+ghost use Rattle.report_text.specs.declared.faults.Fault.{Fault};
+ghost use Rattle.trace_maker.specs.Generated.{generated};
+ghost use Rattle.trace_replay.specs.declared.words.Mode.{Mode};
+ghost use Rattle.trace_replay.specs.Words.{Name, NameNone};
+ghost use Rattle.trace_replay.specs.Headline.{Writes, IsWritten, IsRead, Answers, HasRoomFor, IsTold, IsSent, EndsAs, IsSilent, HasRoomOf, most_bytes};
 
 use crate::answer::{Outcome, answer, too_long, usage};
 use crate::gather::{Cut, gather};
@@ -14,18 +18,13 @@ use crate::send::send;
 use crate::sink::Sink;
 use crate::source::Source;
 use crate::status::Status;
+use crate::words::{Command, Mode, find_command};
 use std::alloc::Global;
-
-/// What a replay writes.
-#[derive(Clone, Copy)]
-pub enum Mode {
-    /// The report.
-    Replay,
-}
+use trace_maker::make_trace;
 
 /// The answer to all that a source gives.
-fn outcome_of<S: Source>(alloc: Global, source: &mut S) -> Result<Outcome, Cut>
-    ensures writes { IfOk result (λ outcome. (bytes : List ℕ) → S.left source.old ≡ Some bytes → Writes bytes outcome.status outcome.text) }
+fn outcome_of<S: Source>(alloc: Global, mode: Mode, source: &mut S) -> Result<Outcome, Cut>
+    ensures writes { IfOk result (λ outcome. (bytes : List ℕ) → S.left source.old ≡ Some bytes → Writes mode bytes outcome.status outcome.text) }
     ensures read { IfOk result (λ outcome. (bytes : List ℕ) → S.left source.old ≡ Some bytes → IsRead bytes outcome.status (S.left source.new)) }
     ensures says { IfOk result (λ outcome. (outcome.status ≢ Status.ReadFault) × (outcome.status ≢ Status.WriteFault) × (outcome.status ≢ Status.OutOfMemory) × (outcome.status ≢ Status.Usage)) }
     ensures failed { result ≡ Err Cut.Failed → RoseByOne (S.faults source.old) (S.faults source.new) }
@@ -34,7 +33,7 @@ fn outcome_of<S: Source>(alloc: Global, source: &mut S) -> Result<Outcome, Cut>
     ensures no_fault { result ≢ Err Cut.Failed → S.faults source.new ≡ S.faults source.old }
 {
     match gather(alloc, source) {
-        Ok(bytes) => Ok(answer(alloc, bytes.as_slice())?),
+        Ok(bytes) => Ok(answer(alloc, mode, bytes.as_slice())?),
         Err(Cut::TooLong) => Ok(too_long(alloc)?),
         Err(Cut::Failed) => Err(Cut::Failed),
         Err(Cut::OutOfMemory) => Err(Cut::OutOfMemory),
@@ -43,7 +42,7 @@ fn outcome_of<S: Source>(alloc: Global, source: &mut S) -> Result<Outcome, Cut>
 
 /// Writes an outcome's text.
 fn tell<K: Sink>(sink: &mut K, outcome: Outcome) -> Status
-    requires { ForSome (K.room sink.old) (λ room. length outcome.text ≤ room) }
+    requires { HasRoomOf outcome.text (K.room sink.old) }
     ensures told { IsTold outcome.status outcome.text result (K.taken sink.old) (K.taken sink.new) (K.faults sink.old) (K.faults sink.new) }
     ensures no_fault { result ≢ Status.WriteFault → K.faults sink.new ≡ K.faults sink.old }
 {
@@ -56,9 +55,9 @@ fn tell<K: Sink>(sink: &mut K, outcome: Outcome) -> Status
 /// Reads a trace to its end and writes its report, or the line that tells what is wrong with it. The whole text is made
 /// before its first byte is written, and the first failed read or write ends the command.
 pub fn replay<S: Source, K: Sink>(alloc: Global, mode: Mode, source: &mut S, sink: &mut K) -> Status
-    requires { HasRoomFor (S.left source.old) (K.room sink.old) }
-    ensures written { (bytes before : List ℕ) → S.left source.old ≡ Some bytes → K.taken sink.old ≡ Some before → IsWritten bytes result before (K.taken sink.new) }
-    ensures answers { (bytes : List ℕ) → S.left source.old ≡ Some bytes → Answers bytes result }
+    requires { HasRoomFor mode (S.left source.old) (K.room sink.old) }
+    ensures written { (bytes before : List ℕ) → S.left source.old ≡ Some bytes → K.taken sink.old ≡ Some before → IsWritten mode bytes result before (K.taken sink.new) }
+    ensures answers { (bytes : List ℕ) → S.left source.old ≡ Some bytes → Answers mode bytes result }
     ensures read { (bytes : List ℕ) → S.left source.old ≡ Some bytes → IsRead bytes result (S.left source.new) }
     ensures read_fault { result ≡ Status.ReadFault → RoseByOne (S.faults source.old) (S.faults source.new) }
     ensures write_fault { result ≡ Status.WriteFault → RoseByOne (K.faults sink.old) (K.faults sink.new) }
@@ -73,30 +72,39 @@ pub fn replay<S: Source, K: Sink>(alloc: Global, mode: Mode, source: &mut S, sin
     ensures complete { (bytes : List ℕ) (reading : Reading) → S.left source.old ≡ Some bytes → length bytes ≤ most_bytes → IsTraceOf is_built bytes reading → HasLayout reading
         → ¬ RoseByOne (S.faults source.old) (S.faults source.new) → ¬ RoseByOne (K.faults sink.old) (K.faults sink.new) → (result ≡ Status.Done) ⊎ (result ≡ Status.OutOfMemory) }
 {
-    match mode {
-        Mode::Replay => match outcome_of(alloc, source) {
-            Ok(outcome) => tell(sink, outcome),
-            Err(Cut::Failed) => Status::ReadFault,
-            Err(_) => Status::OutOfMemory,
-        },
+    match outcome_of(alloc, mode, source) {
+        Ok(outcome) => tell(sink, outcome),
+        Err(Cut::Failed) => Status::ReadFault,
+        Err(_) => Status::OutOfMemory,
     }
 }
 
-/// Whether the words are those of `replay`.
-fn is_replay(words: &[String]) -> bool
-    ensures { IsTrue result ↔ ReplayWords (map string_bytes words.now) }
+/// Writes the trace that these numbers generate: where its draws start, and how many lines of calls and counts it has.
+pub fn make<K: Sink>(alloc: Global, start: u32, calls: u32, sink: &mut K) -> Status
+    requires start { start < 2 ^ 31 }
+    requires calls { calls ≤ 100000 }
+    requires room { HasRoomOf (generated start calls) (K.room sink.old) }
+    ensures made { (before : List ℕ) → K.taken sink.old ≡ Some before → IsSent Status.Done (generated start calls) result before (K.taken sink.new) }
+    ensures ends { EndsAs Status.Done result }
+    ensures silent { IsSilent result → K.taken sink.new ≡ K.taken sink.old }
+    ensures write_fault { result ≡ Status.WriteFault → RoseByOne (K.faults sink.old) (K.faults sink.new) }
+    ensures failed_write { result ≢ Status.WriteFault → K.faults sink.new ≡ K.faults sink.old }
+    ensures complete { ¬ RoseByOne (K.faults sink.old) (K.faults sink.new) → (result ≡ Status.Done) ⊎ (result ≡ Status.OutOfMemory) }
 {
-    match words {
-        [word] => word.as_str() == "replay",
-        _ => false,
+    match make_trace(alloc, start, calls) {
+        Ok(text) => {
+            let status = Status::Done;
+            tell(sink, Outcome { status, text })
+        }
+        Err(_) => Status::OutOfMemory,
     }
 }
 
 /// Writes that the words name no command.
 fn refuse<K: Sink>(alloc: Global, sink: &mut K) -> Status
-    requires { HasRoomForUsage (K.room sink.old) }
-    ensures written { (before : List ℕ) → K.taken sink.old ≡ Some before → IsRefused result before (K.taken sink.new) }
-    ensures refusal { (result ≡ Status.Usage) ⊎ ((result ≡ Status.OutOfMemory) ⊎ (result ≡ Status.WriteFault)) }
+    requires { HasRoomOf (fault_line Fault.Usage) (K.room sink.old) }
+    ensures refused { (before : List ℕ) → K.taken sink.old ≡ Some before → IsSent Status.Usage (fault_line Fault.Usage) result before (K.taken sink.new) }
+    ensures ends { EndsAs Status.Usage result }
     ensures silent { IsSilent result → K.taken sink.new ≡ K.taken sink.old }
     ensures write_fault { result ≡ Status.WriteFault → RoseByOne (K.faults sink.old) (K.faults sink.new) }
     ensures failed_write { result ≢ Status.WriteFault → K.faults sink.new ≡ K.faults sink.old }
@@ -107,12 +115,12 @@ fn refuse<K: Sink>(alloc: Global, sink: &mut K) -> Status
     }
 }
 
-/// Does the named command: `replay` reads a trace and writes its report. Other words are refused before anything is
-/// read.
+/// Does the named command. `replay` reads a trace and writes its report, and `audit` writes it with the audit lines.
+/// `make START CALLS` writes a generated trace, and reads nothing. Other words are refused before anything is read.
 ///
 /// | Status | Written |
 /// |---|---|
-/// | `Done` | the report |
+/// | `Done` | the report, or the generated trace |
 /// | `BadTrace`, `BadLayout`, `Unbuilt`, `Usage`, `TooLong` | the line that tells the fault |
 /// | `WriteFault` | a prefix of the text that was being written |
 /// | `ReadFault`, `OutOfMemory` | nothing |
@@ -122,30 +130,38 @@ pub fn run<S: Source, K: Sink>(
     source: &mut S,
     sink: &mut K,
 ) -> Status
-    requires room { ReplayWords (map string_bytes words.now) → HasRoomFor (S.left source.old) (K.room sink.old) }
-    requires usage_room { ¬ ReplayWords (map string_bytes words.now) → HasRoomForUsage (K.room sink.old) }
+    requires room { (mode : Mode) → Name (Command.Replay mode) (map string_bytes words.now) → HasRoomFor mode (S.left source.old) (K.room sink.old) }
+    requires make_room { (start calls : ℕ) → Name (Command.Make start calls) (map string_bytes words.now) → HasRoomOf (generated start calls) (K.room sink.old) }
+    requires usage_room { NameNone (map string_bytes words.now) → HasRoomOf (fault_line Fault.Usage) (K.room sink.old) }
 
-    // The words are those of `replay`: as there.
-    ensures written { ReplayWords (map string_bytes words.now) → (bytes before : List ℕ) → S.left source.old ≡ Some bytes → K.taken sink.old ≡ Some before → IsWritten bytes result before (K.taken sink.new) }
-    ensures answers { ReplayWords (map string_bytes words.now) → (bytes : List ℕ) → S.left source.old ≡ Some bytes → Answers bytes result }
-    ensures read { (bytes : List ℕ) → S.left source.old ≡ Some bytes → IsRead bytes result (S.left source.new) }
-
-    // They are not: nothing is read.
-    ensures refused { ¬ ReplayWords (map string_bytes words.now) → (before : List ℕ) → K.taken sink.old ≡ Some before → IsRefused result before (K.taken sink.new) }
-    ensures refusal { ¬ ReplayWords (map string_bytes words.now) → (result ≡ Status.Usage) ⊎ ((result ≡ Status.OutOfMemory) ⊎ (result ≡ Status.WriteFault)) }
-    ensures unread { ¬ ReplayWords (map string_bytes words.now) → S.left source.new ≡ S.left source.old }
-
-    ensures usage { result ≡ Status.Usage → ¬ ReplayWords (map string_bytes words.now) }
-    ensures silent { IsSilent result → K.taken sink.new ≡ K.taken sink.old }
-    ensures complete { ReplayWords (map string_bytes words.now) → (bytes : List ℕ) (reading : Reading) → S.left source.old ≡ Some bytes → length bytes ≤ most_bytes → IsTraceOf is_built bytes reading → HasLayout reading
+    // The words ask for a replay in this mode: as `replay`.
+    ensures written { (mode : Mode) → Name (Command.Replay mode) (map string_bytes words.now) → (bytes before : List ℕ) → S.left source.old ≡ Some bytes → K.taken sink.old ≡ Some before → IsWritten mode bytes result before (K.taken sink.new) }
+    ensures answers { (mode : Mode) → Name (Command.Replay mode) (map string_bytes words.now) → (bytes : List ℕ) → S.left source.old ≡ Some bytes → Answers mode bytes result }
+    ensures read { (mode : Mode) → Name (Command.Replay mode) (map string_bytes words.now) → (bytes : List ℕ) → S.left source.old ≡ Some bytes → IsRead bytes result (S.left source.new) }
+    ensures complete { (mode : Mode) → Name (Command.Replay mode) (map string_bytes words.now) → (bytes : List ℕ) (reading : Reading) → S.left source.old ≡ Some bytes → length bytes ≤ most_bytes → IsTraceOf is_built bytes reading → HasLayout reading
         → ¬ RoseByOne (S.faults source.old) (S.faults source.new) → ¬ RoseByOne (K.faults sink.old) (K.faults sink.new) → (result ≡ Status.Done) ⊎ (result ≡ Status.OutOfMemory) }
+
+    // They ask for a generated trace: as `make`.
+    ensures made { (start calls : ℕ) → Name (Command.Make start calls) (map string_bytes words.now) → (before : List ℕ) → K.taken sink.old ≡ Some before → IsSent Status.Done (generated start calls) result before (K.taken sink.new) }
+    ensures made_ends { (start calls : ℕ) → Name (Command.Make start calls) (map string_bytes words.now) → EndsAs Status.Done result }
+    ensures made_complete { (start calls : ℕ) → Name (Command.Make start calls) (map string_bytes words.now) → ¬ RoseByOne (K.faults sink.old) (K.faults sink.new) → (result ≡ Status.Done) ⊎ (result ≡ Status.OutOfMemory) }
+
+    // They name no command.
+    ensures refused { NameNone (map string_bytes words.now) → (before : List ℕ) → K.taken sink.old ≡ Some before → IsSent Status.Usage (fault_line Fault.Usage) result before (K.taken sink.new) }
+    ensures refusal { NameNone (map string_bytes words.now) → EndsAs Status.Usage result }
+    ensures usage { result ≡ Status.Usage → NameNone (map string_bytes words.now) }
+
+    // Only a replay reads.
+    ensures unread { ((mode : Mode) → ¬ Name (Command.Replay mode) (map string_bytes words.now)) → S.left source.new ≡ S.left source.old }
+    ensures silent { IsSilent result → K.taken sink.new ≡ K.taken sink.old }
     ensures read_fault { result ≡ Status.ReadFault → RoseByOne (S.faults source.old) (S.faults source.new) }
     ensures write_fault { result ≡ Status.WriteFault → RoseByOne (K.faults sink.old) (K.faults sink.new) }
     ensures failed_read { result ≢ Status.ReadFault → S.faults source.new ≡ S.faults source.old }
     ensures failed_write { result ≢ Status.WriteFault → K.faults sink.new ≡ K.faults sink.old }
 {
-    if is_replay(words) {
-        return replay(alloc, Mode::Replay, source, sink);
+    match find_command(words) {
+        Some(Command::Replay(mode)) => replay(alloc, mode, source, sink),
+        Some(Command::Make { start, calls }) => make(alloc, start, calls, sink),
+        None => refuse(alloc, sink),
     }
-    refuse(alloc, sink)
 }

@@ -1,5 +1,5 @@
-//! `vmreplay`: replays a trace of allocator calls from standard input, and writes its report to standard output. Where it
-//! doesn't end well, what a person needs is written to standard error.
+//! `vmreplay`: replays a trace of allocator calls from standard input, and writes its report to standard output, or writes
+//! a generated trace there. Where it doesn't end well, what a person needs is written to standard error.
 #![tactic(auto)]
 
 mod keeping_source;

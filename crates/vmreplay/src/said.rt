@@ -4,9 +4,12 @@ use fault_reasons::{reason, unbuilt};
 use std::alloc::{AllocError, Global};
 use trace_replay::Status;
 
-/// The forms of the command.
+/// The forms of the commands.
 const FORMS: &str =
-    "vmreplay replay    reads a trace from standard input, and writes its report to standard output\n";
+    "vmreplay replay              reads a trace from standard input, and writes its report
+vmreplay audit               the same, with the numbers that are kept beside those of a plain scan
+vmreplay make START CALLS    writes a generated trace; START is 0 to 2147483647, CALLS is 0 to 100000
+";
 
 /// A text of these words.
 fn text(alloc: Global, words: &str) -> Result<Vec<u8>, AllocError> {

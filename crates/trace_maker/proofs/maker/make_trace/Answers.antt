@@ -1,10 +1,11 @@
 use Rattle.std.proofs.Common.{◌∙◌, ◌*◌, ◌++◌, ap, arith, replicate}
 use Rattle.trace_text.specs.Lines.{text_of}
-use Rattle.trace_maker.specs.Generated.{Making, made, no_lines, header_lines, sections_from, order_lines, drawn_picks}
+use Rattle.trace_maker.specs.Generated.{Making, generated, made, no_lines, header_lines, sections_from, order_lines, drawn_picks}
 use Rattle.trace_maker.proofs.Makings.{whole}
 use Rattle.trace_maker.proofs.maker.make_trace.Goals as goal
 
 pub returns : goal.returns
+unfolding generated
 returns c =
     let calls = c.args.calls in
     let first : Making = record { sections = replicate 8 no_lines; state = c.args.start } in

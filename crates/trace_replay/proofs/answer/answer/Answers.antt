@@ -16,5 +16,5 @@ returns-in-Ok c =
     let (reading, trace, tells) = c.in-Ok.ensures.trace in
     let stands = c.in-Ok.ensures.stands reading trace in
     let built = built_trace c.args.bytes.now reading trace stands in
-    IfOk-weaker c.report.result (λ (o : Outcome). (r : Reading) → IsBuilt r → Tells c.in-Ok.trace r → Reports r o.status o.text) (λ (o : Outcome). Writes c.args.bytes.now o.status o.text)
-    (λ o is. done c.args.bytes.now o reading c.requires trace stands (is reading built tells)) c.report.ensures
+    IfOk-weaker c.report.result (λ (o : Outcome). (r : Reading) → IsBuilt r → Tells c.in-Ok.trace r → Reports c.args.mode r o.status o.text) (λ (o : Outcome). Writes c.args.mode c.args.bytes.now o.status o.text)
+    (λ o is. done c.args.mode c.args.bytes.now o reading c.requires trace stands (is reading built tells)) c.report.ensures

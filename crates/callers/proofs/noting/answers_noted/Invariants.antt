@@ -2,7 +2,7 @@ use Rattle.std.proofs.Common.{◌≡◌, ◌≤◌, map, take, length}
 use Rattle.std.specs.Vec.{vec_capacity}
 use Rattle.callers.specs.declared.answers.Answered.{Answered as Code}
 use Rattle.callers.specs.CallerParts.{answer_of, answers_with}
-use Rattle.callers.proofs.local.answers_noted.Given as goal
+use Rattle.callers.proofs.noting.answers_noted.Given as goal
 
 abbrev pub invariant-loop-index : goal.invariant-loop-index
 invariant-loop-index l = record {

@@ -5,7 +5,7 @@ use Rattle.vm_model.specs.declared.calls.Reply.{Reply}
 use Rattle.callers.specs.CallerParts.{IsSoundCall, after_reply}
 use Rattle.callers.proofs.Lookups.{found_at}
 use Rattle.callers.proofs.FreedTold.{freed_in_place}
-use Rattle.callers.proofs.local.note_free.Goals as goal
+use Rattle.callers.proofs.noting.note_free.Goals as goal
 
 pub overflow_sub-outcomes : goal.overflow_sub-outcomes
 overflow_sub-outcomes c =

@@ -5,7 +5,7 @@ use Rattle.history_book.specs.declared.noted.Noted.{Noted}
 use Rattle.callers.specs.declared.answers.Answered.{Answered as Code}
 use Rattle.callers.specs.CallerParts.{answer_of, answers_with}
 use Rattle.callers.proofs.AnswersGiven.{answers_at, kept_more, told_more, row_by, length-answers_with}
-use Rattle.callers.proofs.local.answers_noted.Goals as goal
+use Rattle.callers.proofs.noting.answers_noted.Goals as goal
 
 pub loop-index-preserved : goal.loop-index-preserved
 loop-index-preserved c = record {
