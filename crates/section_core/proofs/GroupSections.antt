@@ -1,22 +1,22 @@
 -- The sections over the pages and areas of a chunk's groups.
-use Rattle.std.proofs.Common.{◌≡◌, ℕ, zero, suc, ◌+◌, ◌≤◌, ◌<◌, ◌^◌, ◌++◌, nat_lt, if◌then◌else◌, All, List, [], ◌∷◌, length, map, slice_get, get_or, Bool, true, false, Option, Some, None, IsSome, IsSomeAnd, IfSome, IfNone, option_map, refl, ap, sym, ◌∙◌, subst, arith}
+use Rattle.std.proofs.Common.{◌≡◌, ℕ, suc, ◌+◌, ◌≤◌, ◌<◌, ◌^◌, ◌++◌, nat_lt, if◌then◌else◌, All, List, [], ◌∷◌, length, map, slice_get, get_or, Bool, true, false, Option, Some, None, IsSome, IsSomeAnd, IfSome, IfNone, option_map, refl, ap, sym, ◌∙◌, subst, arith}
 use Rattle.std.proofs.lemmas.Bool.Decides.{nat_tests}
 use Rattle.std.proofs.lemmas.Option.{slice_get-get_or}
 use Rattle.std.proofs.lemmas.List.Elements.{All-nil, All-cons, All-head, All-tail}
 use Rattle.vm_model.specs.declared.areas.Span.{Span}
 use Rattle.vm_model.specs.declared.areas.Area.{Area}
 use Rattle.vm_model.specs.declared.areas.AreaKind.{AreaKind}
-use Rattle.vm_model.specs.Space.{span, end_of, covers, times, paint, runs, sum_of_pages, HasEnd}
+use Rattle.vm_model.specs.Space.{covers, times, paint, runs, sum_of_pages, HasEnd}
 use Rattle.vm_model.specs.Setup.{Setup, highest, groups_at}
 use Rattle.vm_model.specs.Rules.{IsSetup}
 use Rattle.vm_model.specs.PlainMap.{Held}
 use Rattle.vm_model.specs.Areas.{spans_of, areas_elsewhere, group_kinds, group_areas}
 use Rattle.vm_model.specs.Events.{ForGroups, CarveGroups, NoHole, Settle, Unlink, Wait}
-use Rattle.vm_model.specs.Places.{Place, Then, SpareAgain, AskSearch, SettlingGroups, AddingChunk, UnlinkingGroups, Waiting, PurgeTaking, Sparing, group_starts, ask}
+use Rattle.vm_model.specs.Places.{Place, SpareAgain, AskSearch, SettlingGroups, AddingChunk, UnlinkingGroups, Waiting, PurgeTaking, Sparing, group_starts, ask}
 use Rattle.vm_model.specs.Given.{given, carving_groups}
 use Rattle.vm_model.specs.Next.{Next, Go, next}
 use Rattle.vm_model.specs.History.{Local, moved_to}
-use Rattle.vm_model.specs.Parts.{Region, FreeRuns, LiveAreas, WaitingSpans, map_with}
+use Rattle.vm_model.specs.Parts.{FreeRuns, LiveAreas, WaitingSpans, map_with}
 use Rattle.unit_layout.specs.declared.layout.Group.{Group}
 use Rattle.unit_layout.specs.declared.config.Config.{Config}
 use Rattle.unit_layout.specs.Config.{setup_of}

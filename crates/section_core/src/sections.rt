@@ -60,10 +60,12 @@ pub fn section(local: &mut Local, region: &mut Region) -> Result<Stepped, AllocE
 pub fn moves(local: &Local, region: &Region) -> bool
     ensures { result ≡ moves local.now region.now }
 {
-    match (local.place(), &region.side) {
-        (Place::Over, _)
-        | (Place::PurgeTaking { .. }, Side::Purge(Some(_)))
-        | (Place::TakingAlloc(_) | Place::TakingToBalance, Side::Alloc(Some(_))) => false,
+    match local.place() {
+        Place::Over => false,
+        Place::PurgeTaking { .. } => !matches!(region.side, Side::Purge(Some(_))),
+        Place::TakingAlloc(_) | Place::TakingToBalance => {
+            !matches!(region.side, Side::Alloc(Some(_)))
+        }
         _ => true,
     }
 }
@@ -203,10 +205,25 @@ fn over_pages(local: &mut Local, pages: &mut PageSide, place: Place)
         Place::UnmappingPart { cpu, part } => unmap_part(local, pages, cpu, part),
         Place::Populating(placed) => populate(local, pages, placed),
         Place::Zeroing(placed) => zero(local, pages, placed),
-        Place::Adding { object, serial, cpu, index, amount } => add_word(local, pages, object, serial, cpu, index, amount),
-        Place::Summing { object, serial, index } => sum_words(local, pages, object, serial, index),
+        Place::Adding {
+            object,
+            serial,
+            cpu,
+            index,
+            amount,
+        } => add_word(local, pages, object, serial, cpu, index, amount),
+        Place::Summing {
+            object,
+            serial,
+            index,
+        } => sum_words(local, pages, object, serial, index),
         Place::Depopulating { base, populated } => depopulate(local, pages, base, populated),
-        Place::Filling { chunk, base, page, filled } => fill(local, pages, chunk, base, page, filled),
+        Place::Filling {
+            chunk,
+            base,
+            page,
+            filled,
+        } => fill(local, pages, chunk, base, page, filled),
         _ => unreachable!(),
     }
 }
@@ -230,7 +247,11 @@ fn over_chunks(local: &mut Local, percpu: &mut PcpuSide, place: Place) -> Result
         Place::FreeingObject { object, serial } => Ok(free_object(local, percpu, object, serial)),
         Place::Sparing => Ok(spare(local, percpu)),
         Place::NextFill { filled } => Ok(next_page(local, percpu, filled)),
-        Place::NotingFilled { chunk, page, filled } => Ok(note_filled(local, percpu, chunk, page, filled)),
+        Place::NotingFilled {
+            chunk,
+            page,
+            filled,
+        } => Ok(note_filled(local, percpu, chunk, page, filled)),
         _ => unreachable!(),
     }
 }
@@ -246,11 +267,15 @@ fn over_blocks(local: &mut Local, blocks: &mut BlockSide, place: Place) -> Resul
 {
     match place {
         Place::LookingAtDirty { cpu } => Ok(look_at_dirty(local, blocks, cpu)),
-        Place::PurgeFragmenting { cpu, extra, after } => take_fragmented(local, blocks, cpu, extra, after),
+        Place::PurgeFragmenting { cpu, extra, after } => take_fragmented(
+            local, blocks, cpu, extra, after,
+        ),
         Place::CuttingPart { cpu, pages } => Ok(cut_part(local, blocks, cpu, pages)),
         Place::AddingBlock { start, cpu, pages } => add_block(local, blocks, start, cpu, pages),
         Place::SettlingPart { cpu, part } => Ok(settle_part(local, blocks, cpu, part)),
-        Place::BeginningUnmap { cpu, page, serial } => Ok(begin_unmap(local, blocks, cpu, page, serial)),
+        Place::BeginningUnmap { cpu, page, serial } => Ok(begin_unmap(
+            local, blocks, cpu, page, serial,
+        )),
         Place::Retiring { cpu, part, reply } => Ok(retire_part(local, blocks, cpu, part, reply)),
         _ => unreachable!(),
     }

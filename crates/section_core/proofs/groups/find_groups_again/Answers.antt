@@ -1,4 +1,4 @@
-use Rattle.std.proofs.Common.{None, OnErr, Ok, Err, refl, ap}
+use Rattle.std.proofs.Common.{OnErr, Ok, Err, refl, ap}
 use Rattle.vm_model.specs.Events.{ForGroups}
 use Rattle.vm_model.specs.Places as model
 use Rattle.vm_model.specs.declared.calls.Reply.TheVariants as reply

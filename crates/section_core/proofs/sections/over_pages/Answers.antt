@@ -1,3 +1,6 @@
+use Rattle.std.proofs.Common.{FitsSigned, w32, rules, ap, sym, ◌∙◌}
+use Rattle.std.proofs.lemmas.Int.{to_z-of_z}
+use Rattle.callers.specs.declared.place.Place.TheVariants as place
 use Rattle.section_core.proofs.SideRows.{at_place, none_pages}
 use Rattle.section_core.proofs.sections.over_pages.Goals as goal
 
@@ -23,7 +26,9 @@ pub zero-requires : goal.zero-requires
 zero-requires c = at_place _ _ _ _ c.in-Zeroing.is c.requires.can
 
 pub add_word-requires : goal.add_word-requires
-add_word-requires c = at_place _ _ _ _ c.in-Adding.is c.requires.can
+add_word-requires c =
+    let fits : FitsSigned w32 c.in-Adding.amount = search rules in
+    at_place _ _ _ _ (c.in-Adding.is ∙ ap (place.Adding c.in-Adding.object c.in-Adding.serial c.in-Adding.cpu c.in-Adding.index) (sym (to_z-of_z w32 c.in-Adding.amount fits))) c.requires.can
 
 pub sum_words-requires : goal.sum_words-requires
 sum_words-requires c = at_place _ _ _ _ c.in-Summing.is c.requires.can
