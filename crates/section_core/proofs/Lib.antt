@@ -2,6 +2,7 @@ pub mod Moved
 pub mod FreeSections
 pub mod GroupSections
 pub mod PageSections
+pub mod WordSections
 pub mod BlockSections
 pub mod ChunkSections
 pub mod Counted

@@ -38,13 +38,13 @@ use Rattle.section_laws.proofs.OneState.{in_one_state}
 
 -- Numbers within a bound.
 
-zero_within : (most : ℕ) → IsWithin most (pos 0)
+pub zero_within : (most : ℕ) → IsWithin most (pos 0)
 zero_within most = (omega (arith, ints), omega (arith, ints))
 
-wider : (most more : ℕ) (z : ℤ) → most ≤ more → IsWithin most z → IsWithin more z
+pub wider : (most more : ℕ) (z : ℤ) → most ≤ more → IsWithin most z → IsWithin more z
 wider most more z low is = let a = is.0 in let b = is.1 in (omega (arith, ints), omega (arith, ints))
 
-both_within : (a b : ℕ) (x y : ℤ) → IsWithin a x → IsWithin b y → IsWithin (a + b) (x +ℤ y)
+pub both_within : (a b : ℕ) (x y : ℤ) → IsWithin a x → IsWithin b y → IsWithin (a + b) (x +ℤ y)
 both_within a b x y p q = let p0 = p.0 in let p1 = p.1 in let q0 = q.0 in let q1 = q.1 in (omega (arith, ints), omega (arith, ints))
 
 amount_within : (z : ℤ) → is_amount z ≡ true → IsWithin most_amount z
@@ -53,7 +53,7 @@ amount_within (negsuc n) e = let low : n < 2 ^ 31 = grind (arith, nat_tests) in 
 
 -- Cells.
 
-abbrev AreWithin : ℕ → List ℤ → Type 0
+abbrev pub AreWithin : ℕ → List ℤ → Type 0
 AreWithin most cells = (i : ℕ) (z : ℤ) → slice_get cells i ≡ Some z → IsWithin most z
 
 read_within : (most : ℕ) (cells : List ℤ) (i : ℕ) → AreWithin most cells → IsWithin most (slice_index_or cells i (pos 0))
@@ -61,7 +61,7 @@ read_within most [] i all = zero_within most
 read_within most (z ∷ cells) zero all = all 0 z refl
 read_within most (z ∷ cells) (suc i) all = read_within most cells i (λ j y e. all (suc j) y e)
 
-cell_within : (most : ℕ) (cells : List ℤ) (cell : Option ℕ) → AreWithin most cells → IsWithin most (read_cell cells cell)
+pub cell_within : (most : ℕ) (cells : List ℤ) (cell : Option ℕ) → AreWithin most cells → IsWithin most (read_cell cells cell)
 cell_within most cells None all = zero_within most
 cell_within most cells (Some cell) all = read_within most cells cell all
 
