@@ -1,4 +1,4 @@
-use Rattle.std.proofs.Common.{◌∷◌, [], List, map, ◌∙◌, ap, refl, arith}
+use Rattle.std.proofs.Common.{◌∷◌, [], List, map, sym, ◌∙◌, ap, subst, refl, arith}
 use Rattle.std.specs.Arc.{arc_value}
 use Rattle.unit_layout.specs.Config.{setup_of}
 use Rattle.unit_layout.specs.declared.config.Config.{Config}
@@ -6,12 +6,16 @@ use Rattle.vm_model.specs.PlainMap.{at_first}
 use Rattle.vm_model.specs.Parts.{regions_of}
 use Rattle.vm_model.specs.History.{Local, started, opening_world}
 use Rattle.callers.specs.declared.answers.Answered.{Answered as Code}
-use Rattle.callers.specs.CallerParts.{answer_of}
+use Rattle.callers.specs.CallerParts.{answer_of, OpeningTellsFreed}
+use Rattle.callers.proofs.SoundCalls.{ruled_sound}
 use Rattle.kernel_steps.proofs.Starts.{stands_before}
 use Rattle.kernel_steps.proofs.kernel.Kernel.before.Goals as goal
 
-pub start-requires-clause-built : goal.start-requires-clause-built
-start-requires-clause-built c = c.requires.1.can.built 0 c.args.opening refl
+pub start-requires-clause-sound : goal.start-requires-clause-sound
+start-requires-clause-sound c = let trace = c.requires.1.can.trace in ruled_sound (setup_of (arc_value c.args.config.now)) trace.setup [] c.args.opening trace.opening_ruled
+
+pub start-requires-clause-opening : goal.start-requires-clause-opening
+start-requires-clause-opening c = subst OpeningTellsFreed (sym (c.in_ok-none.ensures.ok ∙ c.of.ensures ∙ c.new.ensures.items)) (λ i o h. cc)
 
 pub start-requires-clause-few : goal.start-requires-clause-few
 start-requires-clause-few c = let few = c.requires.1.can.trace.few in omega arith

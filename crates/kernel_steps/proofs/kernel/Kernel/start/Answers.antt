@@ -4,7 +4,8 @@ use Rattle.vm_model.specs.declared.calls.Call.{Call}
 use Rattle.unit_layout.specs.Config.{setup_of}
 use Rattle.unit_layout.specs.declared.config.Config.{Config}
 use Rattle.vm_model.specs.History.{opening_world, placing_calls}
-use Rattle.callers.specs.CallerParts.{answer_of}
+use Rattle.callers.specs.CallerParts.{answer_of, OpeningTellsFreed}
+use Rattle.callers.proofs.SoundCalls.{ruled_sound}
 use Rattle.kernel_steps.specs.Kernels.{KernelState, IsStanding, CanStart, IsBefore, start_of, opening_of, callers_of}
 use Rattle.callers.proofs.CallersStarted.{removed_first}
 use Rattle.kernel_steps.proofs.Starts.{section_short, few_together, can_join}
@@ -18,10 +19,13 @@ split_as sections held rest opening e some first others =
     let n = ap length e in
     sym e ∙ removed_first held rest opening others (slice_get_read held (length held) 0 opening refl (omega arith) first)
 
-pub first_callers-requires-clause-built : goal.first_callers-requires-clause-built
-first_callers-requires-clause-built c = λ k own h.
+pub first_callers-requires-clause-sound : goal.first_callers-requires-clause-sound
+first_callers-requires-clause-sound c = λ k own h.
     let split = split_as c.args.sections c.into_vec-sections.result.items c.remove-opening.new.self.items c.remove-opening.result c.into_vec-sections.ensures c.requires.some c.remove-opening.ensures.value c.remove-opening.ensures.items in
-    c.requires.built (suc k) own (ap (λ xs. slice_get xs (suc k)) split ∙ h)
+    ruled_sound (setup_of c.args.config) c.requires.trace.setup (opening_of c.args.sections) own (c.requires.trace.callers_ruled k own (ap (λ xs. slice_get (callers_of xs) k) split ∙ h))
+
+pub first_callers-requires-clause-opening : goal.first_callers-requires-clause-opening
+first_callers-requires-clause-opening c = subst OpeningTellsFreed (sym c.in_ok-answers-2.ensures.ok) c.in_ok-answers.ensures.freed
 
 pub first_callers-requires-clause-few : goal.first_callers-requires-clause-few
 first_callers-requires-clause-few c = λ k own h.
@@ -49,7 +53,7 @@ join-requires c =
       can_join (setup_of (arc_value c.in_ok-config.config)) c.remove-opening.result c.remove-opening.new.self.items c.in_ok-kernel.kernel c.finish.new.self c.kernel-2.inside.locals.items c.in_ok-first_callers.field-0.items c.index.result.now
           (map answer_of (arc_value c.in_ok-answers-2.answers)) can (c.in_ok-kernel.ensures c.remove-opening.new.self.items before)
           (c.in_ok-finish.ensures.ok (setup_of (arc_value c.in_ok-config.config)) c.remove-opening.result c.remove-opening.new.self.items (opening_world (setup_of (arc_value c.in_ok-config.config)) c.remove-opening.result c.remove-opening.new.self.items) (c.in_ok-kernel.ensures c.remove-opening.new.self.items before))
-          c.finish.ensures.callers (ap (λ (k : KernelState). k.locals) c.kernel-2.view_is) c.index.ensures (ap (map answer_of) c.in_ok-answers-2.ensures.ok ∙ c.in_ok-answers.ensures) c.in_ok-first_callers.ensures,
+          c.finish.ensures.callers (ap (λ (k : KernelState). k.locals) c.kernel-2.view_is) c.index.ensures (ap (map answer_of) c.in_ok-answers-2.ensures.ok ∙ c.in_ok-answers.ensures.answers) c.in_ok-first_callers.ensures,
     )
 
 pub returns : goal.returns
@@ -61,6 +65,6 @@ returns c =
     (can_join (setup_of (arc_value c.in_ok-config.config)) c.remove-opening.result c.remove-opening.new.self.items c.in_ok-kernel.kernel c.finish.new.self c.kernel-2.inside.locals.items c.in_ok-first_callers.field-0.items c.index.result.now
     (map answer_of (arc_value c.in_ok-answers-2.answers)) can (c.in_ok-kernel.ensures c.remove-opening.new.self.items before)
     (c.in_ok-finish.ensures.ok (setup_of (arc_value c.in_ok-config.config)) c.remove-opening.result c.remove-opening.new.self.items (opening_world (setup_of (arc_value c.in_ok-config.config)) c.remove-opening.result c.remove-opening.new.self.items) (c.in_ok-kernel.ensures c.remove-opening.new.self.items before))
-    c.finish.ensures.callers (ap (λ (k : KernelState). k.locals) c.kernel-2.view_is) c.index.ensures (ap (map answer_of) c.in_ok-answers-2.ensures.ok ∙ c.in_ok-answers.ensures) c.in_ok-first_callers.ensures) in
+    c.finish.ensures.callers (ap (λ (k : KernelState). k.locals) c.kernel-2.view_is) c.index.ensures (ap (map answer_of) c.in_ok-answers-2.ensures.ok ∙ c.in_ok-answers.ensures.answers) c.in_ok-first_callers.ensures) in
     subst (λ (x : Config). IsStanding (setup_of x) (opening_of c.args.sections) (callers_of c.args.sections) (start_of (setup_of x) c.args.sections) c.join.new.self) c.in_ok-config.ensures.ok
     (subst (λ sections. IsStanding (setup_of (arc_value c.in_ok-config.config)) (opening_of sections) (callers_of sections) (start_of (setup_of (arc_value c.in_ok-config.config)) sections) c.join.new.self) (sym split) joined)
