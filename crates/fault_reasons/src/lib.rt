@@ -1,7 +1,7 @@
 //! Why a line can't stand, in words: what a person at a terminal is told beside the fault line. The text quotes the
 //! line that is named, and only memory can be wanting; which reason it gives is a help, and no promise.
 //!
-//! - `reason`, `unbuilt`: the text begins with the line that the number names, as it is shown (`quotes`, `head`), and
+//! - `reason`: the text begins with the line that the number names, as it is shown (`quotes`, `head`), and
 //!   only memory can be wanting. Which reason is told behind it is a help, and no contract's matter.
 #![tactic(auto)]
 
@@ -12,4 +12,4 @@ mod quotes;
 mod texts;
 mod wrongs;
 
-pub use texts::{reason, unbuilt};
+pub use texts::reason;

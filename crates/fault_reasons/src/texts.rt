@@ -102,11 +102,3 @@ pub fn reason(alloc: Global, bytes: &[u8], line: u32) -> Result<Vec<u8>, AllocEr
     let body = body(alloc, bytes, line)?;
     said_of(alloc, bytes, line, body.as_slice())
 }
-
-/// That the line with this number has a word which isn't built, in two lines: the line itself, and that.
-pub fn unbuilt(alloc: Global, bytes: &[u8], line: u32) -> Result<Vec<u8>, AllocError>
-    ensures quotes { IfOk result (λ text. Begins text.items (head bytes.now line)) }
-{
-    let said = Vec::from_slice(alloc, b"this word is not built yet\n")?;
-    said_of(alloc, bytes, line, said.as_slice())
-}

@@ -52,7 +52,6 @@ layout_words (error.TooWide pages) = codes "wide" ∷ decimal pages ∷ []
 abbrev pub fault_words : Fault → List (List ℕ)
 fault_words fault.Usage = codes "usage" ∷ []
 fault_words (fault.Line number) = codes "line" ∷ decimal number ∷ []
-fault_words (fault.Unbuilt number) = codes "unbuilt" ∷ decimal number ∷ []
 fault_words (fault.Layout error) = codes "layout" ∷ layout_words error
 fault_words fault.Length = codes "length" ∷ []
 

@@ -130,9 +130,6 @@ fn put_fault(text: &mut Vec<u8>, fault: &Fault) -> Result<(), AllocError>
     match fault {
         Fault::Usage => put_line(text, b"fault", &[Word(b"usage")]),
         Fault::Line { line } => put_line(text, b"fault", &[Word(b"line"), Number(*line as u64)]),
-        Fault::Unbuilt { line } => {
-            put_line(text, b"fault", &[Word(b"unbuilt"), Number(*line as u64)])
-        }
         Fault::Layout(error) => put_layout_fault(text, *error),
         Fault::Length => put_line(text, b"fault", &[Word(b"length")]),
     }

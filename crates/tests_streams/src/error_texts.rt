@@ -12,10 +12,6 @@ fn each_error_has_its_text(rt: HostRuntime) -> Result<(), AllocError> {
             "line 3 can't stand where it is",
         ),
         (
-            TraceError::Unbuilt { line: 4 },
-            "line 4 begins with a word that isn't built",
-        ),
-        (
             TraceError::Layout(LayoutError::NoCpu { group: 2 }),
             "group 2 has no processor",
         ),

@@ -7,13 +7,14 @@ ghost use Rattle.trace_text.specs.Told.{Tells};
 ghost use Rattle.trace_replay.specs.BuiltReadings.{IsBuilt};
 ghost use Rattle.trace_replay.specs.Headline.{Writes, Reports, setup, history_of_trace, most_bytes};
 
+use crate::counts::counters_of_trace;
 use crate::status::Status;
 use crate::words::Mode;
 use kernel_steps::Kernel;
 use report_text::{Fault, Text, write_fault, write_report};
 use std::alloc::{AllocError, Global};
 use trace_text::{Trace, TraceError, read_trace};
-use vm_model::{CounterList, Tables};
+use vm_model::Tables;
 
 /// A status, and the text that is written with it.
 #[derive(Drop)]
@@ -44,8 +45,8 @@ fn report(alloc: Global, mode: Mode, trace: Trace) -> Result<Outcome, AllocError
     requires { (reading : Reading) × IsBuilt reading × Tells trace reading }
     ensures { IfOk result (λ outcome. (reading : Reading) → IsBuilt reading → Tells trace reading → Reports mode reading outcome.status outcome.text) }
 {
+    let counters = counters_of_trace(alloc, &trace)?;
     let tables = tables_of_trace(alloc, trace)?;
-    let counters = CounterList::of(Vec::new(alloc));
     let text = write_report(alloc, &tables, &counters, mode.audits())?;
     Ok(Outcome {
         status: Status::Done,
@@ -70,9 +71,6 @@ pub fn answer(alloc: Global, mode: Mode, bytes: &[u8]) -> Result<Outcome, AllocE
         Ok(trace) => report(alloc, mode, trace),
         Err(TraceError::BadLine { line }) => {
             fault(alloc, Status::BadTrace { line }, &Fault::Line { line })
-        }
-        Err(TraceError::Unbuilt { line }) => {
-            fault(alloc, Status::Unbuilt { line }, &Fault::Unbuilt { line })
         }
         Err(TraceError::Layout(error)) => {
             fault(alloc, Status::BadLayout(error), &Fault::Layout(error))

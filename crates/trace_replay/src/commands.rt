@@ -121,7 +121,7 @@ fn refuse<K: Sink>(alloc: Global, sink: &mut K) -> Status
 /// | Status | Written |
 /// |---|---|
 /// | `Done` | the report, or the generated trace |
-/// | `BadTrace`, `BadLayout`, `Unbuilt`, `Usage`, `TooLong` | the line that tells the fault |
+/// | `BadTrace`, `BadLayout`, `Usage`, `TooLong` | the line that tells the fault |
 /// | `WriteFault` | a prefix of the text that was being written |
 /// | `ReadFault`, `OutOfMemory` | nothing |
 pub fn run<S: Source, K: Sink>(

@@ -18,6 +18,7 @@
 
 mod answer;
 mod commands;
+mod counts;
 mod failing_calls;
 mod gather;
 mod memory_sink;

@@ -11,8 +11,6 @@ pub enum Status {
     Done,
     /// The source was read to its end, and this is the first line that cannot stand.
     BadTrace { line: u32 },
-    /// The same, where that line begins with a word of the grammar that is not built yet.
-    Unbuilt { line: u32 },
     /// The source was read to its end and is a trace, and this is why the layout that its header asks for is refused.
     BadLayout(LayoutError),
     /// The words name no command.
@@ -40,7 +38,6 @@ impl Status {
             Status::ReadFault => 4,
             Status::WriteFault => 5,
             Status::TooLong => 6,
-            Status::Unbuilt { .. } => 7,
         }
     }
 }

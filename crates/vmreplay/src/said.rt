@@ -1,6 +1,6 @@
 //! What is said to a person, on standard error, where a command doesn't end well.
 
-use fault_reasons::{reason, unbuilt};
+use fault_reasons::reason;
 use std::alloc::{AllocError, Global};
 use trace_replay::Status;
 
@@ -22,10 +22,6 @@ pub fn said(alloc: Global, status: Status, kept: Option<&[u8]>) -> Result<Vec<u8
         Status::Done => Ok(Vec::new(alloc)),
         Status::BadTrace { line } => match kept {
             Some(bytes) => reason(alloc, bytes, line),
-            None => Ok(Vec::new(alloc)),
-        },
-        Status::Unbuilt { line } => match kept {
-            Some(bytes) => unbuilt(alloc, bytes, line),
             None => Ok(Vec::new(alloc)),
         },
         Status::BadLayout(error) => {
