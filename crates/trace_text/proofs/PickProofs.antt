@@ -6,9 +6,9 @@ use Rattle.std.proofs.lemmas.List.{map-append, append-nil, length-map}
 use Rattle.std.specs.List.{list_all}
 use Rattle.vm_model.specs.Words.{fields, within, is_number, lacks}
 use Rattle.trace_text.specs.Held.{ArePicks, AddsPicks}
-use Rattle.trace_text.proofs.Split.{split_at, onto_first, split_at-fields, split_at-lacks, split_at-whole}
+use Rattle.trace_text.proofs.Split.{split_at, onto_first, split_at-fields, split_at-lacks, split_at-whole, lacks-clean}
 use Rattle.trace_text.proofs.Outcomes.{split_at-full}
-use Rattle.trace_text.proofs.Guess.{clean-decimals}
+use Rattle.trace_text.proofs.Guess.{clean-decimal, clean-decimals}
 
 -- a text is its fields
 fields-onto_first : (b : ℕ) (fs : List (List ℕ)) → fs ≢ [] → fields (onto_first b fs) ≡ b ∷ fields fs
@@ -83,6 +83,13 @@ one_picked callers text rest field more old new newer count n so e clean known s
   cuts = so.cuts ∙ ap (λ fs. map decimal so.picks ++ fs) (ap (split_at 32) e ∙ split_at-lacks 32 field more clean ∙ ap (λ f. f ∷ split_at 32 more) spells)
       ∙ sym (append_assoc (map decimal so.picks) (decimal n ∷ []) (split_at 32 more)) ∙ ap (λ fs. fs ++ split_at 32 more) (sym (map-append decimal so.picks (n ∷ [])));
 }
+
+-- the same, where the text of the pick is told
+pub picked_before : (callers : ℕ) (text rest more old new newer : List ℕ) (count n : ℕ) → callers < 2 ^ 16 → IsPicked callers text rest old new count → within 1 callers n ≡ true
+    → rest ≡ decimal n ++ 32 ∷ more → newer ≡ new ++ n ∷ [] → IsPicked callers text more old newer (count + 1)
+picked_before callers text rest more old new newer count n small so known spells put =
+    let clean = lacks-clean 32 (decimal n) (omega arith) (clean-decimal n (pick_is_number callers n small known)) in
+    one_picked callers text rest (decimal n) more old new newer count n so spells clean known refl put
 
 -- the last of at most 64
 pub last_picked : (callers : ℕ) (text rest old new newer : List ℕ) (count n : ℕ) → IsPicked callers text rest old new count → count < 64 → lacks 32 rest ≡ true

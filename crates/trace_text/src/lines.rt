@@ -117,6 +117,9 @@ pub fn read_line(alloc: Global, progress: &mut Progress, line: &[u8]) -> Result<
     requires held { (r : Reading) × IsHeld progress.old r }
     ensures { IfOk result (λ stood. (r : Reading) → IsHeld progress.old r → Steps r line.now stood progress.new) }
 {
+    if let Some(text) = line.strip_prefix(b"order ") {
+        return read_order(progress, text);
+    }
     if let Some(text) = line.strip_prefix(b"vmalloc ") {
         return read_vmalloc(progress, text);
     }
@@ -131,9 +134,6 @@ pub fn read_line(alloc: Global, progress: &mut Progress, line: &[u8]) -> Result<
     }
     if line == b"unmap_aliases".as_slice() {
         return read_unmap_aliases(progress);
-    }
-    if let Some(text) = line.strip_prefix(b"order ") {
-        return read_order(progress, text);
     }
     if let Some(field) = line.strip_prefix(b"caller ") {
         return read_caller(alloc, progress, field);

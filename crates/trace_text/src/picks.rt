@@ -1,5 +1,5 @@
 //! The picks of an `order` line, as they are read.
-ghost use Rattle.std.specs.Prelude.{◌≡◌, ◌≢◌, ℕ, IfOk, IfSome, IfNone, IsTrue, decimal};
+ghost use Rattle.std.specs.Prelude.{◌≡◌, ◌≢◌, ◌++◌, ◌∷◌, ℕ, IfOk, IfSome, IfNone, IsTrue, decimal};
 ghost use Rattle.vm_model.specs.Words.{within};
 ghost use Rattle.trace_text.specs.Held.{AddsPicks};
 
@@ -23,12 +23,40 @@ fn pick(field: &[u8], callers: u16) -> Option<u16>
     Some(caller as u16)
 }
 
+/// The caller that so many bytes pick, where a space is behind them, and the text behind that space.
+fn pick_before(text: &[u8], callers: u16, width: usize) -> Option<(u16, &[u8])>
+    ensures { IfSome result (λ found. IsTrue (within 1 callers found.0) × (text.now ≡ decimal found.0 ++ 32 ∷ found.1.now)) }
+{
+    if text.len() <= width || text[width] != b' ' {
+        return None;
+    }
+    let Some(caller) = pick(&text[..width], callers) else {
+        return None;
+    };
+    Some((caller, &text[width + 1..]))
+}
+
+/// The same, of a pick of one or two digits: no trace has more than 16 callers.
+fn short_pick(text: &[u8], callers: u16) -> Option<(u16, &[u8])>
+    ensures { IfSome result (λ found. IsTrue (within 1 callers found.0) × (text.now ≡ decimal found.0 ++ 32 ∷ found.1.now)) }
+{
+    match pick_before(text, callers, 1) {
+        Some(found) => Some(found),
+        None => pick_before(text, callers, 2),
+    }
+}
+
 /// Puts the picks that a text is behind those of earlier lines. A text of no picks, or of more than 64, may leave some.
 pub fn read_picks(picks: &mut Vec<u16>, callers: u16, text: &[u8]) -> Result<bool, AllocError>
     ensures { IfOk result (λ stood. AddsPicks callers text.now stood picks.old.items picks.new.items) }
 {
     let mut rest = text;
     for _count in 0..MOST_PICKS {
+        if let Some((caller, more)) = short_pick(rest, callers) {
+            picks.push(caller)?;
+            rest = more;
+            continue;
+        }
         let Some((field, more)) = cut(rest, b' ') else {
             let Some(caller) = pick(rest, callers) else {
                 return Ok(false);
