@@ -72,3 +72,36 @@ fn the_longest_generated_trace(rt: HostRuntime) {
     let lines = written.as_slice().split(|byte| *byte == b'\n').count();
     assert!(rt; ended == 0 && lines == 9 + 8 + 100_000 + 12_500 + 1 + 1);
 }
+
+/// What the report of the trace of 10,000 lines that is generated from 7 has behind its replies, and at its end.
+const SUMMARY: &[u8] = b"
+tally calls 9350 ok 9350 no-space 0 no-frames 0 no-atomic 0 not-live 0 refused 0
+events 29051
+frames 6393 mapped 1799 stale 392
+";
+
+const TOTALS: &[u8] = b"
+counter 0 total 287
+counter 1 total 147
+counter 2 total 489
+counter 3 total -142
+end
+";
+
+/// A long generated trace comes out alike again, and so does its report.
+#[test]
+fn a_generated_trace_is_replayed(rt: HostRuntime) {
+    let (ended, trace) = made(rt.alloc(), 7, 10_000, Vec::new(rt.alloc()));
+    let (_, again) = made(rt.alloc(), 7, 10_000, Vec::new(rt.alloc()));
+    assert!(rt; ended == 0 && trace.len() == 267_805 && trace.as_slice() == again.as_slice());
+    let mut source = StreamSource::new(trace.as_slice());
+    let (ended, report) = replayed(rt.alloc(), &mut source, Vec::new(rt.alloc()));
+    let mut source = StreamSource::new(again.as_slice());
+    let (_, retold) = replayed(rt.alloc(), &mut source, Vec::new(rt.alloc()));
+    assert!(rt; ended == 0 && report.len() == 247_533 && report.as_slice() == retold.as_slice());
+    let summed = report
+        .as_slice()
+        .windows(SUMMARY.len())
+        .any(|part| part == SUMMARY);
+    assert!(rt; summed && report.as_slice().ends_with(TOTALS));
+}
