@@ -15,6 +15,7 @@ pub mod Kept
 pub mod FreeSlots
 pub mod Sides
 pub mod Placing
+pub mod Checks
 pub mod InSlots
 pub mod NewChunks
 pub mod LiveRows

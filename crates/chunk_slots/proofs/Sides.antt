@@ -92,7 +92,7 @@ object_in_chunk h i rows row at rise there number =
 pub no_object : (h : ℕ → Option Holder) (rows : List KeptRow) (at : ObjectAt) → index_by number_of at.chunk rows ≡ None → find_object at (chunks_in h rows) ≡ None
 no_object h rows at none = ap (λ cs. find (at_off at.off) (flat_map objects_of_chunk cs)) (numbered_none h at.chunk rows none)
 
-found_span : (P : Span → Type 0) (off : ℕ) (spans : List Span) (s : Span) → Each P spans → find (starts_at off) spans ≡ Some s → P s × (4 * s.start ≡ off)
+pub found_span : (P : Span → Type 0) (off : ℕ) (spans : List Span) (s : Span) → Each P spans → find (starts_at off) spans ≡ Some s → P s × (4 * s.start ≡ off)
 found_span P off [] s e found = cc
 found_span P off (t ∷ ts) s e found = elim (cases_eq (4 * t.start) off) [
   | inl here ↦

@@ -159,7 +159,7 @@ and_same : (a b c : Bool) → (a ≡ true → b ≡ c) → (a && b) ≡ (a && c)
 and_same true b c h = h refl
 and_same false b c h = refl
 
-long_spans : (holders : ℕ → Option Holder) (n bits : ℕ) (spans : List Span) → Each (IsKeptSpan holders n bits) spans → Each IsLong spans
+pub long_spans : (holders : ℕ → Option Holder) (n bits : ℕ) (spans : List Span) → Each (IsKeptSpan holders n bits) spans → Each IsLong spans
 long_spans holders n bits [] kept = tt
 long_spans holders n bits (s ∷ spans) kept = (kept.0.some, long_spans holders n bits spans kept.1)
 

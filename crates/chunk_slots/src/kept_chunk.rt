@@ -1,5 +1,5 @@
 //! A chunk as its side keeps it.
-ghost use Rattle.std.specs.Prelude.{◌≡◌, ◌+◌, ◌-◌, ◌*◌, ◌/◌, ◌<◌, ◌≤◌, ◌^◌, ◌&&◌, not, if◌then◌else◌, ℕ, Some, IfOk, IfSome, IfNone, OnOk, length, filter, MatchOption, [], ◌∷◌, ◌++◌};
+ghost use Rattle.std.specs.Prelude.{◌≡◌, ◌+◌, ◌-◌, ◌*◌, ◌/◌, ◌<◌, ◌≤◌, ◌^◌, ◌&&◌, not, if◌then◌else◌, ℕ, true, false, Some, IsTrue, ◌↔◌, IfOk, IfSome, IfNone, OnOk, length, filter, slice_get, MatchOption, [], ◌∷◌, ◌++◌};
 ghost use Rattle.vm_model.specs.Space.{lowest, count_from, is_among};
 ghost use Rattle.vm_model.specs.Bits.{slot_of, hint_of, block_bits, free_count};
 ghost use Rattle.vm_model.specs.Frames.{pages_of_bytes};
@@ -323,6 +323,15 @@ impl KeptChunk {
     {
         let _ = &self.bits;
         self.populate(pages_of_object(off, bytes));
+    }
+
+    /// Whether it has a page that is not populated, and of which no bit is taken.
+    pub(crate) fn can_populate(&self, page: u32) -> bool
+        ensures { IsTrue result ↔ (slice_get self.now.populated page ≡ Some false) × (page_is_free self.now.bits page ≡ true) }
+    {
+        page < self.pages
+            && !self.populated.contains(page)
+            && self.bits.hint(page).left == BLOCK_BITS
     }
 
     /// The pages of an object that are not populated.

@@ -13,6 +13,7 @@
 //! - `settle`, `unplace`, `free`, `set_populated`, `remove_chunk`: what the event of that name does to the chunks
 //!   (`with_settled`, `without_placed`, `with_populated`, `without_chunk`); `free` has none exactly where no live
 //!   object has this chunk, offset and serial. They take no memory.
+//! - `is_held`, `can_populate`: what `settle`, `unplace` and `set_populated` want of their caller, to be asked before.
 //! - `slot_of`, `in_slot`, `in_order`, `free_slot`, `empty_pages`, `chunk_at`, `base_at`, `hint_at`, `populated_at`, `find`:
 //!   what is kept of slots, hints and empty pages is that of the bits. The chunks rise by number, and those of the free slot
 //!   are those without an object.

@@ -6,6 +6,7 @@ ghost use Rattle.chunk_slots.specs.KeptChunks.{has_populated};
 ghost use Rattle.vm_model.specs.PageSets.{pages_in};
 ghost use Rattle.chunk_slots.specs.ChunkRegion.{empty_region, at_of, told_of, place_for, with_placed, with_new_chunk, with_settled, without_placed, with_populated, without_chunk, IsHeld, CanPopulate, IsWhollyFree, live_bytes, at_offset, AreOfUnits};
 
+mod checks;
 mod chunk_reads;
 mod chunk_tables;
 mod live_objects;

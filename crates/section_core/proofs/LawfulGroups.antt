@@ -1,11 +1,11 @@
 -- The groups that a caller unlinks lie in the space.
-use Rattle.std.proofs.Common.{◌≡◌, ℕ, ◌+◌, ◌-◌, ◌≤◌, true, All, List, [], ◌∷◌, length, slice_get, Some, None, refl, ap, sym, ◌∙◌, subst, arith}
+use Rattle.std.proofs.Common.{◌≡◌, ℕ, ◌-◌, ◌≤◌, true, All, List, [], ◌∷◌, slice_get, Some, None, refl, ap, sym, ◌∙◌, subst, arith}
 use Rattle.std.proofs.lemmas.Option.{slice_get_within}
 use Rattle.std.proofs.lemmas.List.Elements.{All-nil, All-cons, All-head, All-tail, All-weaker}
 use Rattle.vm_model.specs.declared.areas.Span.{Span}
 use Rattle.vm_model.specs.declared.areas.Area.{Area}
 use Rattle.vm_model.specs.declared.calls.Call.{Call}
-use Rattle.vm_model.specs.Space.{HasEnd, end_of, holds, covers}
+use Rattle.vm_model.specs.Space.{HasEnd, end_of, covers}
 use Rattle.vm_model.specs.Setup.{Setup, groups_at}
 use Rattle.vm_model.specs.Carried.{emptied}
 use Rattle.vm_model.specs.Places.{Place, UnlinkingGroups}

@@ -1,5 +1,5 @@
 -- The sections over the pages and words of per-CPU objects.
-use Rattle.std.proofs.Common.{◌≡◌, ℕ, ◌+◌, ◌*◌, ◌/◌, ◌<◌, ◌≤◌, ◌==◌, ◌&&◌, ◌⊎◌, inl, inr, Bool, true, false, not, nat_lt, nat_le, if◌then◌else◌, List, [], ◌∷◌, length, filter, map, slice_index, slice_get, Some, None, ℤ, ◌+ℤ◌, refl, ap, sym, ◌∙◌, subst, arith}
+use Rattle.std.proofs.Common.{◌≡◌, ℕ, ◌+◌, ◌*◌, ◌/◌, ◌<◌, ◌≤◌, ◌==◌, ◌&&◌, ◌⊎◌, inl, inr, Bool, true, false, not, nat_lt, nat_le, if◌then◌else◌, List, [], ◌∷◌, length, filter, map, slice_index, slice_get, Some, None, ℤ, ◌+ℤ◌, refl, ap, sym, ◌∙◌, arith}
 use Rattle.std.proofs.lemmas.Bool.Decides.{nat_tests}
 use Rattle.vm_model.specs.declared.calls.Reply.TheVariants as reply
 use Rattle.vm_model.specs.Space.{count_from, is_among, one_if}
@@ -19,7 +19,7 @@ use Rattle.vm_model.specs.Effects.{effect_as}
 use Rattle.vm_model.specs.Events.{Section, Populate, Fill, NoFrames, Depopulate, Zero, AddWord, SumWords}
 use Rattle.vm_model.specs.Places.{Place, MadeNothing, Populating, SettlingObject, Unplacing, GivingAlloc, Zeroing, SettlingAtomic, Adding, Summing, Depopulating, UnlinkingGroups, Filling, NotingFilled, ask}
 use Rattle.vm_model.specs.Given.{given, with_frames}
-use Rattle.vm_model.specs.Next.{Next, Go, Answer, just, next}
+use Rattle.vm_model.specs.Next.{Next, Go, just, next}
 use Rattle.vm_model.specs.History.{Local, moved_to}
 use Rattle.vm_model.specs.Parts.{map_with}
 use Rattle.page_pool.specs.Pages.{Pages, free_of, IsMapped}

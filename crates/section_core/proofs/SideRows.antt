@@ -1,5 +1,5 @@
 -- The rows of the table: each place stands before the side that it wants.
-use Rattle.std.proofs.Common.{◌≡◌, ℕ, ◌+◌, Bool, true, false, List, Option, Some, ℤ, sym, ap, ◌∙◌, subst, refl, arith}
+use Rattle.std.proofs.Common.{◌≡◌, ℕ, ◌+◌, true, false, List, Option, Some, ℤ, sym, ap, ◌∙◌, subst, refl, arith}
 use Rattle.vm_model.specs.Setup.{Setup}
 use Rattle.vm_model.specs.Places.{ask}
 use Rattle.vm_model.specs.History.{Local}

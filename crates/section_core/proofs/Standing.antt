@@ -1,6 +1,5 @@
 -- A caller and its region that stand in one state of a run: the section can be made, and the place stands before the side that it wants.
-use Rattle.std.proofs.Common.{◌≡◌, ℕ, ◌+◌, ◌<◌, Bool, true, false, List, length, Option, Some, Result, Ok, Err, OnErr, sym, ap, ◌∙◌, subst, refl, arith}
-use Rattle.vm_model.specs.Setup.{Setup}
+use Rattle.std.proofs.Common.{◌≡◌, ◌<◌, true, false, length, Result, Ok, Err, OnErr, sym, ap, ◌∙◌, subst, refl}
 use Rattle.vm_model.specs.Places.{ask, Adding}
 use Rattle.vm_model.specs.Places.{Place as Stood}
 use Rattle.vm_model.specs.Given.{can_move}
@@ -8,23 +7,13 @@ use Rattle.vm_model.specs.History.{Local}
 use Rattle.vm_model.specs.Parts.{Region, FreeRuns, LiveAreas, WaitingSpans, CpuBlocks, map_with, number_of, wants, moves}
 use Rattle.vm_model.specs.Parts as parts
 use Rattle.vm_model.specs.Run.{StandTogether}
-use Rattle.vm_model.specs.declared.areas.Span.{Span}
-use Rattle.vm_model.specs.declared.areas.Area.{Area}
-use Rattle.vm_model.specs.declared.areas.AreaKind.{AreaKind}
-use Rattle.vm_model.specs.declared.calls.Reply.{Reply}
-use Rattle.map_blocks.specs.declared.part.Part.{Part}
-use Rattle.callers.specs.declared.place.Search.{Search}
-use Rattle.callers.specs.declared.place.After.{After}
-use Rattle.augmented_tree.specs.FreeBlocks.{FreeBlocks}
-use Rattle.busy_areas.specs.LiveRows.{LiveRows}
 use Rattle.map_blocks.specs.BlockRows.{BlockRows}
 use Rattle.page_pool.specs.Pages as pool
 use Rattle.callers.specs.declared.place.Place.{Place}
 use Rattle.callers.specs.declared.place.Place.TheVariants as place
-use Rattle.callers.specs.CarriedPlaces.{Carried, place_of, carried_at, IsWhole}
+use Rattle.callers.specs.CarriedPlaces.{IsWhole}
 use Rattle.callers.specs.CallerParts.{IsAt}
 use Rattle.section_core.specs.declared.region.Side.{Side}
-use Rattle.section_core.specs.declared.region.Side.TheVariants.{Desk, Purge, Free, Busy, Lazy, Pages, Blocks}
 use Rattle.section_core.specs.RegionSides.{region_of}
 use Rattle.section_core.specs.SectionRows.{is_row}
 use Rattle.section_core.specs.StandsWell.{IsAmountWell, StandsWell, CanMake}

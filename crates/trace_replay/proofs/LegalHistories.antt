@@ -1,13 +1,12 @@
--- The history of a trace of the built words is one legal history, and keeps the laws.
+-- The history of a trace is one legal history, and keeps the laws.
 use Rattle.map_laws.proofs.ObjectsReady.{histories_legal}
 use Rattle.call_laws.proofs.Keeping.{reached_keep, history_keeps, all_answered}
 use Rattle.trace_text.specs.Reading.{Reading}
-use Rattle.trace_replay.specs.BuiltReadings.{IsBuilt}
+use Rattle.trace_rules.specs.RuledTraces.{IsRuledTrace}
 use Rattle.trace_replay.specs.Headline.{HasLegalHistory, setup, opening_calls, own_calls, history_of_trace}
-use Rattle.trace_replay.proofs.BuiltSections.{is_trace}
 
-pub legal_history : (r : Reading) → IsBuilt r → HasLegalHistory r
+pub legal_history : (r : Reading) → IsRuledTrace r → HasLegalHistory r
 legal_history r is =
-    let one = histories_legal (setup r) (opening_calls r) (own_calls r) r.picks (is_trace r is) in
-    let laws = history_keeps (setup r) (opening_calls r) (own_calls r) r.picks (is_trace r is) one in
-    record { one = one; answered = all_answered (setup r) (opening_calls r) (own_calls r) (history_of_trace r) laws one.over; laws = laws; always = λ w reached. reached_keep (setup r) (opening_calls r) (own_calls r) w (is_trace r is) reached }
+    let one = histories_legal (setup r) (opening_calls r) (own_calls r) r.picks is.trace in
+    let laws = history_keeps (setup r) (opening_calls r) (own_calls r) r.picks is.trace one in
+    record { one = one; answered = all_answered (setup r) (opening_calls r) (own_calls r) (history_of_trace r) laws one.over; laws = laws; always = λ w reached. reached_keep (setup r) (opening_calls r) (own_calls r) w is.trace reached }

@@ -1,13 +1,8 @@
 pub mod Gathered
-pub mod SectionSizes
-pub mod BuiltLines
-pub mod BuiltTraces
-pub mod BuiltSetups
-pub mod BuiltSections
 pub mod LegalHistories
 pub mod Replays
 pub mod Reported
 pub mod Told
 pub mod OneCommand
 pub mod ReplayTexts
-pub mod RuledTraces
+pub mod Counted

@@ -5,30 +5,28 @@ use Rattle.std.specs.Fmt.{digits}
 use Rattle.vm_model.specs.History.{finish, history_of}
 use Rattle.trace_text.specs.Reading.{Reading, unread}
 use Rattle.trace_text.specs.Grammar.{IsTraceOf}
-use Rattle.trace_text.specs.Built.{is_built}
 use Rattle.trace_text.proofs.Outcomes.{Outcome, Whole, Bad, reads, reads-whole}
 use Rattle.trace_text.proofs.Exclusive.{one_trace, trace_or_bad}
 use Rattle.trace_text.proofs.ReadLayouts.{stands_or_refused}
 use Rattle.trace_replay.specs.declared.words.Mode.{Mode}
 use Rattle.trace_replay.specs.declared.words.Mode.TheVariants.{Replay, Audit}
 use Rattle.trace_replay.specs.declared.status.Status.{Status}
-use Rattle.trace_replay.specs.declared.status.Status.TheVariants.{Done, BadTrace, BadLayout, Unbuilt, Usage, OutOfMemory, ReadFault, WriteFault, TooLong}
-use Rattle.trace_replay.specs.BuiltReadings.{HasLayout}
-use Rattle.trace_replay.specs.Headline.{report_of, Writes, most_bytes}
+use Rattle.trace_replay.specs.declared.status.Status.TheVariants.{Done, BadTrace, BadLayout, Usage, OutOfMemory, ReadFault, WriteFault, TooLong}
+use Rattle.trace_replay.specs.Headline.{HasLayout, report_of, Writes, most_bytes}
 use Rattle.trace_replay.specs.WorkedReplays.{IsReplayedAs, free_space, free_space_report, OneFreeSpace, free_space_audit, OneFreeSpaceAudited, two_areas, two_areas_report, TwoAreasWithGuards, two_callers, two_callers_report, PlacesAsPicked, two_purges, two_purges_report, APickStays}
 
 abbrev reading_of : Outcome → Reading
 reading_of (Whole r) = r
 reading_of (Bad number rest) = unread
 
-replayed_as : (mode : Mode) (bytes text : List ℕ) → reads is_built bytes ≡ Whole (reading_of (reads is_built bytes)) → HasLayout (reading_of (reads is_built bytes)) → report_of mode (reading_of (reads is_built bytes)) ≡ text → IsReplayedAs mode bytes text
+replayed_as : (mode : Mode) (bytes text : List ℕ) → reads bytes ≡ Whole (reading_of (reads bytes)) → HasLayout (reading_of (reads bytes)) → report_of mode (reading_of (reads bytes)) ≡ text → IsReplayedAs mode bytes text
 replayed_as mode bytes text whole stands same =
-    let r : Reading = reading_of (reads is_built bytes) in
-    let trace : IsTraceOf is_built bytes r = reads-whole is_built bytes r whole in
+    let r : Reading = reading_of (reads bytes) in
+    let trace : IsTraceOf bytes r = reads-whole bytes r whole in
     record {
       trace = (r, trace);
-      stands = λ other is. subst HasLayout (one_trace is_built bytes r other trace is) stands;
-      report = λ other is. ap (report_of mode) (one_trace is_built bytes other r is trace) ∙ same;
+      stands = λ other is. subst HasLayout (one_trace bytes r other trace is) stands;
+      report = λ other is. ap (report_of mode) (one_trace bytes other r is trace) ∙ same;
     }
 
 pub one_free_space : OneFreeSpace
@@ -54,9 +52,8 @@ a_pick_stays = replayed_as Replay two_purges two_purges_report refl refl refl
 -- what may be written for a trace is its report
 pub only_report : (mode : Mode) (bytes text : List ℕ) (room : ℕ) → IsReplayedAs mode bytes text → length bytes ≤ most_bytes → length text ≤ room → (status : Status) (written : List ℕ) → Writes mode bytes status written → length written ≤ room
 only_report mode bytes text room is short low Done written w = let (r, trace, stands, legal, same) = w.1 in omega (arith, ap length (same ∙ is.report r trace))
-only_report mode bytes text room is short low (BadTrace line) written w = let (rest, stops, other) = w.1 in absurd (trace_or_bad is_built bytes is.trace.0 line is.trace.1 (rest, stops))
-only_report mode bytes text room is short low (BadLayout error) written w = absurd (stands_or_refused is_built bytes error is.stands w.1)
-only_report mode bytes text room is short low (Unbuilt line) written w = let (rest, stops, other) = w.1 in absurd (trace_or_bad is_built bytes is.trace.0 line is.trace.1 (rest, stops))
+only_report mode bytes text room is short low (BadTrace line) written w = absurd (trace_or_bad bytes is.trace.0 line is.trace.1 w.1)
+only_report mode bytes text room is short low (BadLayout error) written w = absurd (stands_or_refused bytes error is.stands w.1)
 only_report mode bytes text room is short low TooLong written w = absurd (omega arith)
 only_report mode bytes text room is short low Usage written w = absurd w
 only_report mode bytes text room is short low OutOfMemory written w = absurd w

@@ -11,16 +11,16 @@ use Rattle.trace_text.specs.Told.{config_of, all_calls}
 use Rattle.std.proofs.lemmas.List.FromFn.{length-map-range_with_len}
 use Rattle.kernel_steps.proofs.CallersThere.{all_there}
 use Rattle.kernel_steps.specs.Kernels.{KernelState, IsStanding, CanStart, start_of, opening_of, callers_of}
-use Rattle.trace_replay.specs.BuiltReadings.{IsBuilt}
+use Rattle.trace_rules.specs.RuledTraces.{IsRuledTrace}
+use Rattle.trace_rules.proofs.TracesRuled.{sections_small}
 use Rattle.trace_replay.specs.Headline.{setup, history_of_trace}
-use Rattle.trace_replay.proofs.BuiltSections.{can_start}
 
--- a kernel can start on what a trace of the built words tells
-pub starts_on : (config : Config) (sections : List (List Call)) (r : Reading) → IsBuilt r → config ≡ config_of r.header → sections ≡ all_calls r → CanStart (setup_of config) sections
-starts_on config sections r is same all = subst (λ (c : Config). CanStart (setup_of c) sections) (sym same) (subst (CanStart (setup r)) (sym all) (can_start r is))
+-- a kernel can start on what a trace tells
+pub starts_on : (config : Config) (sections : List (List Call)) (r : Reading) → IsRuledTrace r → config ≡ config_of r.header → sections ≡ all_calls r → CanStart (setup_of config) sections
+starts_on config sections r is same all = subst (λ (c : Config). CanStart (setup_of c) sections) (sym same) (subst (CanStart (setup r)) (sym all) (record { some = omega arith; trace = is.trace; small = sections_small r is }))
 
 -- each pick is a caller of the kernel that has started
-pub picks_within : (config : Config) (sections : List (List Call)) (picks : List ℕ) (k : KernelState) (r : Reading) → IsBuilt r → sections ≡ all_calls r → picks ≡ r.picks
+pub picks_within : (config : Config) (sections : List (List Call)) (picks : List ℕ) (k : KernelState) (r : Reading) → IsRuledTrace r → sections ≡ all_calls r → picks ≡ r.picks
     → IsStanding (setup_of config) (opening_of sections) (callers_of sections) (start_of (setup_of config) sections) k → All (λ pick. pick < length k.locals) picks
 picks_within config sections picks k r is all same st =
     let many : length k.locals ≡ 1 + r.header.callers

@@ -3,7 +3,6 @@ use Rattle.std.proofs.Common.{◌≡◌, ◌≢◌, ◌≤◌, ◌<◌, ◌⊎�
 use Rattle.report_text.specs.declared.faults.Fault.TheVariants as fault
 use Rattle.trace_text.specs.Reading.{Reading}
 use Rattle.trace_text.specs.Grammar.{IsTraceOf}
-use Rattle.trace_text.specs.Built.{is_built}
 use Rattle.report_text.specs.Report.{fault_line}
 use Rattle.trace_text.proofs.Exclusive.{one_trace, trace_or_bad}
 use Rattle.trace_text.proofs.ReadLayouts.{stands_or_refused}
@@ -11,9 +10,8 @@ use Rattle.trace_replay.specs.Streams.{RoseByOne}
 use Rattle.trace_replay.specs.declared.answer.Outcome.{Outcome}
 use Rattle.trace_replay.specs.declared.words.Mode.{Mode}
 use Rattle.trace_replay.specs.declared.status.Status.{Status}
-use Rattle.trace_replay.specs.declared.status.Status.TheVariants.{Done, BadTrace, BadLayout, Unbuilt, Usage, OutOfMemory, ReadFault, WriteFault, TooLong}
-use Rattle.trace_replay.specs.BuiltReadings.{HasLayout}
-use Rattle.trace_replay.specs.Headline.{Writes, IsWritten, IsRead, Answers, HasRoomFor, IsTold, IsSilent, most_bytes}
+use Rattle.trace_replay.specs.declared.status.Status.TheVariants.{Done, BadTrace, BadLayout, Usage, OutOfMemory, ReadFault, WriteFault, TooLong}
+use Rattle.trace_replay.specs.Headline.{HasLayout, Writes, IsWritten, IsRead, Answers, HasRoomFor, IsTold, IsSilent, most_bytes}
 
 -- a source that gave too many bytes
 
@@ -43,7 +41,6 @@ written_whole : (mode : Mode) (bytes before : List ℕ) (status : Status) (text 
 written_whole mode bytes before Done text after w is = (text, w, is)
 written_whole mode bytes before (BadTrace line) text after w is = (text, w, is)
 written_whole mode bytes before (BadLayout error) text after w is = (text, w, is)
-written_whole mode bytes before (Unbuilt line) text after w is = (text, w, is)
 written_whole mode bytes before TooLong text after w is = (text, w, is)
 written_whole mode bytes before Usage text after w is = absurd w
 written_whole mode bytes before OutOfMemory text after w is = absurd w
@@ -61,7 +58,6 @@ answers_whole : (mode : Mode) (bytes : List ℕ) (status : Status) (text : List 
 answers_whole mode bytes Done text w = (text, w)
 answers_whole mode bytes (BadTrace line) text w = (text, w)
 answers_whole mode bytes (BadLayout error) text w = (text, w)
-answers_whole mode bytes (Unbuilt line) text w = (text, w)
 answers_whole mode bytes TooLong text w = (text, w)
 answers_whole mode bytes Usage text w = absurd w
 answers_whole mode bytes OutOfMemory text w = absurd w
@@ -98,7 +94,6 @@ not_silent status text answer first after b n read memory told silent = loud ans
     loud Done silent read memory = silent
     loud (BadTrace line) silent read memory = silent
     loud (BadLayout error) silent read memory = silent
-    loud (Unbuilt line) silent read memory = silent
     loud TooLong silent read memory = silent
     loud Usage silent read memory = silent
     loud WriteFault silent read memory = silent
@@ -108,13 +103,12 @@ not_silent status text answer first after b n read memory told silent = loud ans
     no_memory status text answer first after b n s (inr failed) = λ e. let no = failed.0 in cc
 
 -- a short trace and no fault leave two statuses
-pub complete : (mode : Mode) (bytes : List ℕ) (r : Reading) (status : Status) → Answers mode bytes status → length bytes ≤ most_bytes → IsTraceOf is_built bytes r → HasLayout r → status ≢ ReadFault → status ≢ WriteFault
+pub complete : (mode : Mode) (bytes : List ℕ) (r : Reading) (status : Status) → Answers mode bytes status → length bytes ≤ most_bytes → IsTraceOf bytes r → HasLayout r → status ≢ ReadFault → status ≢ WriteFault
     → (status ≡ Done) ⊎ (status ≡ OutOfMemory)
 complete mode bytes r Done says short trace stands read write = inl refl
 complete mode bytes r OutOfMemory says short trace stands read write = inr refl
-complete mode bytes r (BadTrace line) says short trace stands read write = let (text, writes) = says in let (rest, stops, other) = writes.1 in absurd (trace_or_bad is_built bytes r line trace (rest, stops))
-complete mode bytes r (BadLayout error) says short trace stands read write = let (text, writes) = says in absurd (stands_or_refused is_built bytes error (λ other is. subst HasLayout (one_trace is_built bytes r other trace is) stands) writes.1)
-complete mode bytes r (Unbuilt line) says short trace stands read write = let (text, writes) = says in let (rest, stops, other) = writes.1 in absurd (trace_or_bad is_built bytes r line trace (rest, stops))
+complete mode bytes r (BadTrace line) says short trace stands read write = let (text, writes) = says in absurd (trace_or_bad bytes r line trace writes.1)
+complete mode bytes r (BadLayout error) says short trace stands read write = let (text, writes) = says in absurd (stands_or_refused bytes error (λ other is. subst HasLayout (one_trace bytes r other trace is) stands) writes.1)
 complete mode bytes r TooLong says short trace stands read write = let (text, writes) = says in let long = writes.0 in absurd (omega arith)
 complete mode bytes r Usage says short trace stands read write = absurd says
 complete mode bytes r ReadFault says short trace stands read write = absurd (read refl)

@@ -5,6 +5,7 @@ use Rattle.std.specs.Option.{ForSome}
 use Rattle.vm_model.specs.declared.calls.Call.{Call}
 use Rattle.vm_model.specs.Setup.{Setup}
 use Rattle.unit_layout.specs.Config.{setup_of}
+use Rattle.unit_layout.specs.Refusals.{refusal}
 use Rattle.vm_model.specs.History.{World, Local, history_of}
 use Rattle.vm_model.specs.LegalHistory.{IsReached}
 use Rattle.vm_model.specs.Tables.{tables_of}
@@ -12,17 +13,15 @@ use Rattle.vm_model.specs.Laws.{IsOneLegalHistory}
 use Rattle.call_laws.specs.Kept.{KeepsTheLaws}
 use Rattle.report_text.specs.declared.faults.Fault.TheVariants as fault
 use Rattle.trace_text.specs.Reading.{Reading, calls_of, cpus_of}
-use Rattle.trace_text.specs.Told.{config_of, IsRefusedLayout}
+use Rattle.trace_text.specs.Told.{config_of, layout_spec, IsRefusedLayout}
 use Rattle.report_text.specs.CounterTotals.{counter_rows}
-use Rattle.trace_text.specs.Grammar.{IsTraceOf}
-use Rattle.trace_text.specs.Built.{is_built, is_waiting, IsBadLine, IsUnbuiltLine}
+use Rattle.trace_text.specs.Grammar.{IsTraceOf, IsFirstBadLine}
 use Rattle.report_text.specs.Report.{report, fault_line}
 use Rattle.trace_replay.specs.Streams.{RoseByOne, IsReadInPart}
 use Rattle.trace_replay.specs.Words.{audits}
 use Rattle.trace_replay.specs.declared.words.Mode.{Mode}
-use Rattle.trace_replay.specs.BuiltReadings.{HasLayout}
 use Rattle.trace_replay.specs.declared.status.Status.{Status}
-use Rattle.trace_replay.specs.declared.status.Status.TheVariants.{Done, BadTrace, BadLayout, Unbuilt, Usage, OutOfMemory, ReadFault, WriteFault, TooLong}
+use Rattle.trace_replay.specs.declared.status.Status.TheVariants.{Done, BadTrace, BadLayout, Usage, OutOfMemory, ReadFault, WriteFault, TooLong}
 
 -- the machine of a trace, its opening's calls and its callers' calls
 abbrev pub setup : Reading → Setup
@@ -33,6 +32,10 @@ opening_calls r = calls_of 0 r.calls
 
 abbrev pub own_calls : Reading → List (List Call)
 own_calls r = map (λ k. calls_of k r.calls) (range_with_len 1 r.header.callers)
+
+-- the layout that the header asks for is not refused
+abbrev pub HasLayout : Reading → Type 0
+HasLayout r = refusal (layout_spec r.header) ≡ None
 
 -- the history of a trace, and its report: with `audit`, the audit lines stand in it
 abbrev pub history_of_trace : Reading → World
@@ -59,10 +62,9 @@ most_bytes = 16777216
 
 -- what a status says of the bytes, and the text that is written with it
 abbrev pub Writes : Mode → List ℕ → Status → List ℕ → Type 0
-Writes mode bytes Done text = (length bytes ≤ most_bytes) × ((r : Reading) × IsTraceOf is_built bytes r × HasLayout r × HasLegalHistory r × (text ≡ report_of mode r))
-Writes mode bytes (BadTrace line) text = (length bytes ≤ most_bytes) × IsBadLine is_built is_waiting bytes line × (text ≡ fault_line (fault.Line line))
-Writes mode bytes (BadLayout error) text = (length bytes ≤ most_bytes) × IsRefusedLayout is_built bytes error × (text ≡ fault_line (fault.Layout error))
-Writes mode bytes (Unbuilt line) text = (length bytes ≤ most_bytes) × IsUnbuiltLine is_built is_waiting bytes line × (text ≡ fault_line (fault.Unbuilt line))
+Writes mode bytes Done text = (length bytes ≤ most_bytes) × ((r : Reading) × IsTraceOf bytes r × HasLayout r × HasLegalHistory r × (text ≡ report_of mode r))
+Writes mode bytes (BadTrace line) text = (length bytes ≤ most_bytes) × IsFirstBadLine bytes line × (text ≡ fault_line (fault.Line line))
+Writes mode bytes (BadLayout error) text = (length bytes ≤ most_bytes) × IsRefusedLayout bytes error × (text ≡ fault_line (fault.Layout error))
 Writes mode bytes TooLong text = (most_bytes < length bytes) × (text ≡ fault_line fault.Length)
 Writes mode bytes _ text = ⊥
 
@@ -78,7 +80,6 @@ abbrev pub IsRead : List ℕ → Status → Option (List ℕ) → Type 0
 IsRead bytes Done left = left ≡ Some []
 IsRead bytes (BadTrace line) left = left ≡ Some []
 IsRead bytes (BadLayout error) left = left ≡ Some []
-IsRead bytes (Unbuilt line) left = left ≡ Some []
 IsRead bytes ReadFault left = IsReadInPart most_bytes bytes left
 IsRead bytes _ left = Unit {0}
 

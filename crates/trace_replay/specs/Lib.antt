@@ -3,7 +3,6 @@ pub mod Held
 pub mod FailingCalls
 pub mod MemoryStreams
 pub mod Status
-pub mod BuiltReadings
 pub mod Words
 pub mod Headline
 pub mod WorkedReplays

@@ -2,7 +2,6 @@
 use Rattle.std.specs.Prelude.{◌≡◌, ℕ, List, codes}
 use Rattle.trace_text.specs.Reading.{Reading}
 use Rattle.trace_text.specs.Grammar.{IsTraceOf}
-use Rattle.trace_text.specs.Built.{is_built}
 use Rattle.trace_text.specs.Told.{LayoutStands}
 use Rattle.trace_replay.specs.declared.words.Mode.{Mode}
 use Rattle.trace_replay.specs.declared.words.Mode.TheVariants.{Replay, Audit}
@@ -10,9 +9,9 @@ use Rattle.trace_replay.specs.Headline.{report_of}
 
 -- the bytes are a trace whose layout stands, and this is the report of each trace that they are
 pub record IsReplayedAs (mode : Mode) (bytes text : List ℕ) : Type 0 where
-  pub trace : (r : Reading) × IsTraceOf is_built bytes r
-  pub stands : LayoutStands is_built bytes
-  pub report : (r : Reading) → IsTraceOf is_built bytes r → report_of mode r ≡ text
+  pub trace : (r : Reading) × IsTraceOf bytes r
+  pub stands : LayoutStands bytes
+  pub report : (r : Reading) → IsTraceOf bytes r → report_of mode r ≡ text
 
 abbrev pub free_space : List ℕ
 free_space = codes "vmtrace 1\nspace 16\nend\n"

@@ -4,7 +4,7 @@ ghost use Rattle.vm_model.specs.Tables.{tables_of};
 ghost use Rattle.trace_text.specs.Reading.{Reading};
 ghost use Rattle.report_text.specs.Report.{fault_line};
 ghost use Rattle.trace_text.specs.Told.{Tells};
-ghost use Rattle.trace_replay.specs.BuiltReadings.{IsBuilt};
+ghost use Rattle.trace_rules.specs.RuledTraces.{IsRuledTrace};
 ghost use Rattle.trace_replay.specs.Headline.{Writes, Reports, setup, history_of_trace, most_bytes};
 
 use crate::counts::counters_of_trace;
@@ -25,8 +25,8 @@ pub struct Outcome {
 
 /// The replies and tables of a trace.
 fn tables_of_trace(alloc: Global, trace: Trace) -> Result<Tables, AllocError>
-    requires { (reading : Reading) × IsBuilt reading × Tells trace reading }
-    ensures { IfOk result (λ tables. (reading : Reading) → IsBuilt reading → Tells trace reading → tables ≡ tables_of (setup reading) (history_of_trace reading)) }
+    requires { (reading : Reading) × IsRuledTrace reading × Tells trace reading }
+    ensures { IfOk result (λ tables. (reading : Reading) → IsRuledTrace reading → Tells trace reading → tables ≡ tables_of (setup reading) (history_of_trace reading)) }
 {
     let Trace {
         config,
@@ -42,8 +42,8 @@ fn tables_of_trace(alloc: Global, trace: Trace) -> Result<Tables, AllocError>
 
 /// The report of a trace.
 fn report(alloc: Global, mode: Mode, trace: Trace) -> Result<Outcome, AllocError>
-    requires { (reading : Reading) × IsBuilt reading × Tells trace reading }
-    ensures { IfOk result (λ outcome. (reading : Reading) → IsBuilt reading → Tells trace reading → Reports mode reading outcome.status outcome.text) }
+    requires { (reading : Reading) × IsRuledTrace reading × Tells trace reading }
+    ensures { IfOk result (λ outcome. (reading : Reading) → IsRuledTrace reading → Tells trace reading → Reports mode reading outcome.status outcome.text) }
 {
     let counters = counters_of_trace(alloc, &trace)?;
     let tables = tables_of_trace(alloc, trace)?;

@@ -2,15 +2,13 @@
 ghost use Rattle.std.specs.Prelude.{◌≡◌, ◌≢◌, ◌≤◌, ◌<◌, ◌^◌, ◌⊎◌, ℕ, List, Some, Err, IfOk, length, map, string_bytes};
 ghost use Rattle.trace_text.specs.Reading.{Reading};
 ghost use Rattle.trace_text.specs.Grammar.{IsTraceOf};
-ghost use Rattle.trace_text.specs.Built.{is_built};
 ghost use Rattle.trace_replay.specs.Streams.{RoseByOne, IsReadInPart};
-ghost use Rattle.trace_replay.specs.BuiltReadings.{HasLayout};
 ghost use Rattle.report_text.specs.Report.{fault_line};
 ghost use Rattle.report_text.specs.declared.faults.Fault.{Fault};
 ghost use Rattle.trace_maker.specs.Generated.{generated};
 ghost use Rattle.trace_replay.specs.declared.words.Mode.{Mode};
 ghost use Rattle.trace_replay.specs.Words.{Name, NameNone};
-ghost use Rattle.trace_replay.specs.Headline.{Writes, IsWritten, IsRead, Answers, HasRoomFor, IsTold, IsSent, EndsAs, IsSilent, HasRoomOf, most_bytes};
+ghost use Rattle.trace_replay.specs.Headline.{HasLayout, Writes, IsWritten, IsRead, Answers, HasRoomFor, IsTold, IsSent, EndsAs, IsSilent, HasRoomOf, most_bytes};
 
 use crate::answer::{Outcome, answer, too_long, usage};
 use crate::gather::{Cut, gather};
@@ -68,8 +66,8 @@ pub fn replay<S: Source, K: Sink>(alloc: Global, mode: Mode, source: &mut S, sin
     ensures silent { IsSilent result → K.taken sink.new ≡ K.taken sink.old }
     ensures usage { result ≢ Status.Usage }
 
-    // A trace of the built words that is short enough, whose layout stands, and no fault.
-    ensures complete { (bytes : List ℕ) (reading : Reading) → S.left source.old ≡ Some bytes → length bytes ≤ most_bytes → IsTraceOf is_built bytes reading → HasLayout reading
+    // A trace that is short enough, whose layout stands, and no fault.
+    ensures complete { (bytes : List ℕ) (reading : Reading) → S.left source.old ≡ Some bytes → length bytes ≤ most_bytes → IsTraceOf bytes reading → HasLayout reading
         → ¬ RoseByOne (S.faults source.old) (S.faults source.new) → ¬ RoseByOne (K.faults sink.old) (K.faults sink.new) → (result ≡ Status.Done) ⊎ (result ≡ Status.OutOfMemory) }
 {
     match outcome_of(alloc, mode, source) {
@@ -138,7 +136,7 @@ pub fn run<S: Source, K: Sink>(
     ensures written { (mode : Mode) → Name (Command.Replay mode) (map string_bytes words.now) → (bytes before : List ℕ) → S.left source.old ≡ Some bytes → K.taken sink.old ≡ Some before → IsWritten mode bytes result before (K.taken sink.new) }
     ensures answers { (mode : Mode) → Name (Command.Replay mode) (map string_bytes words.now) → (bytes : List ℕ) → S.left source.old ≡ Some bytes → Answers mode bytes result }
     ensures read { (mode : Mode) → Name (Command.Replay mode) (map string_bytes words.now) → (bytes : List ℕ) → S.left source.old ≡ Some bytes → IsRead bytes result (S.left source.new) }
-    ensures complete { (mode : Mode) → Name (Command.Replay mode) (map string_bytes words.now) → (bytes : List ℕ) (reading : Reading) → S.left source.old ≡ Some bytes → length bytes ≤ most_bytes → IsTraceOf is_built bytes reading → HasLayout reading
+    ensures complete { (mode : Mode) → Name (Command.Replay mode) (map string_bytes words.now) → (bytes : List ℕ) (reading : Reading) → S.left source.old ≡ Some bytes → length bytes ≤ most_bytes → IsTraceOf bytes reading → HasLayout reading
         → ¬ RoseByOne (S.faults source.old) (S.faults source.new) → ¬ RoseByOne (K.faults sink.old) (K.faults sink.new) → (result ≡ Status.Done) ⊎ (result ≡ Status.OutOfMemory) }
 
     // They ask for a generated trace: as `make`.

@@ -12,8 +12,9 @@
 //! - `Source`, `Sink`: what a read and a write leave. They stand over memory (`SteadySource`, `SteadySink`; with
 //!   pieces and calls that fail `MemorySource`, `MemorySink`) and over readers and writers of std (`StreamSource`,
 //!   `StreamSink`). The latter tell no bytes: what a real file or pipe does is part of no contract.
-//! - `tables_of_trace`, a private part: the tables of the one history of a trace of the built words (`IsBuilt`). That
-//!   this history is a legal one is a law of `map_laws`.
+//! - `tables_of_trace`, a private part: the tables of the one history of a trace (`IsRuledTrace`). That this history is
+//!   a legal one is a law of `map_laws`.
+//! - `counters_of_trace`, a private part: the counters of a trace after its count lines.
 #![tactic(auto)]
 
 mod answer;

@@ -1,4 +1,4 @@
-use Rattle.std.proofs.Common.{◌≡◌, ◌<◌, ◌≤◌, true, List, ◌∷◌, [], ℕ, length, ap, sym, ◌∙◌, subst, arith}
+use Rattle.std.proofs.Common.{◌≡◌, ◌<◌, ◌≤◌, true, ◌∷◌, [], length, ap, sym, ◌∙◌, subst, arith}
 use Rattle.vm_model.specs.Setup.{Setup, pages_in_units}
 use Rattle.vm_model.specs.Space.{is_among}
 use Rattle.page_pool.specs.Pages.{free_of}

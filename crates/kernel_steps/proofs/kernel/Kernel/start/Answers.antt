@@ -1,4 +1,4 @@
-use Rattle.std.proofs.Common.{slice_index_or, ◌≡◌, ◌≤◌, ◌∷◌, suc, List, map, length, slice_get, sym, ◌∙◌, ap, subst, refl, arith}
+use Rattle.std.proofs.Common.{slice_index_or, ◌≡◌, ◌≤◌, ◌∷◌, List, map, length, slice_get, sym, ◌∙◌, ap, subst, refl, arith}
 use Rattle.std.specs.Arc.{arc_value}
 use Rattle.vm_model.specs.declared.calls.Call.{Call}
 use Rattle.unit_layout.specs.Config.{setup_of}
