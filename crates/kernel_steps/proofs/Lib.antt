@@ -7,3 +7,4 @@ pub mod TablesTold
 pub mod Sorted
 pub mod Gathered
 pub mod BlockTables
+pub mod Sent

@@ -9,6 +9,7 @@ ghost use Rattle.vm_model.specs.declared.rows.PartRow.{PartRow};
 ghost use Rattle.unit_layout.specs.Config.{setup_of};
 ghost use Rattle.vm_model.specs.Rules.{IsSetup};
 ghost use Rattle.std.specs.Arc.{arc_value};
+ghost use Rattle.vm_model.specs.History as history;
 ghost use Rattle.vm_model.specs.History.{World, opening_world, step, pick_all, moves_in, first_mover, finish, most_events};
 ghost use Rattle.unit_layout.specs.declared.config.Config.{Config};
 ghost use Rattle.vm_model.specs.Tables.{entries_of, tables_of};
@@ -135,6 +136,22 @@ impl Kernel {
             Some(_) => Stepped::Stays,
             None => Stepped::Ended,
         }
+    }
+
+    /// The number of the region that a caller's next section wants, or none where all its calls are answered.
+    pub fn wants(&self, caller: u16) -> Option<u16>
+        requires { caller < length self.now.locals }
+        ensures { (l : history.Local) × (slice_get self.now.locals caller ≡ Some l) × (result ≡ wants l) }
+    {
+        self.locals[caller as usize].wants()
+    }
+
+    /// How many calls of a caller are answered.
+    pub fn answered(&self, caller: u16) -> u32
+        requires { caller < length self.now.locals }
+        ensures { (l : history.Local) × (slice_get self.now.locals caller ≡ Some l) × (result ≡ length l.answers) }
+    {
+        self.locals[caller as usize].answered()
     }
 
     /// One event of a caller, by its number. It stays where its next section takes a turn that another has, and it has

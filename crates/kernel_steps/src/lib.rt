@@ -4,8 +4,10 @@
 //!   of a caller, after each pick in turn, and where all callers have ended. A step tells Moved, Stays and Ended as
 //!   `IsSteppedAs` says, and wants memory only where the caller moves.
 //! - `Kernel::tables`, `moved`: the tables of the world in which the kernel stands, and the caller of each event.
+//! - `Kernel::wants`, `answered`: the region that a caller's next section wants, and how many of its calls are answered.
 //! - `laws::starts`: a kernel starts with the opening's caller and one
 //!   for each list behind it.
+//! - `laws::all_are_sent`: a kernel, its regions and its callers may go to other threads.
 #![tactic(auto)]
 
 pub mod kernel;

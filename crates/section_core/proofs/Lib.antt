@@ -15,3 +15,4 @@ pub mod SideRows
 pub mod Standing
 pub mod TurnSections
 pub mod Starts
+pub mod Sent
