@@ -13,7 +13,7 @@ use Rattle.trace_replay.specs.declared.words.Mode.TheVariants.{Replay, Audit}
 use Rattle.trace_replay.specs.declared.status.Status.{Status}
 use Rattle.trace_replay.specs.declared.status.Status.TheVariants.{Done, BadTrace, BadLayout, Usage, OutOfMemory, ReadFault, WriteFault, TooLong}
 use Rattle.trace_replay.specs.Headline.{HasLayout, report_of, Writes, most_bytes}
-use Rattle.trace_replay.specs.WorkedReplays.{IsReplayedAs, free_space, free_space_report, OneFreeSpace, free_space_audit, OneFreeSpaceAudited, two_areas, two_areas_report, TwoAreasWithGuards, two_callers, two_callers_report, PlacesAsPicked, two_purges, two_purges_report, APickStays}
+use Rattle.trace_replay.specs.WorkedReplays.{IsReplayedAs, free_space, free_space_report, OneFreeSpace, free_space_audit, OneFreeSpaceAudited, two_areas, two_areas_report, TwoAreasWithGuards, two_callers, two_callers_report, PlacesAsPicked, two_purges, two_purges_report, APickStays, two_counters, two_counters_audit, CellsAreFolded}
 
 abbrev reading_of : Outcome → Reading
 reading_of (Whole r) = r
@@ -48,6 +48,10 @@ places_as_picked = replayed_as Replay two_callers two_callers_report refl refl r
 pub a_pick_stays : APickStays
 unfolding digits ones history_of finish
 a_pick_stays = replayed_as Replay two_purges two_purges_report refl refl refl
+
+pub cells_are_folded : CellsAreFolded
+unfolding digits ones history_of finish
+cells_are_folded = replayed_as Audit two_counters two_counters_audit refl refl refl
 
 -- what may be written for a trace is its report
 pub only_report : (mode : Mode) (bytes text : List ℕ) (room : ℕ) → IsReplayedAs mode bytes text → length bytes ≤ most_bytes → length text ≤ room → (status : Status) (written : List ℕ) → Writes mode bytes status written → length written ≤ room
