@@ -74,8 +74,8 @@ fn tell(rt: &HostRuntime, case: Case<'_>, answer: &Answer) -> io::Result<()> {
 fn show(rt: &HostRuntime, case: Case<'_>) -> io::Result<()> {
     let words = case.words(rt.alloc())?;
     let text = case.text.as_bytes();
-    let answer = answer_at_once(rt.alloc(), words.as_slice(), text);
-    if let Some(piece) = other_in_pieces(rt.alloc(), words.as_slice(), text, &answer)? {
+    let answer = answer_at_once(rt, words.as_slice(), text);
+    if let Some(piece) = other_in_pieces(rt, words.as_slice(), text, &answer)? {
         return println!(*rt; "{} in pieces of {piece} otherwise", case.name);
     }
     tell(rt, case, &answer)

@@ -7,8 +7,8 @@ use std::io;
 /// The exit status of a text, the first line that is written, and the text.
 fn show(rt: &HostRuntime, words: &[String], escaped: &str) -> io::Result<()> {
     let text = Vec::unescape_bytes(rt.alloc(), escaped)?;
-    let answer = answer_at_once(rt.alloc(), words, text.as_slice());
-    if let Some(piece) = other_in_pieces(rt.alloc(), words, text.as_slice(), &answer)? {
+    let answer = answer_at_once(rt, words, text.as_slice());
+    if let Some(piece) = other_in_pieces(rt, words, text.as_slice(), &answer)? {
         return println!(*rt; "in pieces of {piece} otherwise: {escaped}");
     }
     let line = answer.written.as_slice().lines().next().unwrap_or(b"");

@@ -6,3 +6,4 @@ pub mod Told
 pub mod OneCommand
 pub mod ReplayTexts
 pub mod Counted
+pub mod LiveReported

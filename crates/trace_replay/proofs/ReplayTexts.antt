@@ -12,8 +12,8 @@ use Rattle.trace_replay.specs.declared.words.Mode.{Mode}
 use Rattle.trace_replay.specs.declared.words.Mode.TheVariants.{Replay, Audit}
 use Rattle.trace_replay.specs.declared.status.Status.{Status}
 use Rattle.trace_replay.specs.declared.status.Status.TheVariants.{Done, BadTrace, BadLayout, Usage, OutOfMemory, ReadFault, WriteFault, TooLong}
-use Rattle.trace_replay.specs.Headline.{HasLayout, report_of, Writes, most_bytes}
-use Rattle.trace_replay.specs.WorkedReplays.{IsReplayedAs, free_space, free_space_report, OneFreeSpace, free_space_audit, OneFreeSpaceAudited, two_areas, two_areas_report, TwoAreasWithGuards, two_callers, two_callers_report, PlacesAsPicked, two_purges, two_purges_report, APickStays, two_counters, two_counters_audit, CellsAreFolded}
+use Rattle.trace_replay.specs.Headline.{HasLayout, IsReport, report_of, Writes, most_bytes}
+use Rattle.trace_replay.specs.WorkedReplays.{IsReplayedAs, free_space, free_space_report, OneFreeSpace, free_space_audit, OneFreeSpaceAudited, two_areas, two_areas_report, TwoAreasWithGuards, two_callers, two_callers_report, PlacesAsPicked, two_purges, two_purges_report, APickStays}
 
 abbrev reading_of : Outcome → Reading
 reading_of (Whole r) = r
@@ -49,13 +49,9 @@ pub a_pick_stays : APickStays
 unfolding digits ones history_of finish
 a_pick_stays = replayed_as Replay two_purges two_purges_report refl refl refl
 
-pub cells_are_folded : CellsAreFolded
-unfolding digits ones history_of finish
-cells_are_folded = replayed_as Audit two_counters two_counters_audit refl refl refl
-
 -- what may be written for a trace is its report
-pub only_report : (mode : Mode) (bytes text : List ℕ) (room : ℕ) → IsReplayedAs mode bytes text → length bytes ≤ most_bytes → length text ≤ room → (status : Status) (written : List ℕ) → Writes mode bytes status written → length written ≤ room
-only_report mode bytes text room is short low Done written w = let (r, trace, stands, legal, same) = w.1 in omega (arith, ap length (same ∙ is.report r trace))
+pub only_report : (mode : Mode) (bytes text : List ℕ) (room : ℕ) → IsReplayedAs mode bytes text → length bytes ≤ most_bytes → length text ≤ room → (status : Status) (written : List ℕ) → Writes (IsReport mode) bytes status written → length written ≤ room
+only_report mode bytes text room is short low Done written w = let (r, trace, stands, shown) = w.1 in omega (arith, ap length (shown.1 ∙ is.report r trace))
 only_report mode bytes text room is short low (BadTrace line) written w = absurd (trace_or_bad bytes is.trace.0 line is.trace.1 w.1)
 only_report mode bytes text room is short low (BadLayout error) written w = absurd (stands_or_refused bytes error is.stands w.1)
 only_report mode bytes text room is short low TooLong written w = absurd (omega arith)
@@ -65,10 +61,10 @@ only_report mode bytes text room is short low ReadFault written w = absurd w
 only_report mode bytes text room is short low WriteFault written w = absurd w
 
 -- room for 400 bytes is enough for them
-pub room_for_free_space : (bytes : List ℕ) (room : ℕ) → bytes ≡ free_space → 400 ≤ room → (status : Status) (written : List ℕ) → Writes Replay bytes status written → length written ≤ room
+pub room_for_free_space : (bytes : List ℕ) (room : ℕ) → bytes ≡ free_space → 400 ≤ room → (status : Status) (written : List ℕ) → Writes (IsReport Replay) bytes status written → length written ≤ room
 room_for_free_space bytes room same wide status written w =
-    only_report Replay free_space free_space_report room one_free_space (lit≤ tt) (let l : length free_space_report ≤ 400 = lit≤ tt in omega arith) status written (subst (λ b. Writes Replay b status written) same w)
+    only_report Replay free_space free_space_report room one_free_space (lit≤ tt) (let l : length free_space_report ≤ 400 = lit≤ tt in omega arith) status written (subst (λ b. Writes (IsReport Replay) b status written) same w)
 
-pub room_for_two_areas : (bytes : List ℕ) (room : ℕ) → bytes ≡ two_areas → 400 ≤ room → (status : Status) (written : List ℕ) → Writes Replay bytes status written → length written ≤ room
+pub room_for_two_areas : (bytes : List ℕ) (room : ℕ) → bytes ≡ two_areas → 400 ≤ room → (status : Status) (written : List ℕ) → Writes (IsReport Replay) bytes status written → length written ≤ room
 room_for_two_areas bytes room same wide status written w =
-    only_report Replay two_areas two_areas_report room two_areas_with_guards (lit≤ tt) (let l : length two_areas_report ≤ 400 = lit≤ tt in omega arith) status written (subst (λ b. Writes Replay b status written) same w)
+    only_report Replay two_areas two_areas_report room two_areas_with_guards (lit≤ tt) (let l : length two_areas_report ≤ 400 = lit≤ tt in omega arith) status written (subst (λ b. Writes (IsReport Replay) b status written) same w)

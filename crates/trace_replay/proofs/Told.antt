@@ -8,15 +8,14 @@ use Rattle.trace_text.proofs.Exclusive.{one_trace, trace_or_bad}
 use Rattle.trace_text.proofs.ReadLayouts.{stands_or_refused}
 use Rattle.trace_replay.specs.Streams.{RoseByOne}
 use Rattle.trace_replay.specs.declared.answer.Outcome.{Outcome}
-use Rattle.trace_replay.specs.declared.words.Mode.{Mode}
 use Rattle.trace_replay.specs.declared.status.Status.{Status}
 use Rattle.trace_replay.specs.declared.status.Status.TheVariants.{Done, BadTrace, BadLayout, Usage, OutOfMemory, ReadFault, WriteFault, TooLong}
-use Rattle.trace_replay.specs.Headline.{HasLayout, Writes, IsWritten, IsRead, Answers, HasRoomFor, IsTold, IsSilent, most_bytes}
+use Rattle.trace_replay.specs.Headline.{HasLayout, Shows, Writes, IsWritten, IsRead, Answers, HasRoomFor, IsTold, IsSilent, most_bytes}
 
 -- a source that gave too many bytes
 
-pub too_long_writes : (mode : Mode) (bytes : List ℕ) (o : Outcome) → o.status ≡ TooLong → o.text ≡ fault_line fault.Length → most_bytes < length bytes → Writes mode bytes o.status o.text
-too_long_writes mode bytes o e text long = subst (λ s. Writes mode bytes s o.text) (sym e) (long, text)
+pub too_long_writes : (shows : Shows) (bytes : List ℕ) (o : Outcome) → o.status ≡ TooLong → o.text ≡ fault_line fault.Length → most_bytes < length bytes → Writes shows bytes o.status o.text
+too_long_writes shows bytes o e text long = subst (λ s. Writes shows bytes s o.text) (sym e) (long, text)
 
 pub too_long_reads : (bytes : List ℕ) (o : Outcome) (left : Option (List ℕ)) → o.status ≡ TooLong → IsRead bytes o.status left
 too_long_reads bytes o left e = subst (λ s. IsRead bytes s left) (sym e) tt
@@ -29,44 +28,44 @@ pub record IsSaid (status : Status) : Type 0 where
   pub memory : status ≢ OutOfMemory
   pub usage : status ≢ Usage
 
-pub room_for : (mode : Mode) (left : Option (List ℕ)) (room : Option ℕ) (status : Status) (text : List ℕ) → HasRoomFor mode left room → ((bytes : List ℕ) → left ≡ Some bytes → Writes mode bytes status text) → (x : ℕ) → room ≡ Some x → length text ≤ x
-room_for mode left None status text h w x e = cc
-room_for mode None (Some room) status text h w x e = absurd h
-room_for mode (Some bytes) (Some room) status text h w x e =
+pub room_for : (shows : Shows) (left : Option (List ℕ)) (room : Option ℕ) (status : Status) (text : List ℕ) → HasRoomFor shows left room → ((bytes : List ℕ) → left ≡ Some bytes → Writes shows bytes status text) → (x : ℕ) → room ≡ Some x → length text ≤ x
+room_for shows left None status text h w x e = cc
+room_for shows None (Some room) status text h w x e = absurd h
+room_for shows (Some bytes) (Some room) status text h w x e =
     let same : room ≡ x = cc in
     let low = h status text (w bytes refl) in
     omega arith
 
-written_whole : (mode : Mode) (bytes before : List ℕ) (status : Status) (text : List ℕ) (after : Option (List ℕ)) → Writes mode bytes status text → after ≡ Some (before ++ text) → IsWritten mode bytes status before after
-written_whole mode bytes before Done text after w is = (text, w, is)
-written_whole mode bytes before (BadTrace line) text after w is = (text, w, is)
-written_whole mode bytes before (BadLayout error) text after w is = (text, w, is)
-written_whole mode bytes before TooLong text after w is = (text, w, is)
-written_whole mode bytes before Usage text after w is = absurd w
-written_whole mode bytes before OutOfMemory text after w is = absurd w
-written_whole mode bytes before ReadFault text after w is = absurd w
-written_whole mode bytes before WriteFault text after w is = absurd w
+written_whole : (shows : Shows) (bytes before : List ℕ) (status : Status) (text : List ℕ) (after : Option (List ℕ)) → Writes shows bytes status text → after ≡ Some (before ++ text) → IsWritten shows bytes status before after
+written_whole shows bytes before Done text after w is = (text, w, is)
+written_whole shows bytes before (BadTrace line) text after w is = (text, w, is)
+written_whole shows bytes before (BadLayout error) text after w is = (text, w, is)
+written_whole shows bytes before TooLong text after w is = (text, w, is)
+written_whole shows bytes before Usage text after w is = absurd w
+written_whole shows bytes before OutOfMemory text after w is = absurd w
+written_whole shows bytes before ReadFault text after w is = absurd w
+written_whole shows bytes before WriteFault text after w is = absurd w
 
-pub written : (mode : Mode) (bytes before : List ℕ) (status : Status) (text : List ℕ) (answer : Status) (first after : Option (List ℕ)) (b n : ℕ) → Writes mode bytes status text → IsTold status text answer first after b n → first ≡ Some before
-    → IsWritten mode bytes answer before after
-written mode bytes before status text answer first after b n w (inl told) is = subst (λ s. IsWritten mode bytes s before after) (sym told.0) (written_whole mode bytes before status text after w (told.1 before is))
-written mode bytes before status text answer first after b n w (inr failed) is =
+pub written : (shows : Shows) (bytes before : List ℕ) (status : Status) (text : List ℕ) (answer : Status) (first after : Option (List ℕ)) (b n : ℕ) → Writes shows bytes status text → IsTold status text answer first after b n → first ≡ Some before
+    → IsWritten shows bytes answer before after
+written shows bytes before status text answer first after b n w (inl told) is = subst (λ s. IsWritten shows bytes s before after) (sym told.0) (written_whole shows bytes before status text after w (told.1 before is))
+written shows bytes before status text answer first after b n w (inr failed) is =
     let (k, prefix) = failed.2 before is in
-    subst (λ s. IsWritten mode bytes s before after) (sym failed.0) (status, text, k, w, prefix)
+    subst (λ s. IsWritten shows bytes s before after) (sym failed.0) (status, text, k, w, prefix)
 
-answers_whole : (mode : Mode) (bytes : List ℕ) (status : Status) (text : List ℕ) → Writes mode bytes status text → Answers mode bytes status
-answers_whole mode bytes Done text w = (text, w)
-answers_whole mode bytes (BadTrace line) text w = (text, w)
-answers_whole mode bytes (BadLayout error) text w = (text, w)
-answers_whole mode bytes TooLong text w = (text, w)
-answers_whole mode bytes Usage text w = absurd w
-answers_whole mode bytes OutOfMemory text w = absurd w
-answers_whole mode bytes ReadFault text w = absurd w
-answers_whole mode bytes WriteFault text w = absurd w
+answers_whole : (shows : Shows) (bytes : List ℕ) (status : Status) (text : List ℕ) → Writes shows bytes status text → Answers shows bytes status
+answers_whole shows bytes Done text w = (text, w)
+answers_whole shows bytes (BadTrace line) text w = (text, w)
+answers_whole shows bytes (BadLayout error) text w = (text, w)
+answers_whole shows bytes TooLong text w = (text, w)
+answers_whole shows bytes Usage text w = absurd w
+answers_whole shows bytes OutOfMemory text w = absurd w
+answers_whole shows bytes ReadFault text w = absurd w
+answers_whole shows bytes WriteFault text w = absurd w
 
-pub answers : (mode : Mode) (bytes : List ℕ) (status : Status) (text : List ℕ) (answer : Status) (first after : Option (List ℕ)) (b n : ℕ) → Writes mode bytes status text → IsTold status text answer first after b n → Answers mode bytes answer
-answers mode bytes status text answer first after b n w (inl told) = subst (Answers mode bytes) (sym told.0) (answers_whole mode bytes status text w)
-answers mode bytes status text answer first after b n w (inr failed) = subst (Answers mode bytes) (sym failed.0) tt
+pub answers : (shows : Shows) (bytes : List ℕ) (status : Status) (text : List ℕ) (answer : Status) (first after : Option (List ℕ)) (b n : ℕ) → Writes shows bytes status text → IsTold status text answer first after b n → Answers shows bytes answer
+answers shows bytes status text answer first after b n w (inl told) = subst (Answers shows bytes) (sym told.0) (answers_whole shows bytes status text w)
+answers shows bytes status text answer first after b n w (inr failed) = subst (Answers shows bytes) (sym failed.0) tt
 
 pub reads : (bytes : List ℕ) (left : Option (List ℕ)) (status : Status) (text : List ℕ) (answer : Status) (first after : Option (List ℕ)) (b n : ℕ) → IsRead bytes status left → IsTold status text answer first after b n → IsRead bytes answer left
 reads bytes left status text answer first after b n r (inl told) = subst (λ s. IsRead bytes s left) (sym told.0) r
@@ -103,13 +102,13 @@ not_silent status text answer first after b n read memory told silent = loud ans
     no_memory status text answer first after b n s (inr failed) = λ e. let no = failed.0 in cc
 
 -- a short trace and no fault leave two statuses
-pub complete : (mode : Mode) (bytes : List ℕ) (r : Reading) (status : Status) → Answers mode bytes status → length bytes ≤ most_bytes → IsTraceOf bytes r → HasLayout r → status ≢ ReadFault → status ≢ WriteFault
+pub complete : (shows : Shows) (bytes : List ℕ) (r : Reading) (status : Status) → Answers shows bytes status → length bytes ≤ most_bytes → IsTraceOf bytes r → HasLayout r → status ≢ ReadFault → status ≢ WriteFault
     → (status ≡ Done) ⊎ (status ≡ OutOfMemory)
-complete mode bytes r Done says short trace stands read write = inl refl
-complete mode bytes r OutOfMemory says short trace stands read write = inr refl
-complete mode bytes r (BadTrace line) says short trace stands read write = let (text, writes) = says in absurd (trace_or_bad bytes r line trace writes.1)
-complete mode bytes r (BadLayout error) says short trace stands read write = let (text, writes) = says in absurd (stands_or_refused bytes error (λ other is. subst HasLayout (one_trace bytes r other trace is) stands) writes.1)
-complete mode bytes r TooLong says short trace stands read write = let (text, writes) = says in let long = writes.0 in absurd (omega arith)
-complete mode bytes r Usage says short trace stands read write = absurd says
-complete mode bytes r ReadFault says short trace stands read write = absurd (read refl)
-complete mode bytes r WriteFault says short trace stands read write = absurd (write refl)
+complete shows bytes r Done says short trace stands read write = inl refl
+complete shows bytes r OutOfMemory says short trace stands read write = inr refl
+complete shows bytes r (BadTrace line) says short trace stands read write = let (text, writes) = says in absurd (trace_or_bad bytes r line trace writes.1)
+complete shows bytes r (BadLayout error) says short trace stands read write = let (text, writes) = says in absurd (stands_or_refused bytes error (λ other is. subst HasLayout (one_trace bytes r other trace is) stands) writes.1)
+complete shows bytes r TooLong says short trace stands read write = let (text, writes) = says in let long = writes.0 in absurd (omega arith)
+complete shows bytes r Usage says short trace stands read write = absurd says
+complete shows bytes r ReadFault says short trace stands read write = absurd (read refl)
+complete shows bytes r WriteFault says short trace stands read write = absurd (write refl)

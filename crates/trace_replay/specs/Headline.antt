@@ -52,28 +52,36 @@ pub record HasLegalHistory (r : Reading) : Type 0 where
   -- so do the worlds on the way, and all that other orders of the same calls lead to
   pub always : (w : World) → IsReached (setup r) (opening_calls r) (own_calls r) w → KeepsTheLaws (setup r) (opening_calls r) (own_calls r) w
 
--- a run that has ended well wrote the report of this trace
-abbrev pub Reports : Mode → Reading → Status → List ℕ → Type 0
-Reports mode r status text = (status ≡ Done) × HasLegalHistory r × (text ≡ report_of mode r)
+-- which texts show a trace
+abbrev pub Shows : Type 1
+Shows = Reading → List ℕ → Type 0
+
+-- a replay's report of this trace
+abbrev pub IsReport : Mode → Reading → List ℕ → Type 0
+IsReport mode r text = HasLegalHistory r × (text ≡ report_of mode r)
+
+-- a run that has ended well wrote what shows this trace
+abbrev pub Reports : Shows → Reading → Status → List ℕ → Type 0
+Reports shows r status text = (status ≡ Done) × shows r text
 
 -- the most bytes of a trace
 abbrev pub most_bytes : ℕ
 most_bytes = 16777216
 
 -- what a status says of the bytes, and the text that is written with it
-abbrev pub Writes : Mode → List ℕ → Status → List ℕ → Type 0
-Writes mode bytes Done text = (length bytes ≤ most_bytes) × ((r : Reading) × IsTraceOf bytes r × HasLayout r × HasLegalHistory r × (text ≡ report_of mode r))
-Writes mode bytes (BadTrace line) text = (length bytes ≤ most_bytes) × IsFirstBadLine bytes line × (text ≡ fault_line (fault.Line line))
-Writes mode bytes (BadLayout error) text = (length bytes ≤ most_bytes) × IsRefusedLayout bytes error × (text ≡ fault_line (fault.Layout error))
-Writes mode bytes TooLong text = (most_bytes < length bytes) × (text ≡ fault_line fault.Length)
-Writes mode bytes _ text = ⊥
+abbrev pub Writes : Shows → List ℕ → Status → List ℕ → Type 0
+Writes shows bytes Done text = (length bytes ≤ most_bytes) × ((r : Reading) × IsTraceOf bytes r × HasLayout r × shows r text)
+Writes shows bytes (BadTrace line) text = (length bytes ≤ most_bytes) × IsFirstBadLine bytes line × (text ≡ fault_line (fault.Line line))
+Writes shows bytes (BadLayout error) text = (length bytes ≤ most_bytes) × IsRefusedLayout bytes error × (text ≡ fault_line (fault.Layout error))
+Writes shows bytes TooLong text = (most_bytes < length bytes) × (text ≡ fault_line fault.Length)
+Writes shows bytes _ text = ⊥
 
 -- what is written: the text whole, a prefix of it where a write failed, or nothing
-abbrev pub IsWritten : Mode → List ℕ → Status → (before : List ℕ) (after : Option (List ℕ)) → Type 0
-IsWritten mode bytes ReadFault before after = after ≡ Some before
-IsWritten mode bytes OutOfMemory before after = after ≡ Some before
-IsWritten mode bytes WriteFault before after = (status : Status) × (text : List ℕ) × (n : ℕ) × Writes mode bytes status text × (after ≡ Some (before ++ take n text))
-IsWritten mode bytes status before after = (text : List ℕ) × Writes mode bytes status text × (after ≡ Some (before ++ text))
+abbrev pub IsWritten : Shows → List ℕ → Status → (before : List ℕ) (after : Option (List ℕ)) → Type 0
+IsWritten shows bytes ReadFault before after = after ≡ Some before
+IsWritten shows bytes OutOfMemory before after = after ≡ Some before
+IsWritten shows bytes WriteFault before after = (status : Status) × (text : List ℕ) × (n : ℕ) × Writes shows bytes status text × (after ≡ Some (before ++ take n text))
+IsWritten shows bytes status before after = (text : List ℕ) × Writes shows bytes status text × (after ≡ Some (before ++ text))
 
 -- how far the source was read: to its end, or up to the read that failed, which came before too many bytes
 abbrev pub IsRead : List ℕ → Status → Option (List ℕ) → Type 0
@@ -84,18 +92,18 @@ IsRead bytes ReadFault left = IsReadInPart most_bytes bytes left
 IsRead bytes _ left = Unit {0}
 
 -- a sink that tells its room has enough for each text that may be written
-abbrev pub HasRoomFor : Mode → (left : Option (List ℕ)) (room : Option ℕ) → Type 0
-HasRoomFor mode left None = Unit {0}
-HasRoomFor mode None (Some room) = ⊥
-HasRoomFor mode (Some bytes) (Some room) = (status : Status) (text : List ℕ) → Writes mode bytes status text → length text ≤ room
+abbrev pub HasRoomFor : Shows → (left : Option (List ℕ)) (room : Option ℕ) → Type 0
+HasRoomFor shows left None = Unit {0}
+HasRoomFor shows None (Some room) = ⊥
+HasRoomFor shows (Some bytes) (Some room) = (status : Status) (text : List ℕ) → Writes shows bytes status text → length text ≤ room
 
 -- a status that says something of the bytes says what holds
-abbrev pub Answers : Mode → List ℕ → Status → Type 0
-Answers mode bytes Usage = ⊥
-Answers mode bytes OutOfMemory = Unit {0}
-Answers mode bytes ReadFault = Unit {0}
-Answers mode bytes WriteFault = Unit {0}
-Answers mode bytes status = (text : List ℕ) × Writes mode bytes status text
+abbrev pub Answers : Shows → List ℕ → Status → Type 0
+Answers shows bytes Usage = ⊥
+Answers shows bytes OutOfMemory = Unit {0}
+Answers shows bytes ReadFault = Unit {0}
+Answers shows bytes WriteFault = Unit {0}
+Answers shows bytes status = (text : List ℕ) × Writes shows bytes status text
 
 -- a status under which nothing is written
 abbrev pub IsSilent : Status → Type 0

@@ -6,3 +6,4 @@ pub mod Status
 pub mod Words
 pub mod Headline
 pub mod WorkedReplays
+pub mod LiveReports

@@ -18,6 +18,7 @@ audits Audit = true
 -- the words name this command; its numbers are in range, and spelled as they are printed
 abbrev pub Name : Command → List (List ℕ) → Type 0
 Name (command.Replay mode) words = words ≡ word_of mode ∷ []
+Name command.Live words = words ≡ codes "live" ∷ []
 Name (command.Make start calls) words = (words ≡ codes "make" ∷ decimal start ∷ decimal calls ∷ []) × (start < 2 ^ 31) × (calls ≤ 100000)
 
 abbrev pub NameNone : List (List ℕ) → Type 0

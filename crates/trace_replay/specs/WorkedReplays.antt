@@ -57,13 +57,3 @@ two_purges_report = codes "vmreport 1\n1.1 no-space @7\n2.1 no-space @12\ntally 
 
 abbrev pub APickStays : Type 0
 APickStays = IsReplayedAs Replay two_purges two_purges_report
-
--- 31 stays in its cell below a batch of 32; 32 and -40 move into the count
-abbrev pub two_counters : List ℕ
-two_counters = codes "vmtrace 1\nspace 16\ncounters 2 32\ncount 0 0 31\ncount 0 0 1\ncount 0 0 -40\ncount 1 0 31\nend\n"
-
-abbrev pub two_counters_audit : List ℕ
-two_counters_audit = codes "vmreport 1\ntally calls 0 ok 0 no-space 0 no-frames 0 no-atomic 0 not-live 0 refused 0\nevents 0\nframes 1024 mapped 0 stale 0\nfree 0..16\ncounter 0 total -8\ncounter 1 total 31\naudit tree blocks 1 largest 16 plain 16\naudit counter 0 count -8 cells 0\naudit counter 1 count 0 cells 31\nend\n"
-
-abbrev pub CellsAreFolded : Type 0
-CellsAreFolded = IsReplayedAs Audit two_counters two_counters_audit

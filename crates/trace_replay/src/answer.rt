@@ -5,7 +5,7 @@ ghost use Rattle.trace_text.specs.Reading.{Reading};
 ghost use Rattle.report_text.specs.Report.{fault_line};
 ghost use Rattle.trace_text.specs.Told.{Tells};
 ghost use Rattle.trace_rules.specs.RuledTraces.{IsRuledTrace};
-ghost use Rattle.trace_replay.specs.Headline.{Writes, Reports, setup, history_of_trace, most_bytes};
+ghost use Rattle.trace_replay.specs.Headline.{IsReport, Writes, Reports, setup, history_of_trace, most_bytes};
 
 use crate::counts::counters_of_trace;
 use crate::status::Status;
@@ -43,7 +43,7 @@ fn tables_of_trace(alloc: Global, trace: Trace) -> Result<Tables, AllocError>
 /// The report of a trace.
 fn report(alloc: Global, mode: Mode, trace: Trace) -> Result<Outcome, AllocError>
     requires { (reading : Reading) × IsRuledTrace reading × Tells trace reading }
-    ensures { IfOk result (λ outcome. (reading : Reading) → IsRuledTrace reading → Tells trace reading → Reports mode reading outcome.status outcome.text) }
+    ensures { IfOk result (λ outcome. (reading : Reading) → IsRuledTrace reading → Tells trace reading → Reports (IsReport mode) reading outcome.status outcome.text) }
 {
     let counters = counters_of_trace(alloc, &trace)?;
     let tables = tables_of_trace(alloc, trace)?;
@@ -55,7 +55,7 @@ fn report(alloc: Global, mode: Mode, trace: Trace) -> Result<Outcome, AllocError
 }
 
 /// A fault line.
-fn fault(alloc: Global, status: Status, fault: &Fault) -> Result<Outcome, AllocError>
+pub fn fault(alloc: Global, status: Status, fault: &Fault) -> Result<Outcome, AllocError>
     ensures { IfOk result (λ outcome. (outcome.status ≡ status) × (outcome.text ≡ fault_line fault.now)) }
 {
     let text = write_fault(alloc, fault)?;
@@ -65,7 +65,7 @@ fn fault(alloc: Global, status: Status, fault: &Fault) -> Result<Outcome, AllocE
 /// The answer to all bytes of a source.
 pub fn answer(alloc: Global, mode: Mode, bytes: &[u8]) -> Result<Outcome, AllocError>
     requires { length bytes.now ≤ most_bytes }
-    ensures { IfOk result (λ outcome. Writes mode bytes.now outcome.status outcome.text) }
+    ensures { IfOk result (λ outcome. Writes (IsReport mode) bytes.now outcome.status outcome.text) }
 {
     match read_trace(alloc, bytes) {
         Ok(trace) => report(alloc, mode, trace),

@@ -22,6 +22,7 @@ mod commands;
 mod counts;
 mod failing_calls;
 mod gather;
+mod live_command;
 mod memory_sink;
 mod memory_source;
 mod send;
@@ -32,6 +33,7 @@ mod words;
 mod worked;
 
 pub use commands::{make, replay, run};
+pub use live_command::live;
 pub use memory_sink::MemorySink;
 pub use memory_source::MemorySource;
 pub use sink::{Sink, SteadySink, StreamSink};

@@ -1,5 +1,5 @@
 //! The words of the commands.
-ghost use Rattle.std.specs.Prelude.{◌≡◌, ◌≢◌, ◌≤◌, ℕ, [], ◌∷◌, IfSome, IfNone, codes, decimal, map, string_bytes};
+ghost use Rattle.std.specs.Prelude.{◌≡◌, ◌≢◌, ◌≤◌, ℕ, [], ◌∷◌, IfSome, IfNone, MatchBool, codes, decimal, map, string_bytes};
 ghost use Rattle.trace_replay.specs.declared.words.Mode.{Mode};
 ghost use Rattle.trace_replay.specs.Words.{Name, NameNone, word_of, audits};
 
@@ -37,6 +37,8 @@ impl Mode {
 pub enum Command {
     /// A trace is read, and its report is written.
     Replay(Mode),
+    /// A trace is read and its callers run on threads of their own; the order of their events is written, and its report.
+    Live,
     /// The trace is written that these numbers generate: where its draws start, and its lines of calls and counts.
     Make { start: u32, calls: u32 },
 }
@@ -50,6 +52,30 @@ fn find_mode(word: &str) -> Option<Mode>
         "replay" => Some(Mode::Replay),
         "audit" => Some(Mode::Audit),
         _ => None,
+    }
+}
+
+/// Whether a word is that of a live run.
+fn is_live(word: &str) -> bool
+    ensures { MatchBool result (word.now ≡ codes "live") (word.now ≢ codes "live") }
+{
+    match word {
+        "live" => true,
+        _ => false,
+    }
+}
+
+/// The command that one word names.
+fn find_one(word: &str) -> Option<Command>
+    ensures some { IfSome result (λ command. Name command (word.now ∷ [])) }
+    ensures none { IfNone result (NameNone (word.now ∷ [])) }
+{
+    if is_live(word) {
+        return Some(Command::Live);
+    }
+    match find_mode(word) {
+        Some(mode) => Some(Command::Replay(mode)),
+        None => None,
     }
 }
 
@@ -88,10 +114,7 @@ pub fn find_command(words: &[String]) -> Option<Command>
     ensures none { IfNone result (NameNone (map string_bytes words.now)) }
 {
     match words {
-        [word] => match find_mode(word.as_str()) {
-            Some(mode) => Some(Command::Replay(mode)),
-            None => None,
-        },
+        [word] => find_one(word.as_str()),
         [word, start, calls] if word.as_str() == "make" => find_numbers(
             start.as_str(),
             calls.as_str(),

@@ -1,5 +1,5 @@
-//! `vmreplay`: replays a trace of allocator calls from standard input, and writes its report to standard output, or writes
-//! a generated trace there. Where it doesn't end well, what a person needs is written to standard error.
+//! `vmreplay`: replays a trace of allocator calls from standard input, or runs its callers on threads of their own, and
+//! writes its report to standard output, or writes a generated trace there. Where it doesn't end well, what a person needs is written to standard error.
 #![tactic(auto)]
 
 mod keeping_source;
@@ -7,6 +7,7 @@ mod said;
 
 use keeping_source::KeepingSource;
 use said::said;
+use section_table::Open;
 use std::env::{self, Env};
 use std::io::{self, ErrorKind, Write};
 use std::process::ExitCode;
@@ -31,7 +32,14 @@ fn main(rt: HostRuntime) -> ExitCode {
         }
         Err(_) => Vec::new(rt.alloc()),
     };
-    let status = run(rt.alloc(), words.as_slice(), &mut source, &mut sink);
+    let status = run(
+        &rt,
+        rt.alloc(),
+        words.as_slice(),
+        &mut source,
+        &mut sink,
+        &Open,
+    );
     if let Ok(said) = said(rt.alloc(), status, source.kept()) {
         let _ = rt.stderr().write_all(said.as_slice());
     }

@@ -8,6 +8,7 @@ use trace_replay::Status;
 const FORMS: &str =
     "vmreplay replay              reads a trace from standard input, and writes its report
 vmreplay audit               the same, with the numbers that are kept beside those of a plain scan
+vmreplay live                runs the callers of a trace on threads of their own, and writes their order and its report
 vmreplay make START CALLS    writes a generated trace; START is 0 to 2147483647, CALLS is 0 to 100000
 ";
 

@@ -29,3 +29,12 @@ returns-in-None-clause-made_ends g c = λ start calls named. absurd (c.in-None.e
 
 pub returns-in-None-clause-made_complete : goal.returns-in-None-clause-made_complete
 returns-in-None-clause-made_complete g c = λ start calls named. absurd (c.in-None.ensures.none (command.Make start calls) named)
+
+pub returns-in-None-clause-live_written : goal.returns-in-None-clause-live_written
+returns-in-None-clause-live_written g c = λ named. absurd (c.in-None.ensures.none command.Live named)
+
+pub returns-in-None-clause-live_answers : goal.returns-in-None-clause-live_answers
+returns-in-None-clause-live_answers g c = λ named. absurd (c.in-None.ensures.none command.Live named)
+
+pub returns-in-None-clause-live_complete : goal.returns-in-None-clause-live_complete
+returns-in-None-clause-live_complete g c = λ named. absurd (c.in-None.ensures.none command.Live named)

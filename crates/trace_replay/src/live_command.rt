@@ -1,0 +1,127 @@
+//! A trace whose callers run on threads of their own.
+ghost use Rattle.std.specs.Prelude.{◌≡◌, ◌≢◌, ◌≤◌, ◌⊎◌, ℕ, List, Some, Err, IfOk, length};
+ghost use Rattle.trace_text.specs.Reading.{Reading};
+ghost use Rattle.trace_text.specs.Grammar.{IsTraceOf};
+ghost use Rattle.trace_text.specs.Told.{Tells};
+ghost use Rattle.trace_rules.specs.RuledTraces.{IsRuledTrace};
+ghost use Rattle.trace_replay.specs.Streams.{RoseByOne, IsReadInPart};
+ghost use Rattle.trace_replay.specs.Headline.{Writes, IsWritten, IsRead, Answers, HasRoomFor, HasLayout, Reports, IsSilent, most_bytes};
+ghost use Rattle.trace_replay.specs.LiveReports.{IsLiveReport};
+
+use crate::answer::{Outcome, fault, too_long};
+use crate::commands::tell;
+use crate::counts::counters_of_trace;
+use crate::gather::{Cut, gather};
+use crate::sink::Sink;
+use crate::source::Source;
+use crate::status::Status;
+use report_text::{Fault, Text, write_report, write_schedule};
+use section_table::Gate;
+use shared_kernel::live_kernel;
+use std::alloc::{AllocError, Global};
+use std::sync::Wait;
+use std::thread::Threads;
+use trace_text::{Trace, TraceError, read_trace};
+
+/// The order that happened, and the report of the trace with this order. Its counters are those of its lines in any order.
+fn live_report<G: Gate + Sync, R: Threads + Wait + Sync>(
+    rt: &R,
+    alloc: Global,
+    trace: Trace,
+    gate: &G,
+) -> Result<Outcome, AllocError>
+    requires { (reading : Reading) × IsRuledTrace reading × Tells trace reading }
+    ensures { IfOk result (λ outcome. (reading : Reading) → IsRuledTrace reading → Tells trace reading → Reports IsLiveReport reading outcome.status outcome.text) }
+{
+    let counters = counters_of_trace(alloc, &trace)?;
+    let Trace { config, calls, .. } = trace;
+    let lived = live_kernel(rt, alloc, config, calls, gate)?;
+    let tables = lived.kernel.tables()?;
+    let schedule = write_schedule(alloc, &lived.kernel.moved()[lived.opening..])?;
+    let report = write_report(alloc, &tables, &counters, false)?;
+    let mut bytes = schedule.into_vec();
+    bytes.extend_from_slice(report.as_slice())?;
+    Ok(Outcome {
+        status: Status::Done,
+        text: Text::of(bytes),
+    })
+}
+
+/// The answer to all bytes of a source.
+fn live_answer<G: Gate + Sync, R: Threads + Wait + Sync>(
+    rt: &R,
+    alloc: Global,
+    bytes: &[u8],
+    gate: &G,
+) -> Result<Outcome, AllocError>
+    requires { length bytes.now ≤ most_bytes }
+    ensures { IfOk result (λ outcome. Writes IsLiveReport bytes.now outcome.status outcome.text) }
+{
+    match read_trace(alloc, bytes) {
+        Ok(trace) => live_report(rt, alloc, trace, gate),
+        Err(TraceError::BadLine { line }) => {
+            fault(alloc, Status::BadTrace { line }, &Fault::Line { line })
+        }
+        Err(TraceError::Layout(error)) => {
+            fault(alloc, Status::BadLayout(error), &Fault::Layout(error))
+        }
+        Err(TraceError::OutOfMemory) => Err(AllocError),
+    }
+}
+
+/// The answer to all that a source gives.
+fn live_outcome<S: Source, G: Gate + Sync, R: Threads + Wait + Sync>(
+    rt: &R,
+    alloc: Global,
+    source: &mut S,
+    gate: &G,
+) -> Result<Outcome, Cut>
+    ensures writes { IfOk result (λ outcome. (bytes : List ℕ) → S.left source.old ≡ Some bytes → Writes IsLiveReport bytes outcome.status outcome.text) }
+    ensures read { IfOk result (λ outcome. (bytes : List ℕ) → S.left source.old ≡ Some bytes → IsRead bytes outcome.status (S.left source.new)) }
+    ensures says { IfOk result (λ outcome. (outcome.status ≢ Status.ReadFault) × (outcome.status ≢ Status.WriteFault) × (outcome.status ≢ Status.OutOfMemory) × (outcome.status ≢ Status.Usage)) }
+    ensures failed { result ≡ Err Cut.Failed → RoseByOne (S.faults source.old) (S.faults source.new) }
+    ensures in_part { result ≡ Err Cut.Failed → (bytes : List ℕ) → S.left source.old ≡ Some bytes → IsReadInPart most_bytes bytes (S.left source.new) }
+    ensures not_cut { result ≢ Err Cut.TooLong }
+    ensures no_fault { result ≢ Err Cut.Failed → S.faults source.new ≡ S.faults source.old }
+{
+    match gather(alloc, source) {
+        Ok(bytes) => Ok(live_answer(rt, alloc, bytes.as_slice(), gate)?),
+        Err(Cut::TooLong) => Ok(too_long(alloc)?),
+        Err(Cut::Failed) => Err(Cut::Failed),
+        Err(Cut::OutOfMemory) => Err(Cut::OutOfMemory),
+    }
+}
+
+/// Reads a trace to its end and runs each of its callers on a thread of its own, which tells a gate of its sections. It
+/// writes the order of their events, and then the report of just that order, or the line that tells what is wrong with the
+/// trace. Its `order` lines are ignored. It may wait.
+pub fn live<S: Source, K: Sink, G: Gate + Sync, R: Threads + Wait + Sync>(
+    rt: &R,
+    alloc: Global,
+    source: &mut S,
+    sink: &mut K,
+    gate: &G,
+) -> Status
+    requires { HasRoomFor IsLiveReport (S.left source.old) (K.room sink.old) }
+    ensures written { (bytes before : List ℕ) → S.left source.old ≡ Some bytes → K.taken sink.old ≡ Some before → IsWritten IsLiveReport bytes result before (K.taken sink.new) }
+    ensures answers { (bytes : List ℕ) → S.left source.old ≡ Some bytes → Answers IsLiveReport bytes result }
+    ensures read { (bytes : List ℕ) → S.left source.old ≡ Some bytes → IsRead bytes result (S.left source.new) }
+    ensures read_fault { result ≡ Status.ReadFault → RoseByOne (S.faults source.old) (S.faults source.new) }
+    ensures write_fault { result ≡ Status.WriteFault → RoseByOne (K.faults sink.old) (K.faults sink.new) }
+
+    // A read or a write that fails ends the command.
+    ensures failed_read { result ≢ Status.ReadFault → S.faults source.new ≡ S.faults source.old }
+    ensures failed_write { result ≢ Status.WriteFault → K.faults sink.new ≡ K.faults sink.old }
+    ensures silent { IsSilent result → K.taken sink.new ≡ K.taken sink.old }
+    ensures usage { result ≢ Status.Usage }
+
+    // A trace that is short enough, whose layout stands, and no fault.
+    ensures complete { (bytes : List ℕ) (reading : Reading) → S.left source.old ≡ Some bytes → length bytes ≤ most_bytes → IsTraceOf bytes reading → HasLayout reading
+        → ¬ RoseByOne (S.faults source.old) (S.faults source.new) → ¬ RoseByOne (K.faults sink.old) (K.faults sink.new) → (result ≡ Status.Done) ⊎ (result ≡ Status.OutOfMemory) }
+{
+    match live_outcome(rt, alloc, source, gate) {
+        Ok(outcome) => tell(sink, outcome),
+        Err(Cut::Failed) => Status::ReadFault,
+        Err(_) => Status::OutOfMemory,
+    }
+}
