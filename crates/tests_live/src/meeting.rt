@@ -10,6 +10,7 @@ use std::thread::yield_now;
 const LOOKS: u64 = 10_000_000;
 
 /// How many events callers 1 and 2 have made, and how often one of them looked in vain.
+#[derive(Drop)]
 struct Meeting {
     first: AtomicU64,
     second: AtomicU64,

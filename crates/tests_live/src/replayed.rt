@@ -37,7 +37,7 @@ fn replayed(alloc: Global, trace: &[u8]) -> Vec<u8> {
 fn with_order(alloc: Global, trace: &[u8], schedule: &[u8]) -> Result<Vec<u8>, AllocError> {
     let mut text = Vec::new(alloc);
     for line in trace.lines() {
-        if !line.starts_with(b"order ") && line != b"end" {
+        if !line.starts_with(b"order ") && line != b"end".as_slice() {
             text.extend_from_slice(line)?;
             text.push(b'\n')?;
         }
@@ -53,7 +53,7 @@ fn with_order(alloc: Global, trace: &[u8], schedule: &[u8]) -> Result<Vec<u8>, A
 
 /// Whether what a live run of a trace writes behind its first line is what a replay of its order writes.
 pub fn is_replayed(alloc: Global, trace: &[u8], written: &[u8]) -> Result<bool, AllocError> {
-    let Some((schedule, report)) = written.split_once_str("\n") else {
+    let Some((schedule, report)) = written.split_once_str(b"\n".as_slice()) else {
         return Ok(false);
     };
     let again = with_order(alloc, trace, schedule)?;
@@ -90,8 +90,14 @@ fn two_callers_are_replayed(rt: HostRuntime) -> Result<(), AllocError> {
     let text = written.as_slice();
     assert!(rt; status == 0, "status {status}");
     let schedule = text.lines().next().unwrap_or(b"");
-    let first = schedule.fields().filter(|pick| *pick == b"1").count();
-    let second = schedule.fields().filter(|pick| *pick == b"2").count();
+    let first = schedule
+        .fields()
+        .filter(|pick| *pick == b"1".as_slice())
+        .count();
+    let second = schedule
+        .fields()
+        .filter(|pick| *pick == b"2".as_slice())
+        .count();
     assert!(rt; first == 6 && second == 3, "{first} and {second}");
     assert!(rt; text.ends_with(b"counter 0 total 5\nend\n"), "the total");
     assert!(rt; is_replayed(rt.alloc(), TWO, text)?, "replayed otherwise");
