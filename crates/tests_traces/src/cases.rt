@@ -4,6 +4,8 @@ use crate::runs::{Answer, answer_at_once, other_in_pieces};
 use bstr::ByteSlice;
 use std::alloc::{AllocError, Global};
 use std::io;
+use std::sync::Wait;
+use std::thread::Threads;
 
 /// A run: its words, what it reads, and how it must answer.
 #[derive(Clone, Copy)]
@@ -71,21 +73,25 @@ fn tell(rt: &HostRuntime, case: Case<'_>, answer: &Answer) -> io::Result<()> {
     }
 }
 
-fn show(rt: &HostRuntime, case: Case<'_>) -> io::Result<()> {
+fn show<R: Threads + Wait + Sync>(rt: &HostRuntime, threads: &R, case: Case<'_>) -> io::Result<()> {
     let words = case.words(rt.alloc())?;
     let text = case.text.as_bytes();
-    let answer = answer_at_once(rt, words.as_slice(), text);
-    if let Some(piece) = other_in_pieces(rt, words.as_slice(), text, &answer)? {
+    let answer = answer_at_once(threads, rt.alloc(), words.as_slice(), text);
+    if let Some(piece) = other_in_pieces(threads, rt.alloc(), words.as_slice(), text, &answer)? {
         return println!(*rt; "{} in pieces of {piece} otherwise", case.name);
     }
     tell(rt, case, &answer)
 }
 
 /// A line for each case of a file.
-pub fn show_all(rt: &HostRuntime, file: &str) -> io::Result<()> {
+pub fn show_all<R: Threads + Wait + Sync>(
+    rt: &HostRuntime,
+    threads: &R,
+    file: &str,
+) -> io::Result<()> {
     for case in file.split("== ").skip(1) {
         match Case::of(case) {
-            Some(case) => show(rt, case)?,
+            Some(case) => show(rt, threads, case)?,
             None => println!(*rt; "no case: {case}")?,
         }
     }

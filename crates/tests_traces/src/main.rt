@@ -17,9 +17,9 @@ fn main(rt: HostRuntime) -> io::Result<()> {
         println!(rt; "{name}")?;
         let file = fs::read_to_string(&rt, name.as_str())?;
         if name.as_str().ends_with(".texts") {
-            texts::show_all(&rt, file.as_str())?;
+            texts::show_all(&rt, &rt, file.as_str())?;
         } else {
-            cases::show_all(&rt, file.as_str())?;
+            cases::show_all(&rt, &rt, file.as_str())?;
         }
     }
     Ok(())

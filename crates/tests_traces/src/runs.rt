@@ -1,8 +1,10 @@
 //! The public call over a text in memory, whole and in pieces.
 
 use section_table::Open;
-use std::alloc::AllocError;
+use std::alloc::{AllocError, Global};
 use std::io::{self, Write};
+use std::sync::Wait;
+use std::thread::Threads;
 use trace_replay::{MemorySource, Source, StreamSink, StreamSource, run};
 
 /// How much one read gives and one write takes, beside a run that reads and writes all at once.
@@ -41,34 +43,47 @@ impl Answer {
 }
 
 /// The answer to what a source gives, written in pieces.
-fn answer_to<S: Source>(
-    rt: &HostRuntime,
+fn answer_to<S: Source, R: Threads + Wait + Sync>(
+    threads: &R,
+    alloc: Global,
     words: &[String],
     source: &mut S,
     piece: usize,
 ) -> Answer {
-    let taken = Vec::new(rt.alloc());
+    let taken = Vec::new(alloc);
     let mut sink = StreamSink::new(Pieces { taken, piece });
-    let status = run(rt, rt.alloc(), words, source, &mut sink, &Open).code();
+    let status = run(threads, alloc, words, source, &mut sink, &Open).code();
     let Pieces { taken: written, .. } = sink.into_writer();
     Answer { status, written }
 }
 
 /// The answer to a text that is read at once, and written at once.
-pub fn answer_at_once(rt: &HostRuntime, words: &[String], text: &[u8]) -> Answer {
-    answer_to(rt, words, &mut StreamSource::new(text), usize::MAX)
+pub fn answer_at_once<R: Threads + Wait + Sync>(
+    threads: &R,
+    alloc: Global,
+    words: &[String],
+    text: &[u8],
+) -> Answer {
+    answer_to(
+        threads,
+        alloc,
+        words,
+        &mut StreamSource::new(text),
+        usize::MAX,
+    )
 }
 
 /// The first size of pieces in which a text is answered otherwise.
-pub fn other_in_pieces(
-    rt: &HostRuntime,
+pub fn other_in_pieces<R: Threads + Wait + Sync>(
+    threads: &R,
+    alloc: Global,
     words: &[String],
     text: &[u8],
     answer: &Answer,
 ) -> Result<Option<usize>, AllocError> {
     for piece in PIECES {
-        let mut source = MemorySource::new(rt.alloc(), text, piece, &[])?;
-        if !answer_to(rt, words, &mut source, piece).is(answer) {
+        let mut source = MemorySource::new(alloc, text, piece, &[])?;
+        if !answer_to(threads, alloc, words, &mut source, piece).is(answer) {
             return Ok(Some(piece));
         }
     }

@@ -3,12 +3,19 @@
 use crate::runs::{answer_at_once, other_in_pieces};
 use bstr::{ByteSlice, ByteVec};
 use std::io;
+use std::sync::Wait;
+use std::thread::Threads;
 
 /// The exit status of a text, the first line that is written, and the text.
-fn show(rt: &HostRuntime, words: &[String], escaped: &str) -> io::Result<()> {
+fn show<R: Threads + Wait + Sync>(
+    rt: &HostRuntime,
+    threads: &R,
+    words: &[String],
+    escaped: &str,
+) -> io::Result<()> {
     let text = Vec::unescape_bytes(rt.alloc(), escaped)?;
-    let answer = answer_at_once(rt, words, text.as_slice());
-    if let Some(piece) = other_in_pieces(rt, words, text.as_slice(), &answer)? {
+    let answer = answer_at_once(threads, rt.alloc(), words, text.as_slice());
+    if let Some(piece) = other_in_pieces(threads, rt.alloc(), words, text.as_slice(), &answer)? {
         return println!(*rt; "in pieces of {piece} otherwise: {escaped}");
     }
     let line = answer.written.as_slice().lines().next().unwrap_or(b"");
@@ -16,10 +23,14 @@ fn show(rt: &HostRuntime, words: &[String], escaped: &str) -> io::Result<()> {
 }
 
 /// A line for each text of a file.
-pub fn show_all(rt: &HostRuntime, file: &str) -> io::Result<()> {
+pub fn show_all<R: Threads + Wait + Sync>(
+    rt: &HostRuntime,
+    threads: &R,
+    file: &str,
+) -> io::Result<()> {
     let words = vec![in rt.alloc(); String::from_str(rt.alloc(), "replay")?]?;
     for escaped in file.lines() {
-        show(rt, words.as_slice(), escaped)?;
+        show(rt, threads, words.as_slice(), escaped)?;
     }
     Ok(())
 }
