@@ -116,7 +116,7 @@ module _ (c : Setup) (opening : List Call) (calls : List (List Call)) (trace : I
       freed = kept.freed;
     }
 
-  wait_lasts : IsLegallyLasting c calls (IsWaitedWorld c first)
+  pub wait_lasts : IsLegallyLasting c calls (IsWaitedWorld c first)
   wait_lasts = record {
     steps = wait_step;
     joins = λ w framed one kept over. record { traced = (trace_lasts c opening calls trace).joins w framed one kept.traced over; waits = wait_joins w kept.waits };
@@ -135,7 +135,7 @@ module _ (c : Setup) (opening : List Call) (calls : List (List Call)) (trace : I
   none_freed : (page k : ℕ) → IsFreedAt c at_start [] page k → ⊥
   none_freed page k at = at.0 (subst (λ x. IsMarked x Free page) (map_at-end c at_start [] (suc k) (omega arith) ∙ sym (map_at-end c at_start [] k (omega arith))) at.1)
 
-  wait_first : IsWaitedWorld c at_start (opening_world c opening calls)
+  pub wait_first : IsWaitedWorld c at_start (opening_world c opening calls)
   wait_first = record {
     traced = trace_first c opening calls trace;
     waits = record {
