@@ -1,5 +1,5 @@
 -- The lines of the opening and of each caller, one after another, are all lines.
-use Rattle.std.proofs.Common.{All, ◌≡◌, ◌≢◌, ℕ, zero, suc, ◌+◌, ◌<◌, ◌≤◌, ◌==◌, Bool, true, false, cond, if◌then◌else◌, List, [], ◌∷◌, ◌++◌, length, map, flat_map, refl, sym, ap, ◌∙◌, arith}
+use Rattle.std.proofs.Common.{◌≡◌, ◌≢◌, ℕ, zero, suc, ◌+◌, ◌<◌, ◌≤◌, ◌==◌, nat_lt, Bool, true, false, cond, if◌then◌else◌, List, [], ◌∷◌, ◌++◌, length, map, flat_map, refl, sym, ap, ◌∙◌, arith}
 use Rattle.std.specs.Prelude.{ℤ, pos, ◌+ℤ◌}
 use Rattle.std.specs.List.{range_with_len}
 use Rattle.std.proofs.lemmas.Int.{ints}
@@ -27,7 +27,7 @@ total-added (l ∷ lines) = ap (λ (z : ℤ). l.amount +ℤ z) (total-added line
 
 -- The lines of some callers.
 
-abbrev lines_from : (first n : ℕ) → List CountLine → List CountLine
+abbrev pub lines_from : (first n : ℕ) → List CountLine → List CountLine
 lines_from first n lines = flat_map (λ k. lines_by k lines) (range_with_len first n)
 
 kept : (l : CountLine) (lines : List CountLine) (k : ℕ) → l.caller ≡ k → lines_by k (l ∷ lines) ≡ l ∷ lines_by k lines
@@ -46,6 +46,12 @@ later_callers l lines (suc n) first low =
     ap (λ ls. ls ++ lines_from (first + 1) n (l ∷ lines)) (left_out l lines first (λ e. absurd (omega arith)))
     ∙ ap (λ ls. lines_by first lines ++ ls) (later_callers l lines n (first + 1) (omega arith))
 
+earlier_callers : (l : CountLine) (lines : List CountLine) (n first : ℕ) → first + n ≤ l.caller → lines_from first n (l ∷ lines) ≡ lines_from first n lines
+earlier_callers l lines zero first high = refl
+earlier_callers l lines (suc n) first high =
+    ap (λ ls. ls ++ lines_from (first + 1) n (l ∷ lines)) (left_out l lines first (λ e. absurd (omega arith)))
+    ∙ ap (λ ls. lines_by first lines ++ ls) (earlier_callers l lines n (first + 1) (omega arith))
+
 -- What the lines come to, one by one.
 
 abbrev summed : {M : Type 0} → M → (M → M → M) → (CountLine → M) → List CountLine → M
@@ -63,19 +69,20 @@ module _ {M : Type 0} (none : M) (add : M → M → M) (weight : CountLine → M
   one_from : (l : CountLine) (lines : List CountLine) (n first : ℕ) → first ≤ l.caller → l.caller < first + n
       → summed none add weight (lines_from first n (l ∷ lines)) ≡ add (weight l) (summed none add weight (lines_from first n lines))
   one_from l lines zero first low high = absurd (omega arith)
-  one_from l lines (suc n) first low high = by_test (l.caller == first) refl
+  one_from l lines (suc n) first low high = by_test (λ later. one_from l lines n (first + 1) later (omega arith)) (l.caller == first) refl
     where
-      by_test : (b : Bool) → (l.caller == first) ≡ b → summed none add weight (lines_from first (suc n) (l ∷ lines)) ≡ add (weight l) (summed none add weight (lines_from first (suc n) lines))
-      by_test true e =
+      by_test : (first + 1 ≤ l.caller → summed none add weight (lines_from (first + 1) n (l ∷ lines)) ≡ add (weight l) (summed none add weight (lines_from (first + 1) n lines)))
+          → (b : Bool) → (l.caller == first) ≡ b → summed none add weight (lines_from first (suc n) (l ∷ lines)) ≡ add (weight l) (summed none add weight (lines_from first (suc n) lines))
+      by_test rest true e =
           let same : l.caller ≡ first = grind (arith, nat_tests) in
           ap (λ ls. summed none add weight (ls ++ lines_from (first + 1) n (l ∷ lines))) (kept l lines first same)
           ∙ ap (λ ls. add (weight l) (summed none add weight (lines_by first lines ++ ls))) (later_callers l lines n (first + 1) (omega arith))
-      by_test false e =
+      by_test rest false e =
           let other : l.caller ≢ first = grind (arith, nat_tests) in
           let later : first + 1 ≤ l.caller = omega arith in
           ap (λ ls. summed none add weight (ls ++ lines_from (first + 1) n (l ∷ lines))) (left_out l lines first other)
           ∙ summed-append (lines_by first lines) (lines_from (first + 1) n (l ∷ lines))
-          ∙ ap (add (summed none add weight (lines_by first lines))) (one_from l lines n (first + 1) later (omega arith))
+          ∙ ap (add (summed none add weight (lines_by first lines))) (rest later)
           ∙ past (summed none add weight (lines_by first lines)) (weight l) (summed none add weight (lines_from (first + 1) n lines))
           ∙ ap (add (weight l)) (sym (summed-append (lines_by first lines) (lines_from (first + 1) n lines)))
 
@@ -96,6 +103,23 @@ each_line_is_shared callers lines of =
     length_summed (shared_lines callers lines)
     ∙ all_summed 0 (λ a b. a + b) (λ _. 1) (λ x. omega arith) (λ x y z. omega arith) (λ x y. omega arith) callers lines of
     ∙ sym (length_summed lines)
+
+-- Those of some callers are no more than all.
+pub few_from : (n : ℕ) (lines : List CountLine) → length (lines_from 0 n lines) ≤ length lines
+few_from n [] = let e = ap length (none_from n 0) in omega arith
+few_from n (l ∷ lines) = by_test (few_from n lines) (nat_lt l.caller n) refl
+  where
+    by_test : length (lines_from 0 n lines) ≤ length lines → (b : Bool) → nat_lt l.caller n ≡ b → length (lines_from 0 n (l ∷ lines)) ≤ suc (length lines)
+    by_test rest true e =
+        let within : l.caller < n = grind (arith, nat_tests) in
+        let one = length_summed (lines_from 0 n (l ∷ lines))
+        ∙ one_from 0 (λ a b. a + b) (λ _. 1) (λ x. omega arith) (λ x y z. omega arith) (λ x y. omega arith) l lines n 0 (omega arith) (omega arith)
+        ∙ ap (λ m. 1 + m) (sym (length_summed (lines_from 0 n lines))) in
+        omega arith
+    by_test rest false e =
+        let beyond : n ≤ l.caller = grind (arith, nat_tests) in
+        let same = ap length (earlier_callers l lines n 0 (omega arith)) in
+        omega arith
 
 -- They give each counter as much.
 

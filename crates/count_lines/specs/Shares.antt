@@ -53,8 +53,8 @@ pub record HasCountedTo (calls : ℕ) (old new : Share) : Type 0 where
 -- a share for each caller from 1, with all its lines, of which none was added
 pub record AreSharesOf (c : Counters) (callers : ℕ) (lines : List CountLine) (shares : List Share) : Type 0 where
   pub each : All (IsShareOf c) shares
-  pub callers : map caller_of shares ≡ range_with_len 1 callers
-  pub lines : flat_map lines_in shares ≡ flat_map (λ k. lines_by k lines) (range_with_len 1 callers)
+  pub named : map caller_of shares ≡ range_with_len 1 callers
+  pub own : flat_map lines_in shares ≡ flat_map (λ k. lines_by k lines) (range_with_len 1 callers)
   pub begin : All (λ s. done_in s ≡ 0) shares
 
 -- these shares, once all their lines were added

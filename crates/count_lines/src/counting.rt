@@ -48,7 +48,7 @@ impl Share {
         ensures lines { HasSameLines self.old self.new }
         ensures finished { IsFinished self.new }
     {
-        for _ in self.done..self.lines.len() {
+        for _next in self.done..self.lines.len() {
             self.count_next(counters);
         }
     }

@@ -1,5 +1,5 @@
 //! A pass is cut into shares, and put together again.
-ghost use Rattle.std.specs.Prelude.{◌≡◌, ◌≤◌, ◌+◌, ◌++◌, All, IfOk, length, map};
+ghost use Rattle.std.specs.Prelude.{◌≡◌, ◌≤◌, ◌+◌, ◌++◌, ℕ, All, IfOk, length, map};
 ghost use Rattle.std.specs.List.{flat_map};
 ghost use Rattle.percpu_counters.specs.Passes.{shape_of, adds_of, spare_of, IsPassOf};
 ghost use Rattle.count_lines.specs.Lines.{added_by, lines_by};
@@ -43,6 +43,8 @@ fn share_of(
     ensures spare { IfOk result (λ share. spare_of pass.new + length (lines_in share) ≡ spare_of pass.old) }
 {
     let lines = own_lines(alloc, lines, caller)?;
+    let spare = pass.spare();
+    prove!(lines.len() <= spare as usize);
     let pass = counters.split(pass, lines.len() as u32);
     Ok(Share {
         caller,
@@ -104,8 +106,8 @@ pub fn share_out(
 {
     count_opening(alloc, counters, pass, lines)?;
     let mut shares = Vec::new(alloc);
-    for caller in 1..=callers {
-        shares.push(share_of(alloc, counters, pass, lines, caller)?)?;
+    for done in 0..callers {
+        shares.push(share_of(alloc, counters, pass, lines, done + 1)?)?;
     }
     Ok(shares)
 }

@@ -110,25 +110,25 @@ counts_kept r l h is = record { uncounted = λ early. is.uncounted (let at = pla
 -- the open section and those of the count lines are the opening's or a caller's; before the lines of calls and counts there is none but the opening's
 pub record AreOfCallers (r : Reading) : Type 0 where
   pub unopened : r.rank < 10 → (r.counts ≡ []) × (r.caller ≡ 0)
-  pub open : r.caller ≤ r.header.callers
+  pub section : r.caller ≤ r.header.callers
   pub counting : All (IsCountOf r.header.callers) r.counts
 
 none_of : (callers : ℕ) (counts : List CountLine) → counts ≡ [] → All (IsCountOf callers) counts
 none_of callers counts none = subst (All (IsCountOf callers)) (sym none) (All-nil (IsCountOf callers))
 
 pub of_callers_first : AreOfCallers unread
-of_callers_first = record { unopened = λ early. (refl, refl); open = omega arith; counting = none_of 1 [] refl }
+of_callers_first = record { unopened = λ early. (refl, refl); section = omega arith; counting = none_of 1 [] refl }
 
 pub of_callers_kept : (r : Reading) (l : Line) → may_stand r l ≡ true → AreOfCallers r → AreOfCallers (read r l)
 of_callers_kept r (Callers callers) h is =
     let none = is.unopened (let at = place r (Callers callers) h in omega arith) in
-    record { unopened = λ early. none; open = (let first = none.1 in omega arith); counting = none_of callers r.counts none.0 }
+    record { unopened = λ early. none; section = (let first = none.1 in omega arith); counting = none_of callers r.counts none.0 }
 of_callers_kept r (Caller caller) h is =
     let within = and_parts (nat_lt r.caller caller) (nat_le caller r.header.callers) (rule r (Caller caller) h) in
-    record { unopened = λ early. absurd (omega arith); open = leb-true caller r.header.callers within.1; counting = is.counting }
+    record { unopened = λ early. absurd (omega arith); section = leb-true caller r.header.callers within.1; counting = is.counting }
 of_callers_kept r (Count counter cpu amount) h is = record {
   unopened = λ early. absurd (omega arith);
-  open = is.open;
-  counting = All-append (IsCountOf r.header.callers) r.counts (line_of_count r counter cpu amount ∷ []) is.counting (All-cons (IsCountOf r.header.callers) _ [] is.open (All-nil _));
+  section = is.section;
+  counting = All-append (IsCountOf r.header.callers) r.counts (line_of_count r counter cpu amount ∷ []) is.counting (All-cons (IsCountOf r.header.callers) _ [] is.section (All-nil _));
 }
-of_callers_kept r l h is = record { unopened = λ early. is.unopened (let at = place r l h in omega arith); open = is.open; counting = is.counting }
+of_callers_kept r l h is = record { unopened = λ early. is.unopened (let at = place r l h in omega arith); section = is.section; counting = is.counting }
