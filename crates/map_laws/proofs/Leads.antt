@@ -20,12 +20,16 @@ pub data Leads (c : Setup) (s : Section) : Place → Next → Type 0 where
   FoundArea : (search : Search) (k : AreaKind) (place : Span) → carved s ≡ Some place → Leads c s (Finding search (ForArea k)) (Go (MappingArea place k))
   FoundBlock : (search : Search) (cpu pages : ℕ) (place : Span) → carved s ≡ Some place → Leads c s (Finding search (ForBlock cpu pages)) (Go (SettlingBlock place cpu pages))
   FoundGroups : (search : Search) (chunk bytes align base : ℕ) → carved_base s ≡ Some base → Leads c s (Finding search (ForChunk chunk bytes align)) (Go (SettlingGroups base chunk bytes align))
-  FoundOther : (search : Search) (aim : Aim) → Leads c s (Finding search aim) (Answer reply.NoSpace MadeNothing)
+  FoundNoArea : (search : Search) (k : AreaKind) → Leads c s (Finding search (ForArea k)) (Answer reply.NoSpace MadeNothing)
+  FoundNoBlock : (search : Search) (cpu pages : ℕ) → Leads c s (Finding search (ForBlock cpu pages)) (Answer reply.NoSpace MadeNothing)
+  FoundNoGroups : (search : Search) (chunk bytes align : ℕ) (place : Span) → carved s ≡ Some place → Leads c s (Finding search (ForChunk chunk bytes align)) (Answer reply.NoSpace MadeNothing)
   FoundNone : (search : Search) (aim : Aim) → Leads c s (Finding search aim) (Go (PurgeTaking None (SearchAgain search aim)))
   AgainArea : (search : Search) (k : AreaKind) (place : Span) → carved s ≡ Some place → Leads c s (FindingAgain search (ForArea k)) (Go (MappingArea place k))
   AgainBlock : (search : Search) (cpu pages : ℕ) (place : Span) → carved s ≡ Some place → Leads c s (FindingAgain search (ForBlock cpu pages)) (Go (SettlingBlock place cpu pages))
   AgainGroups : (search : Search) (chunk bytes align base : ℕ) → carved_base s ≡ Some base → Leads c s (FindingAgain search (ForChunk chunk bytes align)) (Go (SettlingGroups base chunk bytes align))
-  AgainOther : (search : Search) (aim : Aim) → Leads c s (FindingAgain search aim) (Answer reply.NoSpace MadeNothing)
+  AgainNoArea : (search : Search) (k : AreaKind) → Leads c s (FindingAgain search (ForArea k)) (Answer reply.NoSpace MadeNothing)
+  AgainNoBlock : (search : Search) (cpu pages : ℕ) → Leads c s (FindingAgain search (ForBlock cpu pages)) (Answer reply.NoSpace MadeNothing)
+  AgainNoGroups : (search : Search) (chunk bytes align : ℕ) (place : Span) → carved s ≡ Some place → Leads c s (FindingAgain search (ForChunk chunk bytes align)) (Answer reply.NoSpace MadeNothing)
   NoSpaceForChunk : (search : Search) (chunk bytes align : ℕ) → Leads c s (FindingAgain search (ForChunk chunk bytes align)) (Go (GivingAlloc reply.NoSpace MadeNothing))
   Mapped : (place : Span) (k : AreaKind) → had_frames s ≡ true → Leads c s (MappingArea place k) (Go (SettlingArea place k))
   NotMapped : (place : Span) (k : AreaKind) → had_frames s ≡ false → Leads c s (MappingArea place k) (Go (Dropping place))
@@ -107,26 +111,20 @@ module _ (c : Setup) (s : Section) where
   finds search (ForBlock cpu pages) (Some place) base e f = FoundBlock search cpu pages place e
   finds search (ForChunk chunk bytes align) None (Some base) e f = FoundGroups search chunk bytes align base f
   finds search aim None None e f = FoundNone search aim
-  finds search (ForChunk chunk bytes align) (Some place) base e f = FoundOther search _
-  finds search (ForArea k) None (Some base) e f = FoundOther search _
-  finds search (ForBlock cpu pages) None (Some base) e f = FoundOther search _
+  finds search (ForChunk chunk bytes align) (Some place) base e f = FoundNoGroups search chunk bytes align place e
+  finds search (ForArea k) None (Some base) e f = FoundNoArea search k
+  finds search (ForBlock cpu pages) None (Some base) e f = FoundNoBlock search cpu pages
 
   finds_again : (search : Search) (aim : Aim) (o : Option Span) (base : Option ℕ) → carved s ≡ o → carved_base s ≡ base → Leads c s (FindingAgain search aim) (found aim o base (without_space aim))
   finds_again search (ForArea k) (Some place) base e f = AgainArea search k place e
   finds_again search (ForBlock cpu pages) (Some place) base e f = AgainBlock search cpu pages place e
   finds_again search (ForChunk chunk bytes align) None (Some base) e f = AgainGroups search chunk bytes align base f
   finds_again search (ForChunk chunk bytes align) None None e f = NoSpaceForChunk search chunk bytes align
-  finds_again search (ForChunk chunk bytes align) (Some place) base e f = AgainOther search _
-  finds_again search (ForArea k) None base e f = by_base base
-    where
-      by_base : (base : Option ℕ) → Leads c s (FindingAgain search (ForArea k)) (found (ForArea k) None base (without_space (ForArea k)))
-      by_base None = AgainOther search _
-      by_base (Some base) = AgainOther search _
-  finds_again search (ForBlock cpu pages) None base e f = by_base base
-    where
-      by_base : (base : Option ℕ) → Leads c s (FindingAgain search (ForBlock cpu pages)) (found (ForBlock cpu pages) None base (without_space (ForBlock cpu pages)))
-      by_base None = AgainOther search _
-      by_base (Some base) = AgainOther search _
+  finds_again search (ForChunk chunk bytes align) (Some place) base e f = AgainNoGroups search chunk bytes align place e
+  finds_again search (ForArea k) None None e f = AgainNoArea search k
+  finds_again search (ForArea k) None (Some base) e f = AgainNoArea search k
+  finds_again search (ForBlock cpu pages) None None e f = AgainNoBlock search cpu pages
+  finds_again search (ForBlock cpu pages) None (Some base) e f = AgainNoBlock search cpu pages
 
   removes : (start serial : ℕ) (o : Option Area) → removed s ≡ o → Leads c s (Removing start serial) (after_remove o)
   removes start serial None e = NoArea start serial
