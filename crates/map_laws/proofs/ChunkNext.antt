@@ -1,23 +1,17 @@
 -- The places of which nothing is said as to chunks and their objects, and the sections that change no chunk but for its objects.
-use Rattle.std.proofs.Common.{Bool, List, None, Option, Some, [], ap, false, inl, inr, nat_lt, refl, suc, true, ℕ, ◌++◌, ◌∙◌, ◌∷◌, ◌≡◌}
-use Rattle.vm_model.specs.Blocks.{PartAt}
+use Rattle.std.proofs.Common.{Bool, false, refl, true, ℕ, ◌≡◌}
 use Rattle.vm_model.specs.Carried.{IsBeingPopulated}
-use Rattle.vm_model.specs.Events.{ForGroups, ForPages, Search, Section}
+use Rattle.vm_model.specs.Events.{Section}
 use Rattle.vm_model.specs.LegalHistory.{Meets}
-use Rattle.vm_model.specs.Next.{Answer, Go, Next, after_begin, after_collecting, after_cut, after_flush, after_fragments, after_remove, found, go_on, next, without_space}
-use Rattle.vm_model.specs.Parts.{after}
-use Rattle.vm_model.specs.Places.{Adding, AddingChunk, Aim, Ask, AskAdd, AskAddBlock, AskAddChunk, AskAtomic, AskBegin, AskDepopulate, AskDirty, AskDrop, AskFill, AskFilled, AskFlush, AskFragment, AskFree, AskGiveAlloc, AskGivePurge, AskMap, AskNextPage, AskNothing, AskPart, AskPlace, AskPopulate, AskRefuse, AskRemove, AskRetire, AskReturn, AskSearch, AskSettle, AskSettleObject, AskSettlePart, AskSpare, AskSum, AskTakeAlloc, AskTakePurge, AskTakeWaiting, AskUnlink, AskUnmap, AskUnplace, AskWait, AskZero, BeginningUnmap, Choosing, ChoosingAtomic, CuttingPart, Depopulating, Dropping, Filling, Finding, FindingAgain, ForArea, ForBlock, ForChunk, FreeingObject, GivingAlloc, LookingAtDirty, MappingArea, MappingPart, NextFill, NotingFilled, Place, Populating, PurgeCollecting, PurgeFlushing, PurgeFragmenting, PurgeGiving, Refusing, Removing, ReplyWith, Retiring, SearchAgain, SettlingArea, SettlingAtomic, SettlingGroups, SettlingObject, SettlingPart, SpareAgain, Sparing, Summing, Then, UnlinkingGroups, Unplacing, Waiting, Zeroing}
+use Rattle.vm_model.specs.Next.{Answer, Go, Next, next}
+use Rattle.vm_model.specs.Places.{AddingChunk, Ask, Choosing, ChoosingAtomic, Depopulating, Filling, NextFill, NotingFilled, Place, Populating, SettlingAtomic, SettlingGroups, SettlingObject, Sparing, UnlinkingGroups, Unplacing, Zeroing}
 use Rattle.vm_model.specs.PlainMap.{PlainMap}
-use Rattle.vm_model.specs.Setup.{Setup, cpus}
-use Rattle.vm_model.specs.Space.{hull}
-use Rattle.vm_model.specs.Told.{blocks_gone, carved, carved_base, had_frames, pages_waiting, part_told, removed, spans_taken, was_live, was_spent}
-use Rattle.vm_model.specs.declared.areas.Area.{Area}
-use Rattle.vm_model.specs.declared.areas.Span.{Span}
+use Rattle.vm_model.specs.Setup.{Setup}
 use Rattle.map_laws.proofs.Leads.{Leads, Stays, leads}
 use Rattle.map_laws.proofs.AskRows.{AskRow, Refused, ask_row}
 use Rattle.map_laws.proofs.ChunkFacts.{IsChunkAt}
 use Rattle.map_laws.proofs.ChunkRows.{asks_chunky, is_chunky}
-use Rattle.map_laws.proofs.Places.{OnNext, either_next}
+use Rattle.map_laws.proofs.Places.{OnNext}
 
 abbrev pub is_chunked : Place → Bool
 is_chunked (AddingChunk base chunk bytes align) = true

@@ -1,24 +1,19 @@
 -- The number that a caller's new chunk gets is the next one, up to its section.
-use Rattle.std.proofs.Common.{Bool, List, None, Option, Some, [], arith, false, inl, inr, nat_lt, refl, subst, suc, sym, true, ℕ, ◌++◌, ◌∙◌, ◌∷◌, ◌≡◌, ◌⊎◌}
-use Rattle.vm_model.specs.Blocks.{PartAt}
+use Rattle.std.proofs.Common.{Bool, None, Option, Some, arith, false, inl, inr, refl, subst, sym, true, ℕ, ◌∙◌, ◌≡◌, ◌⊎◌}
 use Rattle.vm_model.specs.Carried.{has_alloc, is_for_chunk, keeps_alloc}
-use Rattle.vm_model.specs.Chunks.{ObjectAt}
 use Rattle.vm_model.specs.Effects.{effect_as}
 use Rattle.vm_model.specs.Events.{AddChunk, Section}
 use Rattle.vm_model.specs.Legal.{IsLegalAs}
 use Rattle.vm_model.specs.LegalHistory.{Meets}
-use Rattle.vm_model.specs.Next.{Answer, Go, Next, after_atomic, after_begin, after_collecting, after_cut, after_flush, after_fragments, after_page, after_remove, after_spare, found, go_on, next, without_space}
-use Rattle.vm_model.specs.Places.{Adding, AddingChunk, Aim, BeginningUnmap, Choosing, ChoosingAtomic, CuttingPart, Dropping, Filling, Finding, FindingAgain, ForArea, ForBlock, ForChunk, FreeingObject, GivingAlloc, LookingAtDirty, MappingArea, MappingPart, NextFill, Place, Populating, PurgeCollecting, PurgeFlushing, PurgeFragmenting, PurgeGiving, PurgeReturning, PurgeTaking, PurgeUnlinking, PurgeWaiting, Refusing, Removing, ReplyWith, Retiring, SearchAgain, SettlingArea, SettlingAtomic, SettlingGroups, SettlingPart, SpareAgain, Sparing, Summing, Then, Waiting, ask}
+use Rattle.vm_model.specs.Next.{Answer, Go, Next, next}
+use Rattle.vm_model.specs.Places.{AddingChunk, Aim, Choosing, Finding, FindingAgain, ForArea, ForBlock, ForChunk, Place, PurgeCollecting, PurgeFlushing, PurgeFragmenting, PurgeGiving, PurgeReturning, PurgeTaking, PurgeUnlinking, PurgeWaiting, ReplyWith, SearchAgain, SettlingGroups, SpareAgain, Then, Waiting, ask}
 use Rattle.vm_model.specs.PlainMap.{PlainMap}
-use Rattle.vm_model.specs.Setup.{Setup, cpus}
-use Rattle.vm_model.specs.Space.{hull}
-use Rattle.vm_model.specs.Told.{blocks_gone, carved, carved_base, had_frames, page_told, pages_waiting, part_told, placed, removed, spans_taken, spare_told, was_live, was_spent}
-use Rattle.vm_model.specs.declared.areas.Area.{Area}
-use Rattle.vm_model.specs.declared.areas.Span.{Span}
+use Rattle.vm_model.specs.Setup.{Setup}
+use Rattle.vm_model.specs.Told.{placed}
 use Rattle.map_laws.proofs.Leads.{Leads, Stays, NoSpaceForChunk, Chose, ChoseNone, AddedChunk, AddedNone, leads}
 use Rattle.map_laws.proofs.ChunkFalls.{added}
 use Rattle.map_laws.proofs.Filling.{adds_nothing, asks_chunk}
-use Rattle.map_laws.proofs.Places.{OnNext, either_next}
+use Rattle.map_laws.proofs.Places.{OnNext}
 
 abbrev pub number_aim : Aim → Option ℕ
 number_aim (ForArea k) = None

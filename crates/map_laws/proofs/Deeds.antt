@@ -1,12 +1,12 @@
 -- What a section is for is known from the ask that it meets.
-use Rattle.std.proofs.Common.{◌≡◌, ◌≢◌, ℕ, ◌⊎◌, inl, inr, List, [], ◌∷◌, Option, refl, ap, sym, ◌∙◌, subst, ℤ}
+use Rattle.std.proofs.Common.{◌≡◌, ◌≢◌, ℕ, inl, inr, List, [], ◌∷◌, Option, refl, ap, sym, ◌∙◌, subst, ℤ}
 use Rattle.vm_model.specs.declared.areas.Span.{Span}
 use Rattle.vm_model.specs.declared.areas.Area.{Area}
 use Rattle.vm_model.specs.declared.calls.Reply.{Reply}
 use Rattle.vm_model.specs.Setup.{Setup}
 use Rattle.vm_model.specs.Chunks.{ObjectAt}
-use Rattle.vm_model.specs.Events.{Section, ForPages, ForGroups, Drop, Return, Remove, Unlink, TakeWaiting, Populate, Zero, AddWord, SumWords, SettleObject}
-use Rattle.vm_model.specs.Places.{Place, Zeroing, Adding, Summing, SettlingObject, SettlingAtomic, Dropping, Removing, PurgeUnlinking, UnlinkingBlock, UnlinkingGroups, PurgeCollecting, PurgeReturning, Populating, Then, Ask, AskNothing, AskRefuse, AskTakePurge, AskGivePurge, AskTakeAlloc, AskGiveAlloc, AskSearch, AskDrop, AskReturn, AskSettle, AskRemove, AskUnlink, AskWait, AskTakeWaiting, AskMap, AskPopulate, AskFill, AskUnmap, AskDepopulate, AskFlush, AskZero, AskAdd, AskSum, AskPlace, AskAddChunk, AskAtomic, AskSettleObject, AskUnplace, AskFree, AskSpare, AskNextPage, AskFilled, AskPart, AskAddBlock, AskSettlePart, AskBegin, AskRetire, AskFragment, AskDirty, ask, group_starts}
+use Rattle.vm_model.specs.Events.{Section, Drop, Return, Remove, Unlink, TakeWaiting, Populate, Zero, AddWord, SumWords, SettleObject}
+use Rattle.vm_model.specs.Places.{Place, Zeroing, Adding, Summing, SettlingObject, SettlingAtomic, Dropping, Removing, PurgeUnlinking, UnlinkingBlock, UnlinkingGroups, PurgeCollecting, PurgeReturning, Populating, Then, Ask, AskDrop, AskReturn, AskRemove, AskUnlink, AskTakeWaiting, AskPopulate, AskZero, AskAdd, AskSum, AskSettleObject, ask, group_starts}
 use Rattle.map_laws.proofs.AskRows.{AskRow, Refused, ask_row}
 use Rattle.vm_model.specs.LegalHistory.{Meets}
 

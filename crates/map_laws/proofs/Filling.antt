@@ -1,15 +1,10 @@
 -- What a caller that fills pages has to its credit, and that none but a balance has any.
-use Rattle.std.proofs.Common.{◌≡◌, ℕ, suc, ◌*◌, ◌-◌, inl, inr, Bool, true, false, nat_lt, List, [], ◌∷◌, ◌++◌, Option, Some, None, refl, ap, ◌∙◌}
-use Rattle.vm_model.specs.declared.areas.Span.{Span}
-use Rattle.vm_model.specs.declared.areas.Area.{Area}
-use Rattle.vm_model.specs.Setup.{Setup, cpus}
+use Rattle.std.proofs.Common.{◌≡◌, ℕ, ◌*◌, ◌-◌, Bool, true, false, List, refl}
+use Rattle.vm_model.specs.Setup.{Setup}
 use Rattle.vm_model.specs.PlainMap.{Chunk}
-use Rattle.vm_model.specs.Blocks.{PartAt}
-use Rattle.vm_model.specs.Chunks.{ObjectAt}
-use Rattle.vm_model.specs.Events.{Section, ForPages, ForGroups}
-use Rattle.vm_model.specs.Told.{carved, carved_base, had_frames, removed, pages_waiting, spans_taken, blocks_gone, part_told, was_spent, placed, was_live}
-use Rattle.vm_model.specs.Places.{Place, UnlinkingGroups, Depopulating, TakingToBalance, Summing, Adding, SettlingAtomic, Zeroing, GivingAlloc, Unplacing, SettlingObject, SettlingGroups, TakingAlloc, UnlinkingBlock, UnmappingPart, SettlingPart, AddingBlock, SettlingBlock, PurgeReturning, PurgeWaiting, PurgeUnlinking, PurgeTaking, UnmappingArea, SettlingArea, Dropping, Refusing, Over, Finding, FindingAgain, MappingArea, Removing, Waiting, PurgeFragmenting, PurgeCollecting, PurgeFlushing, PurgeGiving, CuttingPart, MappingPart, BeginningUnmap, Retiring, LookingAtDirty, Choosing, AddingChunk, Populating, ChoosingAtomic, FreeingObject, Sparing, NextFill, Filling, NotingFilled, Aim, ForArea, ForBlock, ForChunk, Then, SearchAgain, ReplyWith, SpareAgain, Ask, AskNothing, AskRefuse, AskTakePurge, AskGivePurge, AskTakeAlloc, AskGiveAlloc, AskSearch, AskDrop, AskReturn, AskSettle, AskRemove, AskUnlink, AskWait, AskTakeWaiting, AskMap, AskPopulate, AskFill, AskUnmap, AskDepopulate, AskFlush, AskZero, AskAdd, AskSum, AskPlace, AskAddChunk, AskAtomic, AskSettleObject, AskUnplace, AskFree, AskSpare, AskNextPage, AskFilled, AskPart, AskAddBlock, AskSettlePart, AskBegin, AskRetire, AskFragment, AskDirty}
-use Rattle.vm_model.specs.Next.{Next, Go, Answer, next, found, without_space, after_remove, go_on, after_fragments, after_collecting, after_flush, after_cut, after_begin, after_place, after_atomic}
+use Rattle.vm_model.specs.Events.{Section}
+use Rattle.vm_model.specs.Places.{Place, Filling, NotingFilled, Ask, AskAddChunk}
+use Rattle.vm_model.specs.Next.{Next, Go, Answer, next}
 use Rattle.vm_model.specs.LegalHistory.{Meets}
 use Rattle.map_laws.proofs.Places.{OnNext}
 use Rattle.map_laws.proofs.AskRows.{AskRow, AddedChunk, ask_row}

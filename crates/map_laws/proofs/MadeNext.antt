@@ -1,26 +1,20 @@
 -- Which sections make an object, and where a call begins that uses one.
 -- what a caller is about to answer with
-use Rattle.std.proofs.Common.{Bool, List, None, Option, Some, [], ap, false, if◌then◌else◌, inl, inr, length, nat_le, nat_lt, refl, slice_get, subst, suc, sym, true, zero, ℕ, ℤ, ◌++◌, ◌-◌, ◌∷◌, ◌≡◌, ◌≤◌}
-use Rattle.vm_model.specs.Blocks.{PartAt}
+use Rattle.std.proofs.Common.{Bool, List, None, Option, Some, [], ap, false, if◌then◌else◌, length, nat_le, refl, slice_get, subst, suc, sym, true, zero, ℕ, ℤ, ◌++◌, ◌-◌, ◌∷◌, ◌≡◌, ◌≤◌}
 use Rattle.vm_model.specs.Calls.{answers_in, begin, begin_add, begin_call, begin_free_area, begin_free_percpu, begin_sum, begin_unmap_ram, is_bad_map_size, is_bad_object_align, is_bad_object_size, is_bad_vmalloc_align, is_bad_vmalloc_size, made_in, target_of, was_freed}
 use Rattle.vm_model.specs.Chunks.{ObjectAt}
 use Rattle.vm_model.specs.Events.{FreeObject, Section}
 use Rattle.vm_model.specs.History.{Local}
 use Rattle.vm_model.specs.LegalHistory.{Meets}
-use Rattle.vm_model.specs.Next.{Answer, Go, Next, after_atomic, after_begin, after_collecting, after_cut, after_flush, after_fragments, after_page, after_place, after_remove, after_spare, found, go_on, next, without_space}
-use Rattle.vm_model.specs.Places.{Adding, AddingChunk, Aim, BeginningUnmap, Choosing, ChoosingAtomic, CuttingPart, Dropping, Filling, Finding, FindingAgain, ForArea, ForBlock, ForChunk, FreeingObject, GivingAlloc, LookingAtDirty, Made, MadeArea, MadeNothing, MadeObject, MadePart, MappingArea, MappingPart, NextFill, NotingFilled, Place, Populating, PurgeCollecting, PurgeFlushing, PurgeFragmenting, PurgeGiving, Refusing, Removing, ReplyWith, Retiring, SearchAgain, SettlingArea, SettlingAtomic, SettlingObject, SettlingPart, SpareAgain, Sparing, Summing, Then, Unplacing, Waiting, ask, Ask, AskFree}
+use Rattle.vm_model.specs.Next.{Answer, Go, Next, next}
+use Rattle.vm_model.specs.Places.{Adding, FreeingObject, GivingAlloc, Made, MadeArea, MadeNothing, MadeObject, MadePart, Place, SettlingAtomic, SettlingObject, Summing, ask, Ask, AskFree}
 use Rattle.vm_model.specs.Rules.{AreRuled, IsRuled}
-use Rattle.vm_model.specs.Setup.{Setup, cpus}
-use Rattle.vm_model.specs.Space.{hull}
-use Rattle.vm_model.specs.Told.{blocks_gone, carved, carved_base, had_frames, page_told, pages_waiting, part_told, placed, removed, spans_taken, spare_told, was_live, was_spent}
-use Rattle.vm_model.specs.declared.areas.Area.{Area}
-use Rattle.vm_model.specs.declared.areas.Span.{Span}
+use Rattle.vm_model.specs.Setup.{Setup}
 use Rattle.vm_model.specs.declared.calls.Call.{Call}
 use Rattle.vm_model.specs.declared.calls.Call.TheVariants.{Add, AllocAtomic, AllocPercpu, Balance, FreePercpu, MapRam, Sum, UnmapAliases, UnmapRam, Vfree, Vmalloc}
 use Rattle.vm_model.specs.declared.calls.Target.{Target}
 use Rattle.map_laws.proofs.Leads.{Leads, Stays, SettledObject, SettledAtomic, GaveAlloc, leads}
 use Rattle.map_laws.proofs.AskRows.{AskRow, Freed, ask_row}
-use Rattle.map_laws.proofs.ObjectMoves.{asks_objecty, given_unobjecty}
 use Rattle.map_laws.proofs.Places.{either_place}
 
 abbrev pub flight : Place → Made

@@ -6,11 +6,11 @@ use Rattle.vm_model.specs.Areas.{group_areas}
 use Rattle.vm_model.specs.Carried.{object_in_hand}
 use Rattle.vm_model.specs.Chunks.{ObjectAt, atomic_bits, atomic_fit, bit_list, chunks_numbered, is_live_object, new_chunk, object_bits, pages_of_object, plain_fit, unpopulated_pages, with_object}
 use Rattle.vm_model.specs.Effects.{effect_as}
-use Rattle.vm_model.specs.Events.{AddChunk, Depopulate, Enough, Fill, Filled, ForGroups, ForPages, FreeObject, NextPage, NoAtomic, NoFrames, NoPlace, NoSpare, ObjectNotLive, PlaceAtomic, PlaceObject, Populate, Search, Section, Settle, SettleObject, Spare, Unplace, Zero}
+use Rattle.vm_model.specs.Events.{AddChunk, Depopulate, Enough, Fill, Filled, FreeObject, NextPage, NoAtomic, NoFrames, NoPlace, NoSpare, ObjectNotLive, PlaceAtomic, PlaceObject, Populate, Section, Settle, SettleObject, Spare, Unplace, Zero}
 use Rattle.vm_model.specs.Legal.{IsLegalAs}
 use Rattle.vm_model.specs.LegalHistory.{Meets}
 use Rattle.vm_model.specs.Next.{Answer, Go, Next, next}
-use Rattle.vm_model.specs.Places.{AddingChunk, Ask, AskAdd, AskAddBlock, AskAddChunk, AskAtomic, AskBegin, AskDepopulate, AskDirty, AskDrop, AskFill, AskFilled, AskFlush, AskFragment, AskFree, AskGiveAlloc, AskGivePurge, AskMap, AskNextPage, AskNothing, AskPart, AskPlace, AskPopulate, AskRefuse, AskRemove, AskRetire, AskReturn, AskSearch, AskSettle, AskSettleObject, AskSettlePart, AskSpare, AskSum, AskTakeAlloc, AskTakePurge, AskTakeWaiting, AskUnlink, AskUnmap, AskUnplace, AskWait, AskZero, Choosing, ChoosingAtomic, Depopulating, Filling, FreeingObject, NextFill, NotingFilled, Place, Populating, SettlingAtomic, SettlingGroups, SettlingObject, Sparing, Unplacing, Zeroing, ask}
+use Rattle.vm_model.specs.Places.{AddingChunk, Ask, AskAddChunk, AskAtomic, AskFilled, AskFree, AskPlace, AskSettleObject, AskSpare, AskUnplace, Choosing, ChoosingAtomic, Depopulating, Filling, FreeingObject, NextFill, NotingFilled, Place, Populating, SettlingAtomic, SettlingGroups, SettlingObject, Sparing, Unplacing, Zeroing, ask}
 use Rattle.vm_model.specs.PlainMap.{Chunk, InHand, Life, Lives, Object, PlainMap, lives_as}
 use Rattle.vm_model.specs.Setup.{Setup, pages_in_units, unit_bits}
 use Rattle.vm_model.specs.Space.{covers, is_among, span, times}

@@ -1,22 +1,19 @@
 -- What is proper of a caller's place whatever the map is: searches are for what fits them, and objects aren't too large.
-use Rattle.std.proofs.Common.{◌≡◌, ℕ, zero, suc, inl, inr, ◌+◌, ◌*◌, ◌%◌, ◌<◌, ◌≤◌, max, Bool, true, false, nat_lt, nat_le, if◌then◌else◌, List, [], ◌∷◌, ◌++◌, slice_get, length, Option, Some, None, refl, ap, sym, ◌∙◌, subst, arith, ℤ, ◌-◌}
+use Rattle.std.proofs.Common.{◌≡◌, ℕ, zero, suc, inl, inr, ◌+◌, ◌*◌, ◌%◌, ◌<◌, ◌≤◌, max, Bool, true, false, nat_le, if◌then◌else◌, List, [], ◌∷◌, slice_get, length, Option, Some, None, refl, ap, sym, ◌∙◌, subst, arith, ℤ, ◌-◌}
 use Rattle.std.proofs.lemmas.Bool.Decides.{nat_tests}
-use Rattle.vm_model.specs.declared.areas.Span.{Span}
-use Rattle.vm_model.specs.declared.areas.Area.{Area}
 use Rattle.vm_model.specs.declared.areas.AreaKind.{AreaKind}
 use Rattle.vm_model.specs.declared.areas.AreaKind.TheVariants as kind
 use Rattle.vm_model.specs.declared.calls.Call.{Call}
 use Rattle.vm_model.specs.declared.calls.Call.TheVariants.{Vmalloc, Vfree, MapRam, UnmapRam, UnmapAliases, AllocPercpu, AllocAtomic, FreePercpu, Add, Sum, Balance}
 use Rattle.vm_model.specs.declared.calls.Reply.{Reply}
 use Rattle.vm_model.specs.declared.calls.Reply.TheVariants as reply
-use Rattle.vm_model.specs.Setup.{Setup, cpus, highest}
+use Rattle.vm_model.specs.Setup.{Setup, highest}
 use Rattle.vm_model.specs.PlainMap.{PlainMap, taken}
-use Rattle.vm_model.specs.Blocks.{PartAt}
 use Rattle.vm_model.specs.Chunks.{ObjectAt}
 use Rattle.vm_model.specs.Events.{Section, Search, ForPages, ForGroups}
-use Rattle.vm_model.specs.Told.{carved, carved_base, had_frames, removed, pages_waiting, spans_taken, blocks_gone, part_told, was_spent, placed, was_live, spare_told, page_told}
-use Rattle.vm_model.specs.Places.{Place, Over, Refusing, Adding, Summing, TakingToBalance, Finding, FindingAgain, MappingArea, SettlingArea, Removing, Waiting, PurgeTaking, PurgeFragmenting, PurgeUnlinking, PurgeWaiting, PurgeCollecting, PurgeFlushing, PurgeReturning, PurgeGiving, CuttingPart, AddingBlock, MappingPart, BeginningUnmap, Retiring, LookingAtDirty, SettlingBlock, TakingAlloc, Choosing, SettlingGroups, AddingChunk, Populating, ChoosingAtomic, FreeingObject, Sparing, NextFill, Filling, Made, MadeNothing, MadeArea, MadePart, MadeObject, Aim, ForArea, ForBlock, ForChunk, Then, SearchAgain, ReplyWith, SpareAgain, AskSearch, ask}
-use Rattle.vm_model.specs.Next.{Next, Go, Answer, next, found, without_space, after_remove, go_on, after_fragments, after_collecting, after_flush, after_cut, after_begin, after_place, after_atomic, after_spare, after_page}
+use Rattle.vm_model.specs.Told.{carved, carved_base}
+use Rattle.vm_model.specs.Places.{Place, Over, Refusing, Adding, Summing, TakingToBalance, Finding, FindingAgain, MappingArea, SettlingArea, Removing, Waiting, PurgeTaking, PurgeFragmenting, PurgeUnlinking, PurgeWaiting, PurgeCollecting, PurgeFlushing, PurgeReturning, PurgeGiving, CuttingPart, AddingBlock, BeginningUnmap, LookingAtDirty, SettlingBlock, TakingAlloc, Choosing, SettlingGroups, AddingChunk, ChoosingAtomic, FreeingObject, Made, MadeNothing, MadeArea, MadePart, MadeObject, Aim, ForArea, ForBlock, ForChunk, Then, SearchAgain, ReplyWith, SpareAgain, AskSearch, ask}
+use Rattle.vm_model.specs.Next.{Next, Go, Answer, next, found, without_space}
 use Rattle.vm_model.specs.Calls.{pages_for, align_pages, Answered, begin, begin_call, begin_alloc, begin_free_area, begin_unmap_ram, begin_free_percpu, begin_add, begin_sum, target_of, was_freed, answers_in, words_for, is_bad_vmalloc_size, is_bad_vmalloc_align, is_bad_map_size, is_bad_object_size, is_bad_object_align}
 use Rattle.vm_model.specs.Given.{given, carving, carving_groups}
 use Rattle.vm_model.specs.History.{World, Local, started, answered, answered_of, moved_to, opening_world, opening_answers, callers_from}

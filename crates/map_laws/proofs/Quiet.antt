@@ -1,21 +1,17 @@
 -- The places behind which nothing is held or flushed, and the sections that leave marks, frames, areas and what waits.
-use Rattle.std.proofs.Common.{◌≡◌, ℕ, suc, inl, inr, Bool, true, false, nat_lt, List, [], ◌∷◌, ◌++◌, length, Option, Some, None, refl, ap, ◌∙◌}
-use Rattle.vm_model.specs.declared.areas.Span.{Span}
-use Rattle.vm_model.specs.Setup.{Setup, cpus}
+use Rattle.std.proofs.Common.{◌≡◌, ℕ, Bool, true, false, length, refl, ◌∙◌}
+use Rattle.vm_model.specs.Setup.{Setup}
 use Rattle.vm_model.specs.PlainMap.{PlainMap}
-use Rattle.vm_model.specs.Blocks.{PartAt}
-use Rattle.vm_model.specs.Chunks.{ObjectAt}
 use Rattle.vm_model.specs.Events.{Section, Carve, CarveGroups, Drop, Return, Settle, Remove, Unlink, Wait, TakeWaiting, MapPages, Populate, Fill, Unmap, Depopulate, Flush}
-use Rattle.vm_model.specs.Told.{had_frames, pages_waiting, blocks_gone, part_told, was_spent, placed, was_live, spare_told, page_told}
-use Rattle.vm_model.specs.Places.{Place, UnlinkingGroups, Depopulating, TakingToBalance, Summing, Adding, SettlingAtomic, Zeroing, GivingAlloc, Unplacing, SettlingObject, SettlingGroups, TakingAlloc, UnlinkingBlock, UnmappingPart, SettlingPart, AddingBlock, SettlingBlock, PurgeReturning, PurgeWaiting, PurgeUnlinking, PurgeTaking, UnmappingArea, SettlingArea, Dropping, Refusing, Over, Finding, FindingAgain, MappingArea, Removing, Waiting, PurgeFragmenting, PurgeCollecting, PurgeFlushing, PurgeGiving, CuttingPart, MappingPart, BeginningUnmap, Retiring, LookingAtDirty, Choosing, AddingChunk, Populating, ChoosingAtomic, FreeingObject, Sparing, NextFill, Filling, NotingFilled, Then, SearchAgain, ReplyWith, SpareAgain, Ask, AskNothing, AskRefuse, AskTakePurge, AskGivePurge, AskTakeAlloc, AskGiveAlloc, AskSearch, AskDrop, AskReturn, AskSettle, AskRemove, AskUnlink, AskWait, AskTakeWaiting, AskMap, AskPopulate, AskFill, AskUnmap, AskDepopulate, AskFlush, AskZero, AskAdd, AskSum, AskPlace, AskAddChunk, AskAtomic, AskSettleObject, AskUnplace, AskFree, AskSpare, AskNextPage, AskFilled, AskPart, AskAddBlock, AskSettlePart, AskBegin, AskRetire, AskFragment, AskDirty}
-use Rattle.vm_model.specs.Next.{Next, next, go_on, after_fragments, after_cut, after_begin, after_place, after_atomic, after_spare, after_page}
+use Rattle.vm_model.specs.Places.{Place, UnlinkingGroups, UnlinkingBlock, PurgeUnlinking, UnmappingArea, Finding, FindingAgain, MappingArea, Removing, PurgeCollecting, PurgeFlushing, Ask, AskSearch, AskDrop, AskReturn, AskSettle, AskRemove, AskUnlink, AskWait, AskTakeWaiting, AskMap, AskPopulate, AskFill, AskUnmap, AskDepopulate}
+use Rattle.vm_model.specs.Next.{Next, next}
 use Rattle.vm_model.proofs.Paint.{length-paint_from}
 use Rattle.vm_model.specs.Space.{holds}
 use Rattle.vm_model.specs.LegalHistory.{Meets}
 use Rattle.vm_model.specs.Effects.{effect_as}
 use Rattle.map_laws.proofs.Leads.{Leads, Stays, leads}
 use Rattle.map_laws.proofs.AskRows.{AskRow, Refused, ask_row}
-use Rattle.map_laws.proofs.Places.{OnNext, either_next}
+use Rattle.map_laws.proofs.Places.{OnNext}
 use Rattle.map_laws.proofs.AreaFacts.{IsUnbearing}
 use Rattle.map_laws.proofs.Touched.{touch}
 

@@ -1,15 +1,13 @@
 -- An object has the bytes of the call that makes it.
-use Rattle.std.proofs.Common.{◌≡◌, ℕ, suc, ◌*◌, max, inl, inr, Bool, true, false, nat_lt, if◌then◌else◌, List, [], ◌∷◌, ◌++◌, Option, Some, None, refl, sym, ◌∙◌, subst}
-use Rattle.vm_model.specs.declared.areas.Span.{Span}
+use Rattle.std.proofs.Common.{◌≡◌, ℕ, ◌*◌, max, inl, inr, Bool, true, false, if◌then◌else◌, List, Option, Some, None, refl, sym, ◌∙◌, subst}
 use Rattle.vm_model.specs.declared.calls.Call.{Call}
 use Rattle.vm_model.specs.declared.calls.Call.TheVariants.{AllocPercpu, AllocAtomic}
 use Rattle.std.proofs.lemmas.Option.{same_Some}
 use Rattle.vm_model.specs.declared.calls.Reply.TheVariants as reply
-use Rattle.vm_model.specs.Setup.{Setup, cpus}
+use Rattle.vm_model.specs.Setup.{Setup}
 use Rattle.vm_model.specs.Events.{Section}
-use Rattle.vm_model.specs.Told.{carved, carved_base, had_frames, spans_taken, blocks_gone}
-use Rattle.vm_model.specs.Places.{Made, MadeObject, Aim, ForArea, ForBlock, ForChunk, Then, SearchAgain, ReplyWith, SpareAgain, Place, Refusing, Finding, FindingAgain, PurgeTaking, PurgeFragmenting, PurgeUnlinking, PurgeWaiting, PurgeCollecting, PurgeFlushing, PurgeReturning, PurgeGiving, TakingAlloc, Choosing, SettlingGroups, AddingChunk, Populating, SettlingObject, Unplacing, GivingAlloc, ChoosingAtomic, Zeroing, SettlingAtomic, ask}
-use Rattle.vm_model.specs.Next.{Next, Go, Answer, next, found, without_space, go_on, after_fragments, after_collecting, after_flush}
+use Rattle.vm_model.specs.Places.{Made, MadeObject, Aim, ForChunk, Then, SearchAgain, Place, Refusing, Finding, FindingAgain, PurgeTaking, PurgeFragmenting, PurgeUnlinking, PurgeWaiting, PurgeCollecting, PurgeFlushing, PurgeReturning, PurgeGiving, TakingAlloc, Choosing, SettlingGroups, AddingChunk, Populating, SettlingObject, Unplacing, GivingAlloc, ChoosingAtomic, Zeroing, SettlingAtomic, ask}
+use Rattle.vm_model.specs.Next.{Next, Go, Answer, next}
 use Rattle.vm_model.specs.Calls.{Answered, words_for, is_bad_object_size, is_bad_object_align, begin_call}
 use Rattle.map_laws.proofs.Leads.{Leads, Refused, leads}
 use Rattle.vm_model.specs.LegalHistory.{Meets}

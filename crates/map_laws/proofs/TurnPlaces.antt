@@ -1,20 +1,14 @@
 -- Which places have the two turns, before and after each section.
-use Rattle.std.proofs.Common.{◌≡◌, ℕ, suc, Bool, true, false, nat_lt, if◌then◌else◌, List, [], ◌∷◌, ◌++◌, Option, Some, None, refl, ap}
-use Rattle.vm_model.specs.declared.areas.Span.{Span}
-use Rattle.vm_model.specs.declared.areas.Area.{Area}
-use Rattle.vm_model.specs.declared.areas.AreaKind.{AreaKind}
-use Rattle.vm_model.specs.Setup.{Setup, cpus}
+use Rattle.std.proofs.Common.{◌≡◌, ℕ, Bool, true, false, Some, refl, ap}
+use Rattle.vm_model.specs.Setup.{Setup}
 use Rattle.vm_model.specs.PlainMap.{PlainMap}
-use Rattle.vm_model.specs.Blocks.{PartAt}
-use Rattle.vm_model.specs.Chunks.{ObjectAt}
-use Rattle.vm_model.specs.Events.{Section, Search, ForPages, ForGroups, TakePurge, GivePurge, TakeAlloc, GiveAlloc}
+use Rattle.vm_model.specs.Events.{Section, ForPages, ForGroups, TakePurge, GivePurge, TakeAlloc, GiveAlloc}
 use Rattle.vm_model.specs.Effects.{effect_as}
-use Rattle.vm_model.specs.Told.{carved, carved_base, had_frames, removed, pages_waiting, spans_taken, blocks_gone, part_told, was_spent, placed, was_live, spare_told, page_told}
-use Rattle.vm_model.specs.Places.{Place, Zeroing, Unplacing, UnmappingPart, UnmappingArea, UnlinkingGroups, UnlinkingBlock, Summing, SettlingPart, SettlingObject, SettlingGroups, SettlingBlock, SettlingAtomic, SettlingArea, Refusing, PurgeWaiting, PurgeUnlinking, PurgeReturning, Over, NotingFilled, Dropping, Depopulating, AddingBlock, Adding, Finding, FindingAgain, MappingArea, Removing, Waiting, PurgeTaking, PurgeFragmenting, PurgeCollecting, PurgeFlushing, PurgeGiving, CuttingPart, MappingPart, BeginningUnmap, Retiring, LookingAtDirty, TakingAlloc, Choosing, AddingChunk, Populating, GivingAlloc, ChoosingAtomic, FreeingObject, TakingToBalance, Sparing, NextFill, Filling, Aim, ForArea, ForBlock, ForChunk, Then, SearchAgain, ReplyWith, SpareAgain, AskSearch, ask}
-use Rattle.vm_model.specs.Next.{Next, Go, Answer, next, found, without_space, after_remove, go_on, after_fragments, after_collecting, after_flush, after_cut, after_begin, after_place, after_atomic, after_spare, after_page}
-use Rattle.vm_model.specs.Given.{given, taking}
-use Rattle.vm_model.specs.Carried.{has_purge, has_alloc, is_for_chunk, keeps_alloc}
-use Rattle.map_laws.proofs.Places.{IsAimed, IsProper, no_span}
+use Rattle.vm_model.specs.Places.{Place, PurgeTaking, PurgeGiving, TakingAlloc, GivingAlloc, TakingToBalance, Then, SearchAgain, ReplyWith, SpareAgain, ask}
+use Rattle.vm_model.specs.Next.{Next, Go, Answer, next, go_on}
+use Rattle.vm_model.specs.Given.{given}
+use Rattle.vm_model.specs.Carried.{has_purge, has_alloc, keeps_alloc}
+use Rattle.map_laws.proofs.Places.{IsProper, no_span}
 use Rattle.map_laws.proofs.GivenMeets.{taking_is}
 use Rattle.map_laws.proofs.Leads.{Leads, Refused, FoundNoGroups, AgainNoGroups, leads}
 use Rattle.map_laws.proofs.TurnSections.{asks_turn, no_turn, purge_stays, alloc_stays}

@@ -1,17 +1,12 @@
 -- Which sections leave the two turns as they are: all that ask for no turn.
-use Rattle.std.proofs.Common.{◌≡◌, ℕ, Bool, true, false, if◌then◌else◌, nat_lt, List, [], ◌∷◌, ◌++◌, length, Option, Some, None, refl, subst}
-use Rattle.vm_model.specs.declared.areas.Area.{Area}
-use Rattle.vm_model.specs.Space.{lowest}
-use Rattle.vm_model.specs.Setup.{Setup, highest, pages_in_units}
-use Rattle.vm_model.specs.PlainMap.{PlainMap, Chunk, taken}
-use Rattle.vm_model.specs.Areas.{named_areas}
-use Rattle.vm_model.specs.Frames.{free_frames}
-use Rattle.vm_model.specs.Blocks.{PartAt, part_to_cut, named_parts}
-use Rattle.vm_model.specs.Chunks.{ObjectAt, plain_fit, atomic_fit, placement, new_chunk, spare_chunk, page_to_fill, is_live_object}
-use Rattle.vm_model.specs.Events.{Section, Search, ForPages, ForGroups, TakePurge, GivePurge, TakeAlloc, GiveAlloc, MapPages, Populate, Fill, NoFrames}
+use Rattle.std.proofs.Common.{◌≡◌, ℕ, Bool, true, false, List, [], ◌∷◌, ◌++◌, Option, Some, None, refl, subst}
+use Rattle.vm_model.specs.Setup.{Setup}
+use Rattle.vm_model.specs.PlainMap.{PlainMap}
+use Rattle.vm_model.specs.Chunks.{ObjectAt, plain_fit, placement, new_chunk}
+use Rattle.vm_model.specs.Events.{Section, TakePurge, GivePurge, TakeAlloc, GiveAlloc}
 use Rattle.vm_model.specs.Effects.{effect_as}
-use Rattle.vm_model.specs.Places.{Ask, AskNothing, AskRefuse, AskTakePurge, AskGivePurge, AskTakeAlloc, AskGiveAlloc, AskSearch, AskDrop, AskReturn, AskSettle, AskRemove, AskUnlink, AskWait, AskTakeWaiting, AskMap, AskPopulate, AskFill, AskUnmap, AskDepopulate, AskFlush, AskZero, AskAdd, AskSum, AskPlace, AskAddChunk, AskAtomic, AskSettleObject, AskUnplace, AskFree, AskSpare, AskNextPage, AskFilled, AskPart, AskAddBlock, AskSettlePart, AskBegin, AskRetire, AskFragment, AskDirty}
-use Rattle.vm_model.specs.Given.{given, carving, carving_groups, searching, removal, with_frames, placing, placing_new, placing_atomic, freeing, sparing, filling, cutting, beginning}
+use Rattle.vm_model.specs.Places.{Ask, AskTakePurge, AskGivePurge, AskTakeAlloc, AskGiveAlloc, AskAddChunk}
+use Rattle.vm_model.specs.Given.{given, placing_new}
 use Rattle.map_laws.proofs.AskRows.{AskRow, Refused, ask_row}
 use Rattle.map_laws.proofs.GivenMeets.{given_meets}
 

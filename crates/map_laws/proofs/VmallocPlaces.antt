@@ -1,16 +1,15 @@
 -- A vmalloc call makes an area at a multiple of its alignment.
-use Rattle.std.proofs.Common.{◌≡◌, ℕ, zero, suc, ◌%◌, ◌<◌, inl, inr, Bool, true, false, nat_lt, if◌then◌else◌, List, [], ◌∷◌, ◌++◌, length, slice_get, Option, Some, None, refl, ap, sym, ◌∙◌, subst, arith, length-append}
-use Rattle.vm_model.specs.declared.areas.Span.{Span}
+use Rattle.std.proofs.Common.{◌≡◌, ℕ, zero, suc, ◌%◌, ◌<◌, inl, inr, List, [], ◌∷◌, ◌++◌, length, slice_get, Option, Some, None, refl, ap, sym, ◌∙◌, subst, arith, length-append}
 use Rattle.vm_model.specs.declared.areas.AreaKind.{AreaKind}
 use Rattle.vm_model.specs.declared.calls.Call.{Call}
-use Rattle.vm_model.specs.declared.calls.Call.TheVariants.{Vmalloc, Vfree, MapRam, UnmapRam, UnmapAliases, AllocPercpu, AllocAtomic, FreePercpu, Add, Sum, Balance}
-use Rattle.vm_model.specs.Space.{hull, lowest}
-use Rattle.vm_model.specs.Setup.{Setup, cpus}
+use Rattle.vm_model.specs.declared.calls.Call.TheVariants.{Vmalloc}
+use Rattle.vm_model.specs.Space.{lowest}
+use Rattle.vm_model.specs.Setup.{Setup}
 use Rattle.vm_model.specs.PlainMap.{PlainMap, taken}
 use Rattle.vm_model.specs.Events.{Section, Search, ForPages, ForGroups}
-use Rattle.vm_model.specs.Told.{carved, carved_base, had_frames, spans_taken, blocks_gone}
-use Rattle.vm_model.specs.Places.{Place, Refusing, Finding, FindingAgain, MappingArea, Dropping, SettlingArea, PurgeTaking, PurgeFragmenting, PurgeUnlinking, PurgeWaiting, PurgeCollecting, PurgeFlushing, PurgeReturning, PurgeGiving, Made, MadeNothing, MadeArea, MadePart, MadeObject, Aim, ForArea, ForBlock, ForChunk, Then, SearchAgain, ReplyWith, SpareAgain, AskSearch, ask}
-use Rattle.vm_model.specs.Next.{Next, Go, Answer, next, found, without_space, go_on, after_fragments, after_collecting, after_flush}
+use Rattle.vm_model.specs.Told.{carved, carved_base}
+use Rattle.vm_model.specs.Places.{Place, Refusing, Finding, FindingAgain, MappingArea, Dropping, SettlingArea, PurgeTaking, PurgeFragmenting, PurgeUnlinking, PurgeWaiting, PurgeCollecting, PurgeFlushing, PurgeReturning, PurgeGiving, Made, MadeNothing, MadeArea, MadePart, MadeObject, Aim, ForArea, ForBlock, ForChunk, Then, SearchAgain, AskSearch, ask}
+use Rattle.vm_model.specs.Next.{Next, Go, Answer, next, found, without_space}
 use Rattle.vm_model.specs.Calls.{Answered, begin, begin_call, align_pages, is_bad_vmalloc_size, is_bad_vmalloc_align}
 use Rattle.vm_model.specs.Given.{given, carving}
 use Rattle.vm_model.specs.History.{World, Local, started, answered, moved_to, opening_world, opening_answers, callers_from}

@@ -1,7 +1,6 @@
 -- Where a caller goes with pages that it carved, took or flushed.
 use Rattle.std.proofs.Common.{◌≡◌, ℕ, ◌<◌, inl, inr, Bool, true, false, List, [], ◌∷◌, ◌++◌, length, Option, Some, None, refl, ap, sym, ◌∙◌, subst, arith, option_to_list}
 use Rattle.vm_model.specs.declared.areas.Span.{Span}
-use Rattle.vm_model.specs.declared.areas.Area.{Area}
 use Rattle.vm_model.specs.declared.areas.AreaKind.{AreaKind}
 use Rattle.vm_model.specs.Space.{span, holds, covers}
 use Rattle.vm_model.specs.Setup.{Setup}
@@ -10,16 +9,14 @@ use Rattle.vm_model.specs.Areas.{mapped_part}
 use Rattle.vm_model.specs.Events.{Section, Event, Search, ForPages, ForGroups, Carve, CarveGroups, NoHole, TakeWaiting, Flush, Return, NoFrames}
 use Rattle.vm_model.specs.Legal.{IsMarked, IsUnmapped, IsBare, IsLegalAs}
 use Rattle.vm_model.specs.Effects.{effect_as}
-use Rattle.vm_model.specs.Told.{removed, carved, carved_base, had_frames, spans_taken}
+use Rattle.vm_model.specs.Told.{spans_taken}
 use Rattle.vm_model.specs.Carried.{flushed}
-use Rattle.vm_model.specs.Places.{Place, Finding, FindingAgain, MappingArea, Dropping, Removing, UnmappingArea, PurgeUnlinking, PurgeCollecting, PurgeFlushing, PurgeReturning, UnlinkingBlock, UnlinkingGroups, Aim, ForArea, ForBlock, ForChunk, Then, ask}
-use Rattle.vm_model.specs.Next.{Next, Go, Answer, next, found, with_span, with_base, without_space, after_remove, after_collecting, after_flush}
+use Rattle.vm_model.specs.Places.{Place, Finding, FindingAgain, MappingArea, PurgeCollecting, PurgeFlushing, PurgeReturning, Aim, ForArea, ForBlock, ForChunk, Then, ask}
+use Rattle.vm_model.specs.Next.{Next, Go, Answer, next, with_span, with_base, without_space, after_collecting, after_flush}
 use Rattle.vm_model.specs.LegalHistory.{Meets}
 use Rattle.vm_model.specs.Laws.{map_after}
 use Rattle.map_laws.proofs.Leads.{Leads, Stays, leads}
-use Rattle.map_laws.proofs.Places.{OnNext, either_next}
-use Rattle.map_laws.proofs.AreaFacts.{IsUnbearing, nothing_flushed}
-use Rattle.map_laws.proofs.Quiet.{unbearing_next}
+use Rattle.map_laws.proofs.Places.{OnNext}
 use Rattle.map_laws.proofs.Spans.{hull_is, covers_append}
 use Rattle.map_laws.proofs.Touched.{painted}
 use Rattle.map_laws.proofs.OrTests.{or_left}
