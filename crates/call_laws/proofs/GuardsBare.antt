@@ -30,7 +30,7 @@ use Rattle.map_laws.proofs.Chosen.{IsIn, filter_has}
 use Rattle.map_laws.proofs.Frames.{IsFramed, has_call, not_over}
 use Rattle.map_laws.proofs.Lists.{set_cases, append_cases}
 use Rattle.map_laws.proofs.OutMoves.{with_in}
-use Rattle.map_laws.proofs.Places.{IsPlainKind, IsProper, OnNext, HaveBeginnings, begins_with, either_next, answers_call}
+use Rattle.map_laws.proofs.Places.{IsPlainKind, IsProper, OnNext, HaveBeginnings, AtOver, begins_with, either_next, answers_call}
 use Rattle.map_laws.proofs.Spans.{covers_one, holds_from}
 use Rattle.map_laws.proofs.Touched.{unpainted, painted_still}
 use Rattle.map_laws.proofs.TraceWorlds.{IsTraceWorld, trace_first, trace_lasts, holding_here, proper_here}
@@ -86,21 +86,8 @@ HandClean m (UnmappingArea area) = OnGuard area.kind area.span (IsClean m) × (1
 HandClean m _ = Unit {0}
 
 clean_begins : (c : Setup) (m : PlainMap) → HaveBeginnings (HandClean m) c
-clean_begins c m = record {
-  over = tt;
-  refused = λ r. tt;
-  area = λ pages align k plain some. tt;
-  part = λ cpu pages e f. tt;
-  dirty = tt;
-  object = λ bytes align few. tt;
-  atomic = λ bytes align few. tt;
-  remove = λ start serial. tt;
-  unmap = λ cpu page serial. tt;
-  free = λ at serial. tt;
-  add = λ at serial cpu index amount. tt;
-  sum = λ at serial index. tt;
-  balance = tt;
-}
+clean_begins c m _ AtOver = tt
+clean_begins c m _ _ = tt
 
 -- Where a section leads.
 

@@ -18,29 +18,19 @@ use Rattle.vm_model.specs.Laws.{IsFreedAt, PagesWaitBeforeReuse}
 use Rattle.map_laws.specs.Waits.{FreedPagesHaveWaited}
 use Rattle.map_laws.proofs.Lists.{append_cases, append_first}
 use Rattle.map_laws.proofs.Frames.{IsFramed, not_over, has_call}
-use Rattle.map_laws.proofs.Places.{OnNext, HaveBeginnings, begins_with, moved_has}
+use Rattle.map_laws.proofs.Places.{OnNext, HaveBeginnings, Opens, AtOver, begins_with, moved_has}
 use Rattle.map_laws.proofs.AreaWorlds.{IsAreaWorld, IsLegalStep, IsLegallyLasting, legally_lasts}
 use Rattle.map_laws.proofs.TraceWorlds.{IsTraceWorld, trace_lasts, trace_first}
 use Rattle.map_laws.proofs.Stories.{map_at-end}
 use Rattle.map_laws.proofs.WaitStories.{IsStoried}
 use Rattle.map_laws.proofs.WaitWorlds.{Follows, Waiting, Taken, IsWaiting, IsWaitWorld, is_idle, idle_storied, idle_flushed, wait_section}
 
+idle_opens : (c : Setup) (p : Place) → Opens c p → is_idle p ≡ true
+idle_opens c _ AtOver = refl
+idle_opens c _ _ = refl
+
 idle_begins : (P : Place → Type 0) (c : Setup) → ((p : Place) → is_idle p ≡ true → P p) → HaveBeginnings P c
-idle_begins P c have = record {
-  over = have _ refl;
-  refused = λ r. have _ refl;
-  area = λ pages align k plain some. have _ refl;
-  part = λ cpu pages e f. have _ refl;
-  dirty = have _ refl;
-  object = λ bytes align few. have _ refl;
-  atomic = λ bytes align few. have _ refl;
-  remove = λ start serial. have _ refl;
-  unmap = λ cpu page serial. have _ refl;
-  free = λ at serial. have _ refl;
-  add = λ at serial cpu index amount. have _ refl;
-  sum = λ at serial index. have _ refl;
-  balance = have _ refl;
-}
+idle_begins P c have p opens = have p (idle_opens c p opens)
 
 pub record IsWaitedWorld (c : Setup) (first : PlainMap) (w : World) : Type 0 where
   pub traced : IsTraceWorld c w
