@@ -1,6 +1,6 @@
 use Rattle.std.proofs.Common.{◌≡◌, max, drop}
 use Rattle.vm_model.specs.Space.{longest_of}
-use Rattle.kernel_steps.proofs.kernel.plain_largest.Given as goal
+use Rattle.kernel_steps.proofs.tables.plain_largest.Given as goal
 
 -- so many pages, or those of the largest that is left
 abbrev pub invariant-loop-block : goal.invariant-loop-block

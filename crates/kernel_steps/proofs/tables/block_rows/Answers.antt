@@ -3,7 +3,7 @@ use Rattle.std.proofs.lemmas.Grind.{common_steps}
 use Rattle.std.proofs.lemmas.List.Elements.{All-get_or}
 use Rattle.kernel_steps.specs.Kernels.{IsOfBlocks}
 use Rattle.kernel_steps.proofs.BlockTables.{block_tables_told}
-use Rattle.kernel_steps.proofs.kernel.block_rows.Goals as goal
+use Rattle.kernel_steps.proofs.tables.block_rows.Goals as goal
 
 pub blocks-requires : goal.blocks-requires
 blocks-requires c = subst IsOfBlocks (sym c.region-item.is) (All-get_or IsOfBlocks c.args.regions.now c.loop-region.region-index c.region-item.result c.loop-region-test.true c.requires)

@@ -1,7 +1,7 @@
 use Rattle.std.proofs.Common.{rules}
 use Rattle.vm_model.specs.declared.areas.Span.{Span}
 use Rattle.kernel_steps.proofs.Sorted.{sorted_by_key_is}
-use Rattle.kernel_steps.proofs.kernel.waiting_spans.Goals as goal
+use Rattle.kernel_steps.proofs.tables.waiting_spans.Goals as goal
 
 pub returns : goal.returns
 returns c =

@@ -1,7 +1,7 @@
 use Rattle.std.proofs.Common.{◌∙◌, ◌++◌, ◌∷◌, [], sym, ap, arith, add-one, take}
 use Rattle.std.proofs.lemmas.List.{take_all}
 use Rattle.callers.proofs.AnswersGiven.{take_one}
-use Rattle.kernel_steps.proofs.kernel.free_blocks.Goals as goal
+use Rattle.kernel_steps.proofs.tables.free_blocks.Goals as goal
 
 pub loop-index-preserved : goal.loop-index-preserved
 loop-index-preserved c =
