@@ -1,5 +1,5 @@
 -- The guards of live areas, and of those that callers have in hand, are unmapped and not stale.
-use Rattle.std.proofs.Common.{◌≡◌, ℕ, zero, suc, ◌-◌, ◌≤◌, inl, inr, Bool, true, false, nat_lt, List, [], ◌∷◌, ◌++◌, length, slice_get, Option, Some, None, refl, ap, sym, ◌∙◌, subst, arith}
+use Rattle.std.proofs.Common.{◌≡◌, ℕ, zero, suc, ◌-◌, ◌≤◌, inl, inr, Bool, true, false, List, [], ◌∷◌, length, slice_get, Some, refl, ap, sym, ◌∙◌, subst, arith}
 use Rattle.std.proofs.lemmas.Option.{same_Some}
 use Rattle.vm_model.specs.declared.calls.Call.{Call}
 use Rattle.vm_model.specs.declared.areas.Span.{Span}
@@ -7,18 +7,16 @@ use Rattle.vm_model.specs.declared.areas.Area.{Area}
 use Rattle.vm_model.specs.declared.areas.AreaKind.{AreaKind}
 use Rattle.vm_model.specs.declared.areas.AreaKind.TheVariants as kind
 use Rattle.vm_model.specs.Space.{end_of, holds, covers, is_among}
-use Rattle.vm_model.specs.Setup.{Setup, cpus, groups_at, pages_in_units}
+use Rattle.vm_model.specs.Setup.{Setup, groups_at, pages_in_units}
 use Rattle.vm_model.specs.PlainMap.{PlainMap}
 use Rattle.vm_model.specs.Areas.{areas_of, group_kinds, group_areas, is_area, named_areas}
-use Rattle.vm_model.specs.Blocks.{PartAt}
-use Rattle.vm_model.specs.Chunks.{ObjectAt}
 use Rattle.vm_model.specs.Events.{Section, Settle, Unmap, Depopulate, Flush}
 use Rattle.vm_model.specs.Legal.{IsLegalAs, IsBare, IsUnmapped, IsMapped}
 use Rattle.vm_model.specs.Effects.{effect_as}
-use Rattle.vm_model.specs.Told.{carved, carved_base, had_frames, removed, pages_waiting, spans_taken, blocks_gone, part_told, was_spent, placed, was_live, spare_told, page_told}
+use Rattle.vm_model.specs.Told.{removed}
 use Rattle.vm_model.specs.Given.{given, removal}
-use Rattle.vm_model.specs.Places.{Aim, ForArea, ForBlock, ForChunk, Then, SearchAgain, ReplyWith, SpareAgain, Place, Finding, FindingAgain, MappingArea, Dropping, SettlingArea, Removing, UnmappingArea, Waiting, PurgeFragmenting, PurgeCollecting, PurgeFlushing, PurgeGiving, CuttingPart, SettlingBlock, MappingPart, BeginningUnmap, Retiring, LookingAtDirty, Choosing, SettlingGroups, AddingChunk, Populating, ChoosingAtomic, FreeingObject, Sparing, NextFill, Filling, ask}
-use Rattle.vm_model.specs.Next.{Next, Go, Answer, next, found, without_space, after_remove, go_on, after_fragments, after_collecting, after_flush, after_cut, after_begin, after_place, after_atomic, after_spare, after_page}
+use Rattle.vm_model.specs.Places.{Place, MappingArea, Dropping, SettlingArea, UnmappingArea, SettlingBlock, SettlingGroups, ask}
+use Rattle.vm_model.specs.Next.{Next, Go, Answer, next}
 use Rattle.vm_model.specs.Calls.{Answered}
 use Rattle.vm_model.specs.History.{World, Local, started, moved_to, made_by, opening_world, opening_answers, callers_from}
 use Rattle.vm_model.specs.LegalHistory.{Meets}
@@ -30,7 +28,8 @@ use Rattle.map_laws.proofs.Chosen.{IsIn, filter_has}
 use Rattle.map_laws.proofs.Frames.{IsFramed, has_call, not_over}
 use Rattle.map_laws.proofs.Lists.{set_cases, append_cases}
 use Rattle.map_laws.proofs.OutMoves.{with_in}
-use Rattle.map_laws.proofs.Places.{IsPlainKind, IsProper, OnNext, HaveBeginnings, AtOver, begins_with, either_next, answers_call}
+use Rattle.map_laws.proofs.Places.{IsPlainKind, IsProper, OnNext, HaveBeginnings, AtOver, begins_with, answers_call}
+use Rattle.map_laws.proofs.PlaceRows.{PlaceRow, Mapped, Removed, place_row}
 use Rattle.map_laws.proofs.Spans.{covers_one, holds_from}
 use Rattle.map_laws.proofs.Touched.{unpainted, painted_still}
 use Rattle.map_laws.proofs.TraceWorlds.{IsTraceWorld, trace_first, trace_lasts, holding_here, proper_here}
@@ -91,94 +90,19 @@ clean_begins c m _ _ = tt
 
 -- Where a section leads.
 
-module _ (n : PlainMap) where
-  abbrev Leads : Next → Type 0
-  Leads = OnNext (HandClean n)
+clean_row : (n : PlainMap) (c : Setup) (m : PlainMap) (s : Section) (p : Place) (to : Next) → PlaceRow c s p to → given c m (ask c p) ≡ Some s
+    → ((place : Span) (k : AreaKind) → p ≡ MappingArea place k → OnGuard k place (IsClean n)) → ((area : Area) → IsIn area m.areas → OnGuard area.kind area.span (IsClean n) × (1 ≤ area.span.pages)) → OnNext (HandClean n) to
+clean_row n c m s _ _ (Mapped place k had) e mapping live = mapping place k refl
+clean_row n c m s _ _ (Removed start serial area told) e mapping live = live area (by_list (named_areas start serial m.areas) refl (ap removed (same_Some _ _ e) ∙ told))
+  where
+    by_list : (list : List Area) → named_areas start serial m.areas ≡ list → removed (removal start serial list) ≡ Some area → IsIn area m.areas
+    by_list [] f h = cc
+    by_list (a ∷ list) f h = (filter_has (is_area start serial) m.areas 0 area (ap (λ l. slice_get l 0) f ∙ h)).there
+clean_row n c m s _ _ _ e mapping live = cc
 
-  found_clean : (aim : Aim) (s : Option Span) (base : Option ℕ) (otherwise : Next) → Leads otherwise → Leads (found aim s base otherwise)
-  found_clean (ForArea k) (Some s) base otherwise q = tt
-  found_clean (ForBlock cpu pages) (Some s) base otherwise q = tt
-  found_clean (ForChunk chunk bytes align) (Some s) base otherwise q = tt
-  found_clean (ForArea k) None (Some base) otherwise q = tt
-  found_clean (ForBlock cpu pages) None (Some base) otherwise q = tt
-  found_clean (ForChunk chunk bytes align) None (Some base) otherwise q = tt
-  found_clean aim None None otherwise q = q
-
-  no_space_clean : (aim : Aim) → Leads (without_space aim)
-  no_space_clean (ForArea k) = tt
-  no_space_clean (ForBlock cpu asked) = tt
-  no_space_clean (ForChunk chunk bytes to) = tt
-
-  went_on_clean : (after : Then) → Leads (go_on after)
-  went_on_clean (SearchAgain search aim) = tt
-  went_on_clean (ReplyWith reply) = tt
-  went_on_clean SpareAgain = tt
-
-  fragments_clean : (gone : List ℕ) (extra : Option Span) (after : Then) → HandClean n (after_fragments gone extra after)
-  fragments_clean [] extra after = tt
-  fragments_clean (start ∷ gone) extra after = tt
-
-  collected_clean : (waited : List Span) (o : Option Span) (after : Then) → Leads (after_collecting waited o after)
-  collected_clean waited None after = tt
-  collected_clean waited (Some s) after = tt
-
-  flushed_clean : (waited : List Span) (after : Then) → Leads (after_flush waited after)
-  flushed_clean [] after = tt
-  flushed_clean (s ∷ waited) after = tt
-
-  cut_clean : (c : Setup) (cpu pages : ℕ) (o : Option PartAt) → Leads (after_cut c cpu pages o)
-  cut_clean c cpu pages None = tt
-  cut_clean c cpu pages (Some at) = tt
-
-  begun_clean : (o : Option PartAt) → Leads (after_begin o)
-  begun_clean None = tt
-  begun_clean (Some at) = tt
-
-  place_clean : (bytes align number : ℕ) (o : Option (ObjectAt × List ℕ)) → Leads (after_place bytes align number o)
-  place_clean bytes align number None = tt
-  place_clean bytes align number (Some p) = tt
-
-  atomic_clean : (o : Option (ObjectAt × List ℕ)) → Leads (after_atomic o)
-  atomic_clean None = tt
-  atomic_clean (Some p) = tt
-
-  spared_clean : (o : Option (ℕ × List ℕ)) → Leads (after_spare o)
-  spared_clean None = tt
-  spared_clean (Some p) = tt
-
-  page_clean : (filled : ℕ) (o : Option (ℕ × ℕ × ℕ)) → Leads (after_page filled o)
-  page_clean filled None = tt
-  page_clean filled (Some p) = tt
-
-  clean_next : (c : Setup) (m : PlainMap) (p : Place) (s : Section) → given c m (ask c p) ≡ Some s
-      → ((place : Span) (k : AreaKind) → p ≡ MappingArea place k → OnGuard k place (IsClean n)) → ((area : Area) → IsIn area m.areas → OnGuard area.kind area.span (IsClean n) × (1 ≤ area.span.pages)) → Leads (next c p s)
-  clean_next c m (Finding search aim) s e mapping live = found_clean aim (carved s) (carved_base s) _ tt
-  clean_next c m (FindingAgain search aim) s e mapping live = found_clean aim (carved s) (carved_base s) _ (no_space_clean aim)
-  clean_next c m (MappingArea place k) s e mapping live = either_next (HandClean n) (had_frames s) _ _ (mapping place k refl) tt
-  clean_next c m (Removing start serial) s e mapping live = subst (λ x. Leads (after_remove (removed x))) (same_Some _ _ e) (by_list (named_areas start serial m.areas) refl)
-    where
-      by_list : (list : List Area) → named_areas start serial m.areas ≡ list → Leads (after_remove (removed (removal start serial list)))
-      by_list [] f = tt
-      by_list (area ∷ list) f = live area (filter_has (is_area start serial) m.areas 0 area (ap (λ l. slice_get l 0) f)).there
-  clean_next c m (Waiting spans after) s e mapping live = either_next (HandClean n) (nat_lt c.lazy (pages_waiting s)) _ _ tt (went_on_clean after)
-  clean_next c m (PurgeFragmenting cpu gone extra after) s e mapping live = either_next (HandClean n) (nat_lt (suc cpu) (cpus c)) _ _ tt (fragments_clean (gone ++ blocks_gone s) extra after)
-  clean_next c m (PurgeCollecting extra after) s e mapping live = collected_clean (spans_taken s) _ after
-  clean_next c m (PurgeFlushing hull waited after) s e mapping live = flushed_clean waited after
-  clean_next c m (PurgeGiving after) s e mapping live = went_on_clean after
-  clean_next c m (CuttingPart cpu pages) s e mapping live = cut_clean c cpu pages (part_told s)
-  clean_next c m (MappingPart at) s e mapping live = either_next (HandClean n) (had_frames s) _ _ tt tt
-  clean_next c m (BeginningUnmap cpu page serial) s e mapping live = begun_clean (part_told s)
-  clean_next c m (Retiring at reply) s e mapping live = either_next (HandClean n) (was_spent s) _ _ tt tt
-  clean_next c m (LookingAtDirty cpu ranges) s e mapping live = either_next (HandClean n) (nat_lt (suc cpu) (cpus c)) _ _ tt tt
-  clean_next c m (Choosing bytes align) s e mapping live = place_clean bytes align _ (placed s)
-  clean_next c m (AddingChunk base chunk bytes align) s e mapping live = place_clean bytes align 0 (placed s)
-  clean_next c m (Populating at missing) s e mapping live = either_next (HandClean n) (had_frames s) _ _ tt tt
-  clean_next c m (ChoosingAtomic bytes align) s e mapping live = atomic_clean (placed s)
-  clean_next c m (FreeingObject at serial) s e mapping live = either_next (HandClean n) (was_live s) _ _ tt tt
-  clean_next c m Sparing s e mapping live = spared_clean (spare_told s)
-  clean_next c m (NextFill filled) s e mapping live = page_clean filled (page_told s)
-  clean_next c m (Filling chunk base page filled) s e mapping live = either_next (HandClean n) (had_frames s) _ _ tt tt
-  clean_next c m _ s e mapping live = tt
+clean_next : (n : PlainMap) (c : Setup) (m : PlainMap) (p : Place) (s : Section) → given c m (ask c p) ≡ Some s
+    → ((place : Span) (k : AreaKind) → p ≡ MappingArea place k → OnGuard k place (IsClean n)) → ((area : Area) → IsIn area m.areas → OnGuard area.kind area.span (IsClean n) × (1 ≤ area.span.pages)) → OnNext (HandClean n) (next c p s)
+clean_next n c m p s e mapping live = clean_row n c m s p (next c p s) (place_row c s p) e mapping live
 
 -- In every world.
 

@@ -17,7 +17,7 @@ use Rattle.vm_model.specs.declared.areas.AreaKind.{AreaKind}
 use Rattle.vm_model.specs.declared.areas.Span.{Span}
 use Rattle.vm_model.specs.LegalHistory.{Meets}
 use Rattle.map_laws.proofs.AskRows.{AskRow, Refused, ask_row}
-use Rattle.map_laws.proofs.Leads.{Leads, Stays, leads}
+use Rattle.map_laws.proofs.PlaceRows.{PlaceRow, Stays, place_row}
 use Rattle.map_laws.proofs.Touched.{painted_still}
 use Rattle.map_laws.proofs.AreaFacts.{IsHolding, IsMapFine, own_uses}
 use Rattle.map_laws.proofs.BlockFacts.{IsBlockArea, IsBlockAt, IsBlockFine, IsPartIn, IsStill, block_out, block_starts, count_cons, counted_block, not_among, to_same}
@@ -86,12 +86,12 @@ leads_blocky (UnmappingPart at) = true
 leads_blocky (Retiring at reply) = true
 leads_blocky _ = false
 
-unblocky_row : (c : Setup) (s : Section) (p : Place) (n : Next) → Leads c s p n → leads_blocky p ≡ false → OnNext IsUnblocky n
+unblocky_row : (c : Setup) (s : Section) (p : Place) (n : Next) → PlaceRow c s p n → leads_blocky p ≡ false → OnNext IsUnblocky n
 unblocky_row c s _ _ Stays h = refl
 unblocky_row c s _ _ _ h = cc
 
 pub unblocky_next : (c : Setup) (p : Place) (s : Section) → leads_blocky p ≡ false → OnNext IsUnblocky (next c p s)
-unblocky_next c p s h = unblocky_row c s p (next c p s) (leads c s p) h
+unblocky_next c p s h = unblocky_row c s p (next c p s) (place_row c s p) h
 
 -- sections that leave blocks, areas and frames
 abbrev pub is_still : Section → Bool

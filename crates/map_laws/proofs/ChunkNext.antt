@@ -7,7 +7,7 @@ use Rattle.vm_model.specs.Next.{Answer, Go, Next, next}
 use Rattle.vm_model.specs.Places.{AddingChunk, Ask, Choosing, ChoosingAtomic, Depopulating, Filling, NextFill, NotingFilled, Place, Populating, SettlingAtomic, SettlingGroups, SettlingObject, Sparing, UnlinkingGroups, Unplacing, Zeroing}
 use Rattle.vm_model.specs.PlainMap.{PlainMap}
 use Rattle.vm_model.specs.Setup.{Setup}
-use Rattle.map_laws.proofs.Leads.{Leads, Stays, leads}
+use Rattle.map_laws.proofs.PlaceRows.{PlaceRow, Stays, place_row}
 use Rattle.map_laws.proofs.AskRows.{AskRow, Refused, ask_row}
 use Rattle.map_laws.proofs.ChunkFacts.{IsChunkAt}
 use Rattle.map_laws.proofs.ChunkRows.{asks_chunky, is_chunky}
@@ -67,12 +67,12 @@ leads_chunked _ = false
 
 module _ (c : Setup) where
   -- no other section leads there
-  unchunked_row : (s : Section) (p : Place) (n : Next) → Leads c s p n → leads_chunked p ≡ false → OnNext IsUnchunked n
+  unchunked_row : (s : Section) (p : Place) (n : Next) → PlaceRow c s p n → leads_chunked p ≡ false → OnNext IsUnchunked n
   unchunked_row s _ _ Stays h = refl
   unchunked_row s _ _ _ h = cc
 
   pub leads_unchunked : (p : Place) (s : Section) → leads_chunked p ≡ false → OnNext IsUnchunked (next c p s)
-  leads_unchunked p s h = unchunked_row s p (next c p s) (leads c s p) h
+  leads_unchunked p s h = unchunked_row s p (next c p s) (place_row c s p) h
 
   -- a section that meets such an ask
   plain_row : (a : Ask) (s : Section) → AskRow c a s → asks_chunky a ≡ false → is_chunky s ≡ false

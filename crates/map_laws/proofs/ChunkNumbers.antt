@@ -10,7 +10,7 @@ use Rattle.vm_model.specs.Places.{AddingChunk, Aim, Choosing, Finding, FindingAg
 use Rattle.vm_model.specs.PlainMap.{PlainMap}
 use Rattle.vm_model.specs.Setup.{Setup}
 use Rattle.vm_model.specs.Told.{placed}
-use Rattle.map_laws.proofs.Leads.{Leads, Stays, NoSpaceForChunk, Chose, ChoseNone, AddedChunk, AddedNone, leads}
+use Rattle.map_laws.proofs.PlaceRows.{PlaceRow, Stays, NoSpaceForChunk, Chose, ChoseNone, AddedChunk, AddedNone, place_row}
 use Rattle.map_laws.proofs.ChunkFalls.{added}
 use Rattle.map_laws.proofs.Filling.{adds_nothing, asks_chunk}
 use Rattle.map_laws.proofs.Places.{OnNext}
@@ -83,7 +83,7 @@ module _ (c : Setup) where
   is_choosing _ = false
 
   -- a section elsewhere leads to no other number
-  number_row : (s : Section) (p : Place) (n : Next) → Leads c s p n → is_choosing p ≡ false → OnNext (HasNumber (chunk_number p)) n
+  number_row : (s : Section) (p : Place) (n : Next) → PlaceRow c s p n → is_choosing p ≡ false → OnNext (HasNumber (chunk_number p)) n
   number_row s _ _ Stays h = λ number e. e
   number_row s _ _ (NoSpaceForChunk search chunk bytes align) h = λ number e. cc
   number_row s _ _ (Chose bytes align at missing placed) h = cc
@@ -93,7 +93,7 @@ module _ (c : Setup) where
   number_row s _ _ _ h = search
 
   pub number_next : (p : Place) (s : Section) → is_choosing p ≡ false → OnNext (HasNumber (chunk_number p)) (next c p s)
-  number_next p s h = number_row s p (next c p s) (leads c s p) h
+  number_next p s h = number_row s p (next c p s) (place_row c s p) h
 
   module _ (m : PlainMap) (k : ℕ) where
     -- no other section gives a chunk a number

@@ -8,7 +8,7 @@ use Rattle.vm_model.specs.Next.{Next, Go, Answer, next}
 use Rattle.vm_model.specs.LegalHistory.{Meets}
 use Rattle.map_laws.proofs.Places.{OnNext}
 use Rattle.map_laws.proofs.AskRows.{AskRow, AddedChunk, ask_row}
-use Rattle.map_laws.proofs.Leads.{Leads, Stays, leads}
+use Rattle.map_laws.proofs.PlaceRows.{PlaceRow, Stays, place_row}
 use Rattle.map_laws.proofs.ChunkFalls.{added, opens}
 use Rattle.map_laws.proofs.Left.{is_balancing}
 
@@ -44,13 +44,13 @@ no_credit_next chunks (Go p) h = no_credit chunks p h
 no_credit_next chunks (Answer reply made) h = refl
 
 -- no other section leads to a filling
-no_filling_row : (c : Setup) (s : Section) (p : Place) (n : Next) → Leads c s p n → is_balancing p ≡ false → OnNext IsNoFilling n
+no_filling_row : (c : Setup) (s : Section) (p : Place) (n : Next) → PlaceRow c s p n → is_balancing p ≡ false → OnNext IsNoFilling n
 no_filling_row c s _ _ Stays h = cc
 no_filling_row c s _ _ _ h = cc
 
 module _ (c : Setup) where
   pub no_filling_next : (p : Place) (s : Section) → is_balancing p ≡ false → OnNext IsNoFilling (next c p s)
-  no_filling_next p s h = no_filling_row c s p (next c p s) (leads c s p) h
+  no_filling_next p s h = no_filling_row c s p (next c p s) (place_row c s p) h
 
   -- only where a chunk is added does a section add to the chunks
   added_row : (a : Ask) (s : Section) → AskRow c a s → asks_chunk a ≡ false → added c s ≡ 0

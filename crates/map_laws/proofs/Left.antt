@@ -9,7 +9,7 @@ use Rattle.vm_model.specs.Told.{placed}
 use Rattle.vm_model.specs.Places.{Place, Over, Refusing, Finding, FindingAgain, MappingArea, Dropping, SettlingArea, Removing, UnmappingArea, Waiting, PurgeTaking, PurgeFragmenting, PurgeUnlinking, PurgeWaiting, PurgeCollecting, PurgeFlushing, PurgeReturning, PurgeGiving, CuttingPart, SettlingBlock, AddingBlock, MappingPart, SettlingPart, BeginningUnmap, UnmappingPart, Retiring, UnlinkingBlock, LookingAtDirty, TakingAlloc, Choosing, SettlingGroups, AddingChunk, Populating, SettlingObject, Unplacing, GivingAlloc, ChoosingAtomic, Zeroing, SettlingAtomic, FreeingObject, Adding, Summing, TakingToBalance, Sparing, Depopulating, UnlinkingGroups, NextFill, Filling, NotingFilled, Aim, ForArea, ForBlock, ForChunk, Then, SearchAgain, ReplyWith, SpareAgain, AskAddChunk, ask}
 use Rattle.vm_model.specs.Next.{Next, Go, Answer, next, after_place}
 use Rattle.vm_model.specs.Given.{given, placing_new}
-use Rattle.map_laws.proofs.Leads.{Leads, Stays, FragmentedMore, LookedMore, leads}
+use Rattle.map_laws.proofs.PlaceRows.{PlaceRow, Stays, FragmentedMore, LookedMore, place_row}
 use Rattle.map_laws.proofs.Places.{IsProper}
 use Rattle.map_laws.proofs.ChunkFalls.{added}
 use Rattle.map_laws.proofs.ChunkRoom.{new_chunk_has_room}
@@ -115,7 +115,7 @@ module _ (c : Setup) where
         let is : placing_new chunk base bytes align (placement c (plain_fit c bytes align) bytes (m.chunks ++ new_chunk c chunk base ∷ [])) ≡ s = cc in
         subst (λ (x : Section). left_next c (after_place bytes align 0 (placed x)) + added c x < 4 + chunk_cost c) is (added_left chunk base bytes align _ room.0 room.1)
 
-    fall_row : (s : Section) (p : Place) (n : Next) → Leads c s p n → is_balancing p ≡ false → adds_chunk p ≡ false → given c m (ask c p) ≡ Some s → left_next c n < left c p
+    fall_row : (s : Section) (p : Place) (n : Next) → PlaceRow c s p n → is_balancing p ≡ false → adds_chunk p ≡ false → given c m (ask c p) ≡ Some s → left_next c n < left c p
     fall_row s _ _ Stays b a e = cc
     fall_row s _ _ (FragmentedMore cpu gone extra after f) b a e = let more : suc cpu < cpus c = grind (arith, nat_tests) in omega arith
     fall_row s _ _ (LookedMore cpu ranges f) b a e = let more : suc cpu < cpus c = grind (arith, nat_tests) in omega arith
@@ -127,4 +127,4 @@ module _ (c : Setup) where
     fall_row s _ _ _ b a e = omega arith
 
     pub step_falls : (p : Place) (s : Section) → is_balancing p ≡ false → adds_chunk p ≡ false → IsProper c p → given c m (ask c p) ≡ Some s → left_next c (next c p s) < left c p
-    step_falls p s n a is e = fall_row s p (next c p s) (leads c s p) n a e
+    step_falls p s n a is e = fall_row s p (next c p s) (place_row c s p) n a e

@@ -13,7 +13,7 @@ use Rattle.vm_model.specs.Setup.{Setup}
 use Rattle.vm_model.specs.declared.calls.Call.{Call}
 use Rattle.vm_model.specs.declared.calls.Call.TheVariants.{Add, AllocAtomic, AllocPercpu, Balance, FreePercpu, MapRam, Sum, UnmapAliases, UnmapRam, Vfree, Vmalloc}
 use Rattle.vm_model.specs.declared.calls.Target.{Target}
-use Rattle.map_laws.proofs.Leads.{Leads, Stays, SettledObject, SettledAtomic, GaveAlloc, leads}
+use Rattle.map_laws.proofs.PlaceRows.{PlaceRow, Stays, SettledObject, SettledAtomic, GaveAlloc, place_row}
 use Rattle.map_laws.proofs.AskRows.{AskRow, Freed, ask_row}
 use Rattle.map_laws.proofs.Places.{either_place}
 
@@ -50,7 +50,7 @@ makes_object _ = false
 
 module _ (c : Setup) where
   -- no other section makes an object
-  none_row : (s : Section) (p : Place) (n : Next) → Leads c s p n → makes_object p ≡ false → IsMakingNone n
+  none_row : (s : Section) (p : Place) (n : Next) → PlaceRow c s p n → makes_object p ≡ false → IsMakingNone n
   none_row s _ _ Stays h = (refl, tt)
   none_row s _ _ (SettledObject at) h = cc
   none_row s _ _ (SettledAtomic at) h = cc
@@ -58,7 +58,7 @@ module _ (c : Setup) where
   none_row s _ _ _ h = search
 
   pub making_none : (p : Place) (s : Section) → makes_object p ≡ false → IsMakingNone (next c p s)
-  making_none p s h = none_row s p (next c p s) (leads c s p) h
+  making_none p s h = none_row s p (next c p s) (place_row c s p) h
 
   -- a place at which an object is freed
   freeing_row : (a : Ask) (s : Section) → AskRow c a s → (at : ObjectAt) (serial : ℕ) → s ≡ FreeObject at serial → a ≡ AskFree at serial

@@ -19,7 +19,7 @@ use Rattle.vm_model.specs.Given.{given, carving, carving_groups}
 use Rattle.vm_model.specs.History.{World, Local, started, answered, answered_of, moved_to, opening_world, opening_answers, callers_from}
 use Rattle.vm_model.specs.Space.{lowest}
 use Rattle.map_laws.proofs.Fits.{is_zero, lowest_fit, highest_fit}
-use Rattle.map_laws.proofs.Leads.{Leads, NotCut, SettledBlock, SettledGroups, Mapped, leads}
+use Rattle.map_laws.proofs.PlaceRows.{PlaceRow, NotCut, SettledBlock, SettledGroups, Mapped, place_row}
 use Rattle.map_laws.proofs.Lists.{there, set_cases, append_cases}
 use Rattle.map_laws.proofs.Frames.{IsStep, IsLasting, not_over, has_call}
 
@@ -125,7 +125,7 @@ module _ (c : Setup) (m : PlainMap) where
   no_space_proper (ForChunk chunk bytes to) = tt
 
   -- a section leads from a proper place to a proper one
-  proper_row : (s : Section) (p : Place) (n : Next) → Leads c s p n → IsProper c p → given c m (ask c p) ≡ Some s → n ≡ next c p s → OnNext (IsProper c) n
+  proper_row : (s : Section) (p : Place) (n : Next) → PlaceRow c s p n → IsProper c p → given c m (ask c p) ≡ Some s → n ≡ next c p s → OnNext (IsProper c) n
   proper_row s _ n (NotCut cpu pages) is e f = (refl, refl, is.0, is.1)
   proper_row s _ n (SettledBlock place cpu pages) is e f = (refl, is.2, is.3)
   proper_row s _ n (SettledGroups base chunk bytes align) is e f = is.0
@@ -135,7 +135,7 @@ module _ (c : Setup) (m : PlainMap) where
   proper_row s _ n _ is e f = search
 
   pub proper_next : (p : Place) (s : Section) → IsProper c p → given c m (ask c p) ≡ Some s → OnNext (IsProper c) (next c p s)
-  proper_next p s is e = proper_row s p (next c p s) (leads c s p) is e refl
+  proper_next p s is e = proper_row s p (next c p s) (place_row c s p) is e refl
 
 -- Where a call begins.
 

@@ -9,7 +9,7 @@ use Rattle.vm_model.proofs.Paint.{length-paint_from}
 use Rattle.vm_model.specs.Space.{holds}
 use Rattle.vm_model.specs.LegalHistory.{Meets}
 use Rattle.vm_model.specs.Effects.{effect_as}
-use Rattle.map_laws.proofs.Leads.{Leads, Stays, leads}
+use Rattle.map_laws.proofs.PlaceRows.{PlaceRow, Stays, place_row}
 use Rattle.map_laws.proofs.AskRows.{AskRow, Refused, ask_row}
 use Rattle.map_laws.proofs.Places.{OnNext}
 use Rattle.map_laws.proofs.AreaFacts.{IsUnbearing}
@@ -89,12 +89,12 @@ asks_quiet _ = true
 
 module _ (c : Setup) where
   -- no other section leads to pages that are held or flushed
-  unbearing_row : (s : Section) (p : Place) (n : Next) → Leads c s p n → leads_bearing p ≡ false → OnNext IsUnbearing n
+  unbearing_row : (s : Section) (p : Place) (n : Next) → PlaceRow c s p n → leads_bearing p ≡ false → OnNext IsUnbearing n
   unbearing_row s _ _ Stays h = refl
   unbearing_row s _ _ _ h = cc
 
   pub unbearing_next : (p : Place) (s : Section) → leads_bearing p ≡ false → OnNext IsUnbearing (next c p s)
-  unbearing_next p s h = unbearing_row s p (next c p s) (leads c s p) h
+  unbearing_next p s h = unbearing_row s p (next c p s) (place_row c s p) h
 
   -- a section that meets such an ask
   quiet_row : (a : Ask) (s : Section) → AskRow c a s → asks_quiet a ≡ true → is_quiet s ≡ true

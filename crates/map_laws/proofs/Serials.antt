@@ -20,7 +20,7 @@ use Rattle.vm_model.specs.Told.{serial_given}
 use Rattle.vm_model.specs.Calls.{Answered, begin, begin_call, begin_free_area, begin_unmap_ram, begin_free_percpu, begin_add, begin_sum, target_of, made_in, was_freed, answers_in, is_bad_vmalloc_size, is_bad_vmalloc_align, is_bad_map_size, is_bad_object_size, is_bad_object_align}
 use Rattle.vm_model.specs.History.{World, Local, started, moved_to, made_by, opening_world, opening_answers, callers_from, with_callers}
 use Rattle.vm_model.specs.LegalHistory.{Meets}
-use Rattle.map_laws.proofs.Leads.{Leads, Stays, leads}
+use Rattle.map_laws.proofs.PlaceRows.{PlaceRow, Stays, place_row}
 use Rattle.map_laws.proofs.Lists.{set_cases, append_cases}
 use Rattle.map_laws.proofs.Chosen.{IsIn, filter_has}
 use Rattle.map_laws.proofs.Fits.{and_both}
@@ -136,12 +136,12 @@ makes_area _ = false
 
 module _ (c : Setup) (m : PlainMap) where
   -- no other section leads to an area's serial
-  plain_row : (s : Section) (p : Place) (n : Next) → Leads c s p n → makes_area p ≡ false → IsPlainNext m n
+  plain_row : (s : Section) (p : Place) (n : Next) → PlaceRow c s p n → makes_area p ≡ false → IsPlainNext m n
   plain_row s _ _ Stays h = tt
   plain_row s _ _ _ h = cc
 
   pub plain_next : (p : Place) (s : Section) → makes_area p ≡ false → IsPlainNext m (next c p s)
-  plain_next p s h = plain_row s p (next c p s) (leads c s p) h
+  plain_next p s h = plain_row s p (next c p s) (place_row c s p) h
 
 module _ (c : Setup) (m : PlainMap) (k : ℕ) where
   next_by : (p : Place) (s : Section) (b : Bool) → makes_area p ≡ b → IsProper c p → AreGiven m → IsPlainPlace m p → Meets c (ask c p) s → IsLegalAs c m k s → IsPlainNext (effect_as c m k s) (next c p s)

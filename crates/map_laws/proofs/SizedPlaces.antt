@@ -9,7 +9,7 @@ use Rattle.vm_model.specs.Events.{Section}
 use Rattle.vm_model.specs.Places.{Made, MadeObject, Aim, ForChunk, Then, SearchAgain, Place, Refusing, Finding, FindingAgain, PurgeTaking, PurgeFragmenting, PurgeUnlinking, PurgeWaiting, PurgeCollecting, PurgeFlushing, PurgeReturning, PurgeGiving, TakingAlloc, Choosing, SettlingGroups, AddingChunk, Populating, SettlingObject, Unplacing, GivingAlloc, ChoosingAtomic, Zeroing, SettlingAtomic, ask}
 use Rattle.vm_model.specs.Next.{Next, Go, Answer, next}
 use Rattle.vm_model.specs.Calls.{Answered, words_for, is_bad_object_size, is_bad_object_align, begin_call}
-use Rattle.map_laws.proofs.Leads.{Leads, Refused, leads}
+use Rattle.map_laws.proofs.PlaceRows.{PlaceRow, Refused, place_row}
 use Rattle.vm_model.specs.LegalHistory.{Meets}
 
 abbrev pub IsAimSized : ℕ → Aim → Type 0
@@ -66,7 +66,7 @@ module _ (c : Setup) (bytes : ℕ) where
   atomic_sized own align s is (inl w) = subst (λ x. IsNextSized bytes (next c (ChoosingAtomic own align) x)) (sym w.2) (w.1 ∙ is)
   atomic_sized own align s is (inr w) = subst (λ x. IsNextSized bytes (next c (ChoosingAtomic own align) x)) (sym w) tt
 
-  sized_row : (s : Section) (p : Place) (n : Next) → Leads c s p n → IsSizedAt bytes p → Meets c (ask c p) s → n ≡ next c p s → IsNextSized bytes n
+  sized_row : (s : Section) (p : Place) (n : Next) → PlaceRow c s p n → IsSizedAt bytes p → Meets c (ask c p) s → n ≡ next c p s → IsNextSized bytes n
   sized_row s (Choosing own align) n row is w f = subst (IsNextSized bytes) (sym f) (chosen_sized own align s is w)
   sized_row s (AddingChunk base chunk own align) n row is w f = subst (IsNextSized bytes) (sym f) (added_sized base chunk own align s is w)
   sized_row s (ChoosingAtomic own align) n row is w f = subst (IsNextSized bytes) (sym f) (atomic_sized own align s is w)
@@ -74,7 +74,7 @@ module _ (c : Setup) (bytes : ℕ) where
   sized_row s _ n _ is w f = search
 
   pub sized_next : (p : Place) (s : Section) → IsSizedAt bytes p → Meets c (ask c p) s → IsNextSized bytes (next c p s)
-  sized_next p s is w = sized_row s p (next c p s) (leads c s p) is w refl
+  sized_next p s is w = sized_row s p (next c p s) (place_row c s p) is w refl
 
   -- where such a call begins
   alloc_by : (place : ℕ → ℕ → Place) (asked to : ℕ) → IsSizedAt bytes (place bytes to) → bytes ≡ 4 * words_for asked → (b d : Bool) → IsSizedAt bytes (if b then Refusing reply.BadSize else (if d then Refusing reply.BadAlign else place (4 * words_for asked) to))

@@ -10,7 +10,7 @@ use Rattle.vm_model.specs.Given.{given}
 use Rattle.vm_model.specs.Carried.{has_purge, has_alloc, keeps_alloc}
 use Rattle.map_laws.proofs.Places.{IsProper, no_span}
 use Rattle.map_laws.proofs.GivenMeets.{taking_is}
-use Rattle.map_laws.proofs.Leads.{Leads, Refused, FoundNoGroups, AgainNoGroups, leads}
+use Rattle.map_laws.proofs.PlaceRows.{PlaceRow, Refused, FoundNoGroups, AgainNoGroups, place_row}
 use Rattle.map_laws.proofs.TurnSections.{asks_turn, no_turn, purge_stays, alloc_stays}
 use Rattle.map_laws.proofs.TurnMoves.{Change, Stays, Taken, Given}
 
@@ -35,11 +35,11 @@ went_on_alloc SpareAgain = refl
 
 module _ (c : Setup) (m : PlainMap) where
   -- without a section of a turn the next place has just the turns that the place has
-  purge_row : (s : Section) (p : Place) (n : Next) → Leads c s p n → asks_turn (ask c p) ≡ false → has_next has_purge n ≡ has_purge p
+  purge_row : (s : Section) (p : Place) (n : Next) → PlaceRow c s p n → asks_turn (ask c p) ≡ false → has_next has_purge n ≡ has_purge p
   purge_row s _ _ (Refused r) h = refl
   purge_row s _ _ _ h = cc
 
-  alloc_row : (s : Section) (p : Place) (n : Next) → Leads c s p n → IsProper c p → given c m (ask c p) ≡ Some s → asks_turn (ask c p) ≡ false → has_next has_alloc n ≡ has_alloc p
+  alloc_row : (s : Section) (p : Place) (n : Next) → PlaceRow c s p n → IsProper c p → given c m (ask c p) ≡ Some s → asks_turn (ask c p) ≡ false → has_next has_alloc n ≡ has_alloc p
   alloc_row s _ _ (FoundNoGroups (ForPages pages to) chunk bytes align place f) is e h = absurd is
   alloc_row s _ _ (FoundNoGroups ForGroups chunk bytes align place f) is e h = (let none = no_span c m s e in cc)
   alloc_row s _ _ (AgainNoGroups (ForPages pages to) chunk bytes align place f) is e h = absurd is
@@ -51,7 +51,7 @@ module _ (c : Setup) (m : PlainMap) where
     same_section x s e = cc
 
     purge_by : (p : Place) (s : Section) (b : Bool) → asks_turn (ask c p) ≡ b → given c m (ask c p) ≡ Some s → Change m.purge_turn (effect_as c m k s).purge_turn k (has_purge p) (has_next has_purge (next c p s))
-    purge_by p s false n e = Stays (purge_stays c m k s (no_turn c m (ask c p) s n e)) (purge_row s p (next c p s) (leads c s p) n)
+    purge_by p s false n e = Stays (purge_stays c m k s (no_turn c m (ask c p) s n e)) (purge_row s p (next c p s) (place_row c s p) n)
     purge_by (PurgeTaking extra after) s true n e = let is = taking_is m.purge_turn TakePurge s e in Taken is.0 (ap (λ x. (effect_as c m k x).purge_turn) is.1) refl
     purge_by (PurgeGiving after) s true n e = Given refl (ap (λ x. (effect_as c m k x).purge_turn) (same_section GivePurge s e)) (went_on_none after)
     purge_by (TakingAlloc bytes align) s true n e = Stays (ap (λ x. (effect_as c m k x).purge_turn) (taking_is m.alloc_turn TakeAlloc s e).1) refl
@@ -64,7 +64,7 @@ module _ (c : Setup) (m : PlainMap) where
     purge_change p s e = purge_by p s (asks_turn (ask c p)) refl e
 
     alloc_by : (p : Place) (s : Section) (b : Bool) → asks_turn (ask c p) ≡ b → IsProper c p → given c m (ask c p) ≡ Some s → Change m.alloc_turn (effect_as c m k s).alloc_turn k (has_alloc p) (has_next has_alloc (next c p s))
-    alloc_by p s false n is e = Stays (alloc_stays c m k s (no_turn c m (ask c p) s n e)) (alloc_row s p (next c p s) (leads c s p) is e n)
+    alloc_by p s false n is e = Stays (alloc_stays c m k s (no_turn c m (ask c p) s n e)) (alloc_row s p (next c p s) (place_row c s p) is e n)
     alloc_by (PurgeTaking extra after) s true n is e = Stays (ap (λ x. (effect_as c m k x).alloc_turn) (taking_is m.purge_turn TakePurge s e).1) refl
     alloc_by (PurgeGiving after) s true n is e = Stays (ap (λ x. (effect_as c m k x).alloc_turn) (same_section GivePurge s e)) (went_on_alloc after)
     alloc_by (TakingAlloc bytes align) s true n is e = let at = taking_is m.alloc_turn TakeAlloc s e in Taken at.0 (ap (λ x. (effect_as c m k x).alloc_turn) at.1) refl

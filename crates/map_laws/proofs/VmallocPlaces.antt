@@ -14,7 +14,7 @@ use Rattle.vm_model.specs.Calls.{Answered, begin, begin_call, align_pages, is_ba
 use Rattle.vm_model.specs.Given.{given, carving}
 use Rattle.vm_model.specs.History.{World, Local, started, answered, moved_to, opening_world, opening_answers, callers_from}
 use Rattle.vm_model.specs.Laws.{IsMadeAligned}
-use Rattle.map_laws.proofs.Leads.{Leads, Refused, leads}
+use Rattle.map_laws.proofs.PlaceRows.{PlaceRow, Refused, place_row}
 use Rattle.map_laws.proofs.Lists.{set_cases, append_cases}
 use Rattle.map_laws.proofs.Fits.{is_zero, lowest_fit}
 use Rattle.map_laws.proofs.Frames.{IsLasting, not_over, has_call}
@@ -75,14 +75,14 @@ module _ (c : Setup) (m : PlainMap) (k : ℕ) where
   no_space_at (ForPages pages align) (ForChunk chunk bytes to) is = absurd is
   no_space_at ForGroups aim is = absurd is
 
-  at_row : (s : Section) (p : Place) (n : Next) → Leads c s p n → IsVmallocAt k p → given c m (ask c p) ≡ Some s → n ≡ next c p s → IsNextAt k n
+  at_row : (s : Section) (p : Place) (n : Next) → PlaceRow c s p n → IsVmallocAt k p → given c m (ask c p) ≡ Some s → n ≡ next c p s → IsNextAt k n
   at_row s (Finding search aim) n row is e f = subst (IsNextAt k) (sym f) (search_at search aim _ s is is e)
   at_row s (FindingAgain search aim) n row is e f = subst (IsNextAt k) (sym f) (search_at search aim _ s is (no_space_at search aim is) e)
   at_row s _ n (Refused r) is e f = tt
   at_row s _ n _ is e f = search
 
   pub next_at : (p : Place) (s : Section) → IsVmallocAt k p → given c m (ask c p) ≡ Some s → IsNextAt k (next c p s)
-  next_at p s is e = at_row s p (next c p s) (leads c s p) is e refl
+  next_at p s is e = at_row s p (next c p s) (place_row c s p) is e refl
 
 -- of a caller: its answers, and its call at hand
 pub record IsLocalAligned (l : Local) : Type 0 where

@@ -15,7 +15,7 @@ use Rattle.vm_model.specs.Places.{Place, Finding, FindingAgain, MappingArea, Pur
 use Rattle.vm_model.specs.Next.{Next, Go, Answer, next, with_span, with_base, without_space, after_collecting, after_flush}
 use Rattle.vm_model.specs.LegalHistory.{Meets}
 use Rattle.vm_model.specs.Laws.{map_after}
-use Rattle.map_laws.proofs.Leads.{Leads, Stays, leads}
+use Rattle.map_laws.proofs.PlaceRows.{PlaceRow, Stays, place_row}
 use Rattle.map_laws.proofs.Places.{OnNext}
 use Rattle.map_laws.proofs.Spans.{hull_is, covers_append}
 use Rattle.map_laws.proofs.Touched.{painted}
@@ -32,7 +32,7 @@ is_carving (FindingAgain search aim) = true
 is_carving (MappingArea s kd) = true
 is_carving _ = false
 
-other_row : (c : Setup) (first : PlainMap) (es : List Event) (k : ℕ) (s : Section) (p : Place) (n : Next) → Leads c s p n → is_carving p ≡ false → OnNext (IsStoried c first es k) n
+other_row : (c : Setup) (first : PlainMap) (es : List Event) (k : ℕ) (s : Section) (p : Place) (n : Next) → PlaceRow c s p n → is_carving p ≡ false → OnNext (IsStoried c first es k) n
 other_row c first es k s _ _ Stays h = tt
 other_row c first es k s _ _ _ h = cc
 
@@ -102,7 +102,7 @@ module _ (c : Setup) (first m : PlainMap) (events : List Event) (story : m ≡ m
   storied_next (Finding search aim) s meets legal is = find_storied search aim s meets legal
   storied_next (FindingAgain search aim) s meets legal is = again_storied search aim s meets legal
   storied_next (MappingArea place kd) s meets legal is = map_storied place kd s meets is
-  storied_next p s meets legal is = other_row c first (more s) k s p (next c p s) (leads c s p) refl
+  storied_next p s meets legal is = other_row c first (more s) k s p (next c p s) (place_row c s p) refl
 
 -- Where pages go that were taken.
 
@@ -166,7 +166,7 @@ is_flushing (PurgeCollecting extra after) = true
 is_flushing (PurgeFlushing h waited after) = true
 is_flushing _ = false
 
-flushless_row : (c : Setup) (page : ℕ) (s : Section) (p : Place) (n : Next) → Leads c s p n → is_flushing p ≡ false → OnNext (λ q. covers (flushed q) page ≡ false) n
+flushless_row : (c : Setup) (page : ℕ) (s : Section) (p : Place) (n : Next) → PlaceRow c s p n → is_flushing p ≡ false → OnNext (λ q. covers (flushed q) page ≡ false) n
 flushless_row c page s _ _ Stays h = refl
 flushless_row c page s _ _ _ h = cc
 
@@ -192,4 +192,4 @@ module _ (c : Setup) (m : PlainMap) (k page : ℕ) (Q : Type 0) (of_waiting : co
   pub flushed_next : (p : Place) (s : Section) → Meets c (ask c p) s → IsLegalAs c m k s → (covers (flushed p) page ≡ true → Q) → IsFlushed (next c p s)
   flushed_next (PurgeCollecting extra after) s meets legal was = collected_flushed (spans_taken s) _ after (collect_told meets.0 s meets.1 legal)
   flushed_next (PurgeFlushing h waited after) s meets legal was = after_flush_flushed waited after was
-  flushed_next p s meets legal was = none_flushed (next c p s) (flushless_row c page s p (next c p s) (leads c s p) refl)
+  flushed_next p s meets legal was = none_flushed (next c p s) (flushless_row c page s p (next c p s) (place_row c s p) refl)
