@@ -1,6 +1,7 @@
 //! Which pages are stale: those whose old frames a TLB may still have, until `flush_tlb_kernel_range`.
 ghost use Rattle.std.specs.Prelude.{◌≡◌, ◌/◌, ◌<◌, ◌≤◌, ◌^◌, ℕ, true, false, IfOk, length, replicate, slice_get, slice_set};
 ghost use Rattle.vm_model.specs.Space.{holds, end_of, paint};
+ghost use Rattle.chunk_bitmaps.specs.Bitmap.{IsNextBit};
 ghost use Rattle.page_pool.specs.StaleList.{is_set, set_count};
 
 use chunk_bitmaps::Bitmap;
@@ -107,14 +108,26 @@ impl StalePages {
         self.count -= 1;
     }
 
+    /// The first stale page from one on and before the end, or the end.
+    fn next_stale(&self, from: u32, end: u32) -> u32
+        requires order { from ≤ end }
+        requires within { end ≤ length self.now }
+        ensures { IsNextBit self.now true from end result }
+    {
+        self.flags.find_next(true, from, end)
+    }
+
     /// No page of a span is stale any more.
     fn clear(&mut self, span: Span)
         requires inside { end_of span ≤ length self.old }
         requires space { length self.old < 2 ^ 32 }
         ensures { self.new ≡ paint (holds span) false self.old }
     {
-        for page in span.start..span.start + span.pages {
+        let end = span.start + span.pages;
+        let mut page = self.next_stale(span.start, end);
+        while page < end {
             self.clear_page(page);
+            page = self.next_stale(page + 1, end);
         }
     }
 
@@ -131,8 +144,7 @@ impl StalePages {
         }
     }
 
-    /// No page of a span is stale any more. It takes time for each group, and for each page of the groups that have a
-    /// stale one.
+    /// No page of a span is stale any more. It takes time for each group, and for each stale page.
     fn flush_groups(&mut self, span: Span)
         requires inside { end_of span ≤ length self.old }
         requires space { length self.old < 2 ^ 32 }
@@ -161,7 +173,7 @@ impl StalePages {
     }
 
     /// No page of a span is stale any more. It takes time for each cluster, for each group of the clusters that have a
-    /// stale page, and for each page of the groups that have one.
+    /// stale page, and for each stale page.
     pub(crate) fn flush(&mut self, span: Span)
         requires inside { end_of span ≤ length self.old }
         requires space { length self.old < 2 ^ 32 }
