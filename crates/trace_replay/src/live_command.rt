@@ -36,7 +36,7 @@ fn live_report<G: Gate + Sync, R: Threads + Wait + Sync>(
     let counters = counters_of_trace(alloc, &trace)?;
     let Trace { config, calls, .. } = trace;
     let lived = live_kernel(rt, alloc, config, calls, gate)?;
-    let tables = lived.kernel.tables()?;
+    let tables = lived.kernel.tables(false)?;
     let schedule = write_schedule(alloc, &lived.kernel.moved()[lived.opening..])?;
     let report = write_report(alloc, &tables, &counters, false)?;
     let mut bytes = schedule.into_vec();
