@@ -1,14 +1,10 @@
 -- Picks that move: what they make of a world, and what the end of a run adds to them.
-use Rattle.std.proofs.Common.{◌≡◌, ℕ, zero, suc, ◌+◌, ◌-◌, ◌<◌, ◌≤◌, Bool, true, false, ◌&&◌, cond, List, [], ◌∷◌, ◌++◌, length, find, map, drop, slice_get, Option, Some, None, refl, ap, sym, ◌∙◌, subst, append_assoc, arith, length-append, length-set}
+use Rattle.std.proofs.Common.{◌≡◌, ℕ, zero, suc, ◌+◌, ◌-◌, ◌≤◌, Bool, true, false, ◌&&◌, cond, List, [], ◌∷◌, ◌++◌, length, find, drop, slice_get, Option, Some, None, refl, ap, sym, ◌∙◌, subst, append_assoc, arith, length-append}
 use Rattle.vm_model.specs.declared.calls.Call.{Call}
 use Rattle.vm_model.specs.Space.{count_from}
 use Rattle.vm_model.specs.Setup.{Setup}
-use Rattle.vm_model.specs.Events.{Section, Event}
-use Rattle.vm_model.specs.Places.{ask}
 use Rattle.vm_model.specs.Given.{can_move}
-use Rattle.vm_model.specs.Calls.{Answered}
-use Rattle.vm_model.specs.Next.{next}
-use Rattle.vm_model.specs.History.{World, Local, section_of, made_if, step_of, step, moved_to, pick_all, moves_in, first_mover, finish, most_events, opening_world, opening_answers, callers_from, history_of}
+use Rattle.vm_model.specs.History.{World, Local, step, pick_all, moves_in, first_mover, finish, most_events, history_of}
 use Rattle.vm_model.specs.LegalHistory.{AllOver}
 use Rattle.map_laws.proofs.Chosen.{find_has}
 use Rattle.map_laws.proofs.EndProofs.{finish_zero, finish_some, finish_none, finish_stays}
@@ -19,7 +15,7 @@ use Rattle.kernel_steps.specs.Kernels.{KernelState, IsStanding, IsSteppedAs, mov
 use Rattle.kernel_steps.proofs.CallersThere.{all_there}
 use Rattle.kernel_steps.proofs.Picks.{pick_all-append}
 use Rattle.kernel_steps.proofs.SectionsMade.{next_running, movers_moved, world_stays}
-use Rattle.shared_kernel.specs.Runs.{all_move, HasRun, IsInRun, IsLockedFor, HasEnded, IsTurnOf}
+use Rattle.shared_kernel.specs.Runs.{all_move, HasRun, IsInRun, IsLockedFor, HasEnded}
 
 and_true : (a b : Bool) → a ≡ true → b ≡ true → (a && b) ≡ true
 and_true true b p q = q

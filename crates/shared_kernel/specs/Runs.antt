@@ -1,11 +1,11 @@
 -- Where a kernel stands in a run: after some picks from its start, each of which moved.
-use Rattle.std.specs.Prelude.{◌≡◌, ◌≢◌, ℕ, ◌+◌, Bool, true, false, ◌&&◌, List, [], ◌∷◌, ◌++◌, length, slice_get, Option, Some, None}
+use Rattle.std.specs.Prelude.{◌≡◌, ◌≢◌, ℕ, ◌+◌, Bool, true, ◌&&◌, List, [], ◌∷◌, ◌++◌, length, slice_get, Option, Some, None}
 use Rattle.vm_model.specs.declared.calls.Call.{Call}
 use Rattle.vm_model.specs.Setup.{Setup}
 use Rattle.vm_model.specs.History.{World, Local, step, pick_all, moves_in}
 use Rattle.vm_model.specs.LegalHistory.{AllOver}
 use Rattle.section_core.specs.declared.region.Stepped.{Stepped}
-use Rattle.section_core.specs.declared.region.Stepped.TheVariants.{Moved, Stays, Ended}
+use Rattle.section_core.specs.declared.region.Stepped.TheVariants.{Moved, Ended}
 use Rattle.section_laws.specs.Lawful.{IsRunning}
 use Rattle.shared_kernel.specs.declared.locked.Turn.{Turn}
 use Rattle.kernel_steps.specs.Kernels.{KernelState, IsStanding, IsSteppedAs, movers, start_of, opening_of, callers_of}

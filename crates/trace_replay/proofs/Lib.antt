@@ -6,4 +6,5 @@ pub mod Told
 pub mod OneCommand
 pub mod ReplayTexts
 pub mod Counted
+pub mod LiveCounted
 pub mod LiveReported
