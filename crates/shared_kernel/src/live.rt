@@ -3,7 +3,7 @@ ghost use Rattle.std.specs.Prelude.{◌≡◌, ◌<◌, ◌≤◌, ◌+◌, ℕ,
 ghost use Rattle.unit_layout.specs.Config.{setup_of};
 ghost use Rattle.kernel_steps.specs.Kernels.{CanStart, callers_of};
 ghost use Rattle.count_lines.specs.Shares.{caller_of, IsShareOf, HasSameLines, IsFinished, HaveFinished};
-ghost use Rattle.shared_kernel.specs.Runs.{HasEnded};
+ghost use Rattle.kernel_steps.specs.Runs.{HasEnded};
 
 use crate::locked::{Locked, work};
 use crate::started::Started;

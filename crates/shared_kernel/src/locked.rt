@@ -3,7 +3,8 @@ ghost use Rattle.std.specs.Prelude.{◌≡◌, ◌<◌, ◌+◌, ℕ, List, Opti
 ghost use Rattle.shared_kernel.specs.declared.locked.Turn.{Turn};
 ghost use Rattle.kernel_steps.specs.Kernels.{callers_of};
 ghost use Rattle.count_lines.specs.Shares.{caller_of, IsShareOf, HasSameLines, IsFinished};
-ghost use Rattle.shared_kernel.specs.Runs.{IsInRun, HasEnded, IsTurnOf, GoesOn, IsLastTurn, MakesTurns};
+ghost use Rattle.kernel_steps.specs.Runs.{HasEnded};
+ghost use Rattle.shared_kernel.specs.Runs.{IsInRun, IsTurnOf, GoesOn, IsLastTurn, MakesTurns};
 
 use crate::started::Started;
 use count_lines::Share;

@@ -45,7 +45,7 @@ fn live_report<G: Gate + Sync, R: Threads + Wait + Sync>(
         shares,
     } = live_kernel(rt, alloc, config, calls, &counters, shares, gate)?;
     let rows = finish_counts(alloc, counters, pass, shares)?;
-    let tables = kernel.tables()?;
+    let tables = kernel.tables(false)?;
     let schedule = write_schedule(alloc, &kernel.moved()[opening..])?;
     let report = write_report(alloc, &tables, &rows, false)?;
     let mut bytes = schedule.into_vec();
