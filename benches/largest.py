@@ -30,8 +30,8 @@ def repeated(lines, count):
 
 
 def in_callers(lines, callers=16):
-    """The same lines for each caller, as many in all as a trace may have."""
-    share = lines[: CALLS // callers]
+    """Lines for each caller, in all as many as are given."""
+    share = lines[: len(lines) // callers]
     return [line for c in range(1, callers + 1) for line in [f"caller {c}", *share]]
 
 
@@ -79,7 +79,8 @@ def parts_unmapped():
 
 
 def dirty_blocks():
-    block = [f"map_ram {{0}} 0 1".format(f"{letter}{{0}}") for letter in "abcdefgh"]
+    # blocks of eight parts, of which one lives on
+    block = [f"map_ram {letter}{{0}} 0 1" for letter in "abcdefgh"]
     ends = [f"unmap_ram {letter}{{0}}" for letter in "abcdefg"]
     made = repeated(block + ends, 45_000)
     return trace(WIDE, made + ["unmap_aliases"] * (CALLS - len(made)))
@@ -162,6 +163,21 @@ def targets_of_the_opening():
     return trace(["frames 8192", "callers 16"], opening + ["caller 16"] + freed)
 
 
+def adds_to_every_cell():
+    """Objects on all frames, and lines that add to both halves of each frame's cells."""
+    places = [(o, cpu, 512 * half) for o in range(16) for cpu in range(64) for half in range(16)]
+    return [f"alloc_percpu a{o} 32768 4" for o in range(16)] + ["add a{} {} {} 1".format(*place) for place in places]
+
+
+def every_cell():
+    return trace([*WIDE], adds_to_every_cell())
+
+
+def all_at_once():
+    opening = adds_to_every_cell()
+    return padded([*WIDE, "callers 16"], opening + in_callers(["unmap_aliases"] * (CALLS - len(opening))))
+
+
 def picks():
     return padded([], [])
 
@@ -191,7 +207,7 @@ KINDS = [
     areas, areas_freed, areas_with_holes, areas_purged_each, no_space, wide_areas, parts, parts_unmapped, dirty_blocks,
     aliases, objects, objects_of_all_processors, objects_freed_in_turn, objects_without_a_fit, many_chunks,
     many_chunks_of_groups, atomic_objects, sums, balances, counts, kept_counts, callers_in_turn, callers_with_picks,
-    callers_of_all_processors, targets_of_the_opening, picks, lines_of_picks, one_line, empty_lines, zeros,
+    callers_of_all_processors, targets_of_the_opening, every_cell, all_at_once, picks, lines_of_picks, one_line, empty_lines, zeros,
     groups_of_bad_lines,
 ]
 NO_TRACES = {one_line, empty_lines, zeros, groups_of_bad_lines}

@@ -8,3 +8,4 @@ pub mod ReplayTexts
 pub mod Counted
 pub mod LiveCounted
 pub mod LiveReported
+pub mod MadeOf

@@ -8,3 +8,4 @@ pub mod Headline
 pub mod WorkedReplays
 pub mod LiveReports
 pub mod LiveCounts
+pub mod Commands
