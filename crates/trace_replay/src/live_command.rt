@@ -85,9 +85,7 @@ fn live_outcome<S: Source, G: Gate + Sync, R: Threads + Wait + Sync>(
     source: &mut S,
     gate: &G,
 ) -> Result<Outcome, Cut>
-    ensures made {
-        IfOk result (λ o. IsMadeOf IsLiveReport (S.left source.old) (S.left source.new) o.status o.text)
-    }
+    ensures made { IfOk result (λ o. IsMadeOf IsLiveReport (S.left source.old) (S.left source.new) o.status o.text) }
     ensures failed { result ≡ Err Cut.Failed → RoseByOne (S.faults source.old) (S.faults source.new) }
     ensures cut_short { result ≡ Err Cut.Failed → IsCutShort (S.left source.old) (S.left source.new) }
     ensures not_cut { result ≢ Err Cut.TooLong }
@@ -112,12 +110,8 @@ pub fn live<S: Source, K: Sink, G: Gate + Sync, R: Threads + Wait + Sync>(
     gate: &G,
 ) -> Status
     requires { HasRoomFor IsLiveReport (S.left source.old) (K.room sink.old) }
-    ensures replays {
-        Replays IsLiveReport (S.left source.old) (S.left source.new) (K.taken sink.old) (K.taken sink.new) result
-    }
-    ensures faults {
-        TellsFaults result (S.faults source.old) (S.faults source.new) (K.faults sink.old) (K.faults sink.new)
-    }
+    ensures replays { Replays IsLiveReport (S.left source.old) (S.left source.new) (K.taken sink.old) (K.taken sink.new) result }
+    ensures faults { TellsFaults result (S.faults source.old) (S.faults source.new) (K.faults sink.old) (K.faults sink.new) }
     ensures silent { IsSilent result → K.taken sink.new ≡ K.taken sink.old }
     ensures usage { result ≢ Status.Usage }
 {

@@ -10,19 +10,14 @@ rest_of : (n : ℕ) (xs : List ℕ) → take (length xs - n) (drop n xs) ≡ dro
 rest_of n xs = take_all (length xs - n) (drop n xs) (omega (arith, length-drop n xs))
 
 pub live_kernel-requires-clause-can : goal.live_kernel-requires-clause-can
-live_kernel-requires-clause-can g c = (c.type_bounds.sync-G, (c.type_bounds.sync-R, let (reading, ruled, tells) = c.requires in starts_on c.args.trace.config c.args.trace.calls reading ruled tells.config tells.calls))
+live_kernel-requires-clause-can g c = λ κs within. let (reading, ruled, tells) = c.requires in starts_on c.args.trace.config c.args.trace.calls reading ruled tells.config tells.calls
 
 pub live_kernel-requires-clause-shares : goal.live_kernel-requires-clause-shares
-live_kernel-requires-clause-shares g c = (c.type_bounds.sync-G, (c.type_bounds.sync-R, let (reading, ruled, tells) = c.requires in (c.in_ok-counters.ensures reading ruled tells).shared.each))
+live_kernel-requires-clause-shares g c = λ κs within. let (reading, ruled, tells) = c.requires in (c.in_ok-counters.ensures reading ruled tells).shared.each
 
 pub live_kernel-requires-clause-callers : goal.live_kernel-requires-clause-callers
-live_kernel-requires-clause-callers g c = (
-  c.type_bounds.sync-G,
-  (
-    c.type_bounds.sync-R,
-    let (reading, ruled, tells) = c.requires in callers_have reading c.args.trace.calls c.in_ok-counters.field-0.shares.items tells.calls (c.in_ok-counters.ensures reading ruled tells).shared.named,
-  ),
-)
+live_kernel-requires-clause-callers g c = λ κs within.
+    let (reading, ruled, tells) = c.requires in callers_have reading c.args.trace.calls c.in_ok-counters.field-0.shares.items tells.calls (c.in_ok-counters.ensures reading ruled tells).shared.named
 
 pub finish_counts-requires-clause-pass : goal.finish_counts-requires-clause-pass
 finish_counts-requires-clause-pass g c = let (reading, ruled, tells) = c.requires in (c.in_ok-counters.ensures reading ruled tells).pass
