@@ -1,5 +1,5 @@
 -- Shares that are made one by one.
-use Rattle.std.proofs.Common.{All, ◌≡◌, ℕ, zero, suc, ◌+◌, ◌<◌, ◌≤◌, List, [], ◌∷◌, ◌++◌, length, map, flat_map, get_or, sym, ap, ◌∙◌, append_assoc, arith, length-append}
+use Rattle.std.proofs.Common.{All, ◌≡◌, ℕ, zero, suc, ◌+◌, ◌<◌, ◌≤◌, List, [], ◌∷◌, ◌++◌, length, map, refl, flat_map, get_or, sym, ap, ◌∙◌, append_assoc, arith, length-append}
 use Rattle.std.specs.List.{range_with_len}
 use Rattle.std.proofs.lemmas.List.{map-append}
 use Rattle.std.proofs.lemmas.List.Concat.{flat_map-append}
@@ -72,3 +72,12 @@ joined_more adds new all share items rest next more so_far =
     ∙ ap (λ (more : List CountLine). adds ++ more) (sym (map-append added_by (lines_in share) (flat_map lines_in rest)))
     ∙ ap (λ (ss : List Share). adds ++ map added_by (flat_map lines_in ss)) (sym next)
     ∙ so_far
+
+-- shares with the same lines, one by one
+pub same_lines : (given left : List Share) → length left ≡ length given → ((k : ℕ) (d : Share) → k < length given → lines_in (get_or left k d) ≡ lines_in (get_or given k d)) → flat_map lines_in left ≡ flat_map lines_in given
+same_lines [] [] many same = refl
+same_lines [] (s ∷ left) many same = absurd (omega arith)
+same_lines (s ∷ given) [] many same = absurd (omega arith)
+same_lines (s ∷ given) (t ∷ left) many same =
+    ap (λ (ls : List CountLine). ls ++ flat_map lines_in left) (same 0 s (omega arith))
+    ∙ ap (λ (ls : List CountLine). lines_in s ++ ls) (same_lines given left (omega arith) (λ k d low. same (suc k) d (omega arith)))

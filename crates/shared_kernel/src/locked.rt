@@ -2,11 +2,14 @@
 ghost use Rattle.std.specs.Prelude.{◌≡◌, ◌<◌, ◌+◌, ℕ, List, Option, length, None, IfNone, IfOk, MatchBool, true, false};
 ghost use Rattle.shared_kernel.specs.declared.locked.Turn.{Turn};
 ghost use Rattle.kernel_steps.specs.Kernels.{callers_of};
+ghost use Rattle.count_lines.specs.Shares.{caller_of, IsShareOf, HasSameLines, IsFinished};
 ghost use Rattle.kernel_steps.specs.Runs.{HasEnded};
 ghost use Rattle.shared_kernel.specs.Runs.{IsInRun, IsTurnOf, GoesOn, IsLastTurn, MakesTurns};
 
 use crate::started::Started;
+use count_lines::Share;
 use kernel_steps::Kernel;
+use percpu_counters::Counters;
 use section_core::Stepped;
 use section_table::Gate;
 use std::alloc::AllocError;
@@ -133,18 +136,25 @@ fn give_way(now: u32, before: &mut u32) {
     }
 }
 
-/// Makes the turns of one caller, until it has ended or all are to halt.
+/// Makes the turns of one caller, until it has ended or all are to halt, and before each of them does the count lines that
+/// the caller has come to.
 pub fn make_turns<F: FnMut(u16) -> Option<Turn>, G: Gate, R: Wait>(
     rt: &R,
     mut turn: F,
     caller: u16,
     gate: &G,
+    counters: &Counters,
+    share: &mut Share,
 )
-    requires { (state : F) → F.pre state caller }
-    ensures { (turns : List (Option Turn)) × (last : Option Turn) × (end : F) × MakesTurns F.step caller turn turns last end }
+    requires turn { (state : F) → F.pre state caller }
+    requires share { IsShareOf counters.now share.old }
+    ensures turns { (turns : List (Option Turn)) × (last : Option Turn) × (end : F) × MakesTurns F.step caller turn turns last end }
+    ensures share { IsShareOf counters.now share.new }
+    ensures lines { HasSameLines share.old share.new }
 {
     let mut answered = 0;
     for _ in rt.forever() {
+        share.count_up_to(counters, answered);
         let made = turn(caller);
         if !goes_on(made, caller, gate, &mut answered) {
             return;
@@ -153,10 +163,22 @@ pub fn make_turns<F: FnMut(u16) -> Option<Turn>, G: Gate, R: Wait>(
     unreachable!()
 }
 
-/// The turns of one caller under the lock, each of which takes the lock for one step.
-pub fn work<S: Started, G: Gate, R: Wait>(rt: &R, lock: &Mutex<Locked<S>>, caller: u16, gate: &G)
-    requires { caller < 1 + length (callers_of S.sections) }
+/// The turns of a share's caller under the lock, each of which takes the lock for one step, and its count lines between
+/// them. Those that are left when it ends are done then.
+pub fn work<S: Started, G: Gate, R: Wait>(
+    rt: &R,
+    lock: &Mutex<Locked<S>>,
+    counters: &Counters,
+    mut share: Share,
+    gate: &G,
+) -> Share
+    requires caller { caller_of share < 1 + length (callers_of S.sections) }
+    requires share { IsShareOf counters.now share }
+    ensures share { IsShareOf counters.now result }
+    ensures lines { HasSameLines share result }
+    ensures finished { IsFinished result }
 {
+    let caller = share.caller();
     make_turns(
         rt,
         |caller: u16| -> Option<Turn>
@@ -164,5 +186,9 @@ pub fn work<S: Started, G: Gate, R: Wait>(rt: &R, lock: &Mutex<Locked<S>>, calle
         { lock.lock(rt).turn(caller, gate) },
         caller,
         gate,
+        counters,
+        &mut share,
     );
+    share.finish(counters);
+    share
 }

@@ -117,3 +117,26 @@ fn generated_traces_are_replayed(rt: HostRuntime) -> Result<(), AllocError> {
     }
     Ok(())
 }
+
+/// How many callers of a trace have count lines.
+fn counting_callers(trace: &[u8]) -> usize {
+    trace
+        .split_str(b"\ncaller ".as_slice())
+        .skip(1)
+        .filter(|section| section.contains_str(b"\ncount ".as_slice()))
+        .count()
+}
+
+#[test]
+fn count_lines_of_all_callers_are_replayed(rt: HostRuntime) -> Result<(), AllocError> {
+    let trace = made(rt.alloc(), 21, 1_000);
+    let callers = counting_callers(trace.as_slice());
+    assert!(rt; callers == 8, "{callers} callers count");
+    let (status, written) = lived(&rt, rt.alloc(), trace.as_slice(), &Open);
+    assert!(rt; status == 0, "status {status}");
+    assert!(rt;
+        is_replayed(rt.alloc(), trace.as_slice(), written.as_slice())?,
+        "replayed otherwise"
+    );
+    Ok(())
+}

@@ -6,5 +6,6 @@ pub mod Told
 pub mod OneCommand
 pub mod ReplayTexts
 pub mod Counted
+pub mod LiveCounted
 pub mod LiveReported
 pub mod MadeOf

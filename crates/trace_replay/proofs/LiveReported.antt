@@ -17,7 +17,9 @@ use Rattle.kernel_steps.specs.Runs.{HasEnded}
 use Rattle.kernel_steps.proofs.Moves.{history_is}
 use Rattle.trace_replay.specs.Headline.{setup, opening_calls, own_calls, history_of_trace}
 use Rattle.trace_replay.specs.LiveReports.{with_picks, IsLiveReport}
+use Rattle.trace_replay.specs.LiveCounts.{totals_in, totals_of_trace}
 use Rattle.trace_replay.proofs.LegalHistories.{legal_with}
+use Rattle.trace_replay.proofs.LiveCounted.{report_of_totals}
 use Rattle.trace_replay.proofs.Replays.{same_report}
 
 module _ (config : Config) (sections : List (List Call)) (r : Reading) (ruled : IsRuledTrace r) (same : config ≡ config_of r.header) (all : sections ≡ all_calls r) (picks : List ℕ) (k : KernelState)
@@ -33,7 +35,7 @@ module _ (config : Config) (sections : List (List Call)) (r : Reading) (ruled : 
 
   pub live_reported : (t : Tables) (rows : List CounterRow) (text : List ℕ)
       → ((config : Config) (opening : List Call) (calls : List (List Call)) (w : World) → IsStanding (setup_of config) opening calls w k → t ≡ tables_for false (setup_of config) w)
-      → rows ≡ counter_rows r.header.counters (cpus_of r.header) r.header.batch r.counts → text ≡ schedule picks ++ report t rows false → IsLiveReport r text
+      → totals_in rows ≡ totals_of_trace r → text ≡ schedule picks ++ report t rows false → IsLiveReport r text
   live_reported t rows text told counted e = record {
     picks = picks;
     order = record { moving = on_trace.run.moving; over = on_trace.over };
@@ -41,5 +43,6 @@ module _ (config : Config) (sections : List (List Call)) (r : Reading) (ruled : 
     says = e
         ∙ ap (λ (x : Tables). schedule picks ++ report x rows false) (tables_are t told)
         ∙ ap (λ (xs : List ℕ). schedule picks ++ xs) (same_report false (setup r) (history_of_trace (with_picks r picks)) rows)
-        ∙ ap (λ (xs : List CounterRow). schedule picks ++ report (tables_of (setup r) (history_of_trace (with_picks r picks))) xs false) counted;
+        ∙ ap (λ (xs : List ℕ). schedule picks ++ xs)
+        (report_of_totals (tables_of (setup r) (history_of_trace (with_picks r picks))) rows (counter_rows r.header.counters (cpus_of r.header) r.header.batch r.counts) counted);
   }

@@ -7,4 +7,5 @@ pub mod Words
 pub mod Headline
 pub mod WorkedReplays
 pub mod LiveReports
+pub mod LiveCounts
 pub mod Commands

@@ -15,6 +15,8 @@
 //! - `tables_of_trace`, a private part: the tables of the one history of a trace (`IsRuledTrace`). That this history is
 //!   a legal one is a law of `map_laws`.
 //! - `counters_of_trace`, a private part: the counters of a trace after its count lines.
+//! - `start_counts`, `finish_counts`, private parts of a live run: each caller has a share with its own count lines
+//!   (`IsCountingFor`), and once all are added the totals are those of the trace.
 #![tactic(auto)]
 
 mod answer;
@@ -23,6 +25,7 @@ mod counts;
 mod failing_calls;
 mod gather;
 mod live_command;
+mod live_counts;
 mod memory_sink;
 mod memory_source;
 mod send;

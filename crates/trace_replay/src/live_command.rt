@@ -10,20 +10,20 @@ ghost use Rattle.trace_replay.specs.LiveReports.{IsLiveReport};
 
 use crate::answer::{Outcome, fault, too_long};
 use crate::commands::tell;
-use crate::counts::counters_of_trace;
 use crate::gather::{Cut, gather};
+use crate::live_counts::{Counting, finish_counts, start_counts};
 use crate::sink::Sink;
 use crate::source::Source;
 use crate::status::Status;
 use report_text::{Fault, Text, write_report, write_schedule};
 use section_table::Gate;
-use shared_kernel::live_kernel;
+use shared_kernel::{Lived, live_kernel};
 use std::alloc::{AllocError, Global};
 use std::sync::Wait;
 use std::thread::Threads;
 use trace_text::{Trace, TraceError, read_trace};
 
-/// The order that happened, and the report of the trace with this order. Its counters are those of its lines in any order.
+/// The order that happened, and the report of the trace with this order. Each caller does its count lines between its calls.
 fn live_report<G: Gate + Sync, R: Threads + Wait + Sync>(
     rt: &R,
     alloc: Global,
@@ -33,12 +33,21 @@ fn live_report<G: Gate + Sync, R: Threads + Wait + Sync>(
     requires { (reading : Reading) × IsRuledTrace reading × Tells trace reading }
     ensures { IfOk result (λ outcome. (reading : Reading) → IsRuledTrace reading → Tells trace reading → Reports IsLiveReport reading outcome.status outcome.text) }
 {
-    let counters = counters_of_trace(alloc, &trace)?;
+    let Counting {
+        counters,
+        pass,
+        shares,
+    } = start_counts(alloc, &trace)?;
     let Trace { config, calls, .. } = trace;
-    let lived = live_kernel(rt, alloc, config, calls, gate)?;
-    let tables = lived.kernel.tables(false)?;
-    let schedule = write_schedule(alloc, &lived.kernel.moved()[lived.opening..])?;
-    let report = write_report(alloc, &tables, &counters, false)?;
+    let Lived {
+        kernel,
+        opening,
+        shares,
+    } = live_kernel(rt, alloc, config, calls, &counters, shares, gate)?;
+    let rows = finish_counts(alloc, counters, pass, shares)?;
+    let tables = kernel.tables(false)?;
+    let schedule = write_schedule(alloc, &kernel.moved()[opening..])?;
+    let report = write_report(alloc, &tables, &rows, false)?;
     let mut bytes = schedule.into_vec();
     bytes.extend_from_slice(report.as_slice())?;
     Ok(Outcome {

@@ -1,7 +1,11 @@
-use denote.Param.Send.{sendable}
+use denote.Param.Send.{IsSync, sendable}
 use Rattle.std.proofs.Crossing.{crosses}
 use Rattle.kernel_steps.proofs.Sent.{kernel_send}
-use Rattle.std.proofs.Common.{length, drop}
+use Rattle.std.proofs.Common.{◌≡◌, length, rules, sym, ap, ◌∙◌, arith}
+use Rattle.percpu_counters.specs.contracts.counters.Counters as counters
+use Rattle.percpu_counters.proofs.counters.Counters.TheSendSync as counting
+use Rattle.count_lines.specs.Shares.{lines_in}
+use Rattle.count_lines.proofs.OneByOne.{same_lines}
 use Rattle.unit_layout.specs.Config.{setup_of}
 use Rattle.shared_kernel.proofs.Moves.{begins, begins_with, picks_are, opened_within}
 use Rattle.shared_kernel.proofs.live.live_with.Goals as goal
@@ -27,5 +31,20 @@ returns-clause-run g c =
           c.moved-opening.ensures is.1,
     )
 
-pub map_indices-requires-sync-F : goal.map_indices-requires-sync-F
-map_indices-requires-sync-F g c κs within = let send_s = c.type_bounds.send-S in let sync_g = c.type_bounds.sync-G in let sync_r = c.type_bounds.sync-R in search (sendable, crosses, kernel_send) depth 30
+counters_sync : IsSync counters.the_row
+counters_sync = counting.the_sync
+
+pub map_vec-requires-sync-F : goal.map_vec-requires-sync-F
+map_vec-requires-sync-F g c κs within = let send_s = c.type_bounds.send-S in let sync_g = c.type_bounds.sync-G in let sync_r = c.type_bounds.sync-R in search (sendable, crosses, kernel_send, counters_sync) depth 30
+
+pub returns-clause-shares : goal.returns-clause-shares
+returns-clause-shares g c =
+    let given = c.args.shares.items in
+    let left = c.in_ok-shares.shares.items in
+    let many : length left ≡ length given = search rules in
+    let made = c.in_ok-shares.ensures.each in
+    record {
+      each = λ k d low. (made k d (omega arith)).1.call.met.0;
+      finished = λ k d low. (made k d (omega arith)).1.call.met.1.1;
+      lines = same_lines given left many (λ k d low. let job = (made k d low).1 in job.call.met.1.0.lines ∙ ap lines_in (sym (job.job_is d)));
+    }

@@ -8,7 +8,7 @@ use Rattle.percpu_counters.specs.declared.table.Shape.{Shape}
 use Rattle.percpu_counters.specs.Passes.{adds_of, shape_of}
 use Rattle.percpu_counters.specs.Rows.{exact_rows}
 use Rattle.report_text.specs.CounterTotals.{counter_rows}
-use Rattle.trace_replay.proofs.Counted.{rows-bare, line_at, one_more, all_added, count_of-bare}
+use Rattle.trace_replay.proofs.Counted.{rows-added, line_at, one_more, all_added, count_of-added}
 use Rattle.trace_replay.proofs.counts.counter_rows.Goals as goal
 
 pub loop-line-init : goal.loop-line-init
@@ -55,7 +55,7 @@ close-requires-clause-all c =
     let room = so_far.room in
     let asked = ap (λ (s : Shape). s.adds) c.in_ok-counted.ensures.started.shape in
     let adds = ap length (all_added (adds_of c.loop-line.pass) c.args.lines.now c.loop-line.line-index so_far.adds (omega arith)) in
-    omega (arith, count_of-bare c.args.lines.now)
+    omega (arith, count_of-added c.args.lines.now)
 
 pub returns : goal.returns
 returns c =
@@ -65,5 +65,5 @@ returns c =
     let adds = all_added (adds_of c.loop-line.pass) lines c.loop-line.line-index so_far.adds (omega arith) in
     let shape = c.in_ok-counted.ensures.started.shape in
     IfOk-weaker c.close.result (λ (rows : List CounterRow). rows ≡ exact_rows (shape_of c.in_ok-counted.counted) (adds_of c.loop-line.pass)) (λ (rows : List CounterRow). rows ≡ counter_rows c.args.counters c.args.cpus c.args.batch lines)
-    (λ rows is. is ∙ ap (λ (s : Shape). exact_rows s (adds_of c.loop-line.pass)) shape ∙ ap (counter_rows c.args.counters c.args.cpus c.args.batch) adds ∙ rows-bare c.args.counters c.args.cpus c.args.batch lines)
+    (λ rows is. is ∙ ap (λ (s : Shape). exact_rows s (adds_of c.loop-line.pass)) shape ∙ ap (counter_rows c.args.counters c.args.cpus c.args.batch) adds ∙ rows-added c.args.counters c.args.cpus c.args.batch lines)
     (c.close.ensures.alone so_far.alone)
