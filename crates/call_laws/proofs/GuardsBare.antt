@@ -5,7 +5,6 @@ use Rattle.vm_model.specs.declared.calls.Call.{Call}
 use Rattle.vm_model.specs.declared.areas.Span.{Span}
 use Rattle.vm_model.specs.declared.areas.Area.{Area}
 use Rattle.vm_model.specs.declared.areas.AreaKind.{AreaKind}
-use Rattle.vm_model.specs.declared.areas.AreaKind.TheVariants as kind
 use Rattle.vm_model.specs.Space.{end_of, holds, covers, is_among}
 use Rattle.vm_model.specs.Setup.{Setup, groups_at, pages_in_units}
 use Rattle.vm_model.specs.PlainMap.{PlainMap}
@@ -22,7 +21,7 @@ use Rattle.vm_model.specs.History.{World, Local, started, moved_to, made_by, ope
 use Rattle.vm_model.specs.LegalHistory.{Meets}
 use Rattle.vm_model.specs.Rules.{IsSetup, IsTrace}
 use Rattle.map_laws.proofs.AreaFacts.{IsHolding, guard_part}
-use Rattle.map_laws.proofs.AreasMade.{asks_settle, no_settle, areas_after}
+use Rattle.map_laws.proofs.AreaStarts.{asks_settle, no_settle, areas_after}
 use Rattle.map_laws.proofs.AreaWorlds.{IsLegalStep, IsLegallyLasting}
 use Rattle.map_laws.proofs.Chosen.{IsIn, filter_has}
 use Rattle.map_laws.proofs.Frames.{IsFramed, has_call, not_over}
@@ -34,6 +33,7 @@ use Rattle.map_laws.proofs.Spans.{covers_one, holds_from}
 use Rattle.map_laws.proofs.Touched.{unpainted, painted_still}
 use Rattle.map_laws.proofs.TraceWorlds.{IsTraceWorld, trace_first, trace_lasts, holding_here, proper_here}
 use Rattle.call_laws.specs.Guards.{OnGuard, OnGuardInHand}
+use Rattle.vm_model.specs.declared.areas.AreaKind.TheVariants as kind
 
 abbrev pub IsClean : PlainMap → ℕ → Type 0
 IsClean m page = slice_get m.stale page ≡ Some false

@@ -2,11 +2,9 @@
 use Rattle.std.proofs.Common.{◌≡◌, ℕ, zero, suc, ◌-◌, ◌<◌, ◌⊎◌, inl, inr, Bool, true, false, not, List, [], ◌∷◌, ◌++◌, length, slice_get, slice_set, Some, refl, ap, sym, ◌∙◌, subst, arith}
 use Rattle.std.proofs.lemmas.Option.{same_Some}
 use Rattle.vm_model.specs.declared.calls.Call.{Call}
-use Rattle.vm_model.specs.declared.calls.Reply.TheVariants as reply
 use Rattle.vm_model.specs.declared.areas.Span.{Span}
 use Rattle.vm_model.specs.declared.areas.Area.{Area}
 use Rattle.vm_model.specs.declared.areas.AreaKind.{AreaKind}
-use Rattle.vm_model.specs.declared.areas.AreaKind.TheVariants as kind
 use Rattle.vm_model.specs.Space.{end_of, covers, is_among}
 use Rattle.vm_model.specs.Setup.{Setup}
 use Rattle.vm_model.specs.PlainMap.{PlainMap, at_first}
@@ -28,20 +26,21 @@ use Rattle.map_laws.proofs.BlockPlaces.{with_keeps}
 use Rattle.map_laws.proofs.BlockWorlds.{only_one}
 use Rattle.map_laws.proofs.Chosen.{IsIn, filter_in}
 use Rattle.map_laws.proofs.ChunkFacts.{IsChunkAt, start_of}
-use Rattle.map_laws.proofs.ChunkSettled.{with_new}
+use Rattle.map_laws.proofs.ChunkNoted.{with_new}
 use Rattle.map_laws.proofs.Deeds.{removes_at, UnlinksAt, OfPurge, OfBlock, OfGroups, unlinks_at}
 use Rattle.map_laws.proofs.Frames.{IsFramed}
 use Rattle.map_laws.proofs.Lists.{same_or, set_same, set_other, append_first}
 use Rattle.map_laws.proofs.OutMoves.{same_area}
 use Rattle.map_laws.proofs.Spans.{covers_one, holds_from}
-use Rattle.map_laws.proofs.Stories.{more_events, event_first, event_last, WhichEvent, Before, Last, which_event}
+use Rattle.map_laws.proofs.WaitStories.{more_events, event_first, event_last, WhichEvent, Before, Last, which_event, behind_flushed, taken_before}
 use Rattle.map_laws.proofs.TraceWorlds.{areas_once, holding_here}
 use Rattle.map_laws.proofs.WaitReached.{IsWaitedWorld, wait_lasts, wait_first}
-use Rattle.map_laws.proofs.WaitStories.{behind_flushed, taken_before}
 use Rattle.map_laws.proofs.WaitWorlds.{Follows, Taken, IsWaitWorld}
-use Rattle.map_laws.proofs.WaitWorlds as waits
 use Rattle.call_laws.specs.Guards.{OnGuard, GuardsStayBare}
 use Rattle.call_laws.proofs.GuardsBare.{IsClean, clean_kept, HandClean, IsGuardedWorld, area_unmapped, hand_unmapped, guarded_lasts, guarded_first, bare, areas_bare, hands_bare}
+use Rattle.vm_model.specs.declared.calls.Reply.TheVariants as reply
+use Rattle.vm_model.specs.declared.areas.AreaKind.TheVariants as kind
+use Rattle.map_laws.proofs.WaitWorlds as waits
 
 -- where the guard of an area is that event i settled: it lives, a caller unmaps it or is about to let it wait, or it waited since
 pub data Where (w : World) (i page : ℕ) : Type 0 where

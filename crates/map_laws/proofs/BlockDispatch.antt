@@ -3,7 +3,6 @@ use Rattle.std.proofs.Common.{◌≡◌, ℕ, zero, suc, ◌+◌, ◌<◌, ◌�
 use Rattle.vm_model.specs.declared.areas.Span.{Span}
 use Rattle.vm_model.specs.declared.areas.Area.{Area}
 use Rattle.vm_model.specs.declared.areas.AreaKind.{AreaKind}
-use Rattle.vm_model.specs.declared.areas.AreaKind.TheVariants as kind
 use Rattle.vm_model.specs.declared.calls.Reply.{Reply}
 use Rattle.vm_model.specs.Space.{count_from, holds, is_among, times, pages_of}
 use Rattle.vm_model.specs.Setup.{Setup, cpus, pages_in_units, groups_at}
@@ -32,6 +31,7 @@ use Rattle.map_laws.proofs.FragmentMoves.{begin_moved, fragment_moved, to_next, 
 use Rattle.map_laws.proofs.BlockPlaces.{HasParts, is_still, still_b, plain_b, unblocky_next, hand_same, not_held, quiet_b, settle_b, held_b, remove_b, unlink_b, as_b, block_settled, framed_b, IsInChunk, groups_b}
 use Rattle.map_laws.proofs.AreaMoves.{AreGroupsFree}
 use Rattle.map_laws.proofs.OutMoves.{IsUnlinked}
+use Rattle.vm_model.specs.declared.areas.AreaKind.TheVariants as kind
 
 -- of the area that is removed at a place
 abbrev pub IsRemovedPlain : PlainMap → Place → Type 0
