@@ -12,7 +12,6 @@ use Rattle.vm_model.specs.contracts.areas.Span as span
 use Rattle.augmented_tree.specs.contracts.free_side.FreeSide as free_side
 use Rattle.augmented_tree.specs.contracts.stock.Stock as stock
 use Rattle.augmented_tree.specs.contracts.tree.Tree as tree
-use Rattle.augmented_tree.specs.contracts.tree.Tree.TheKnot as layers
 use Rattle.augmented_tree.specs.contracts.tree.Node as node
 use Rattle.augmented_tree.proofs.tree.Tree.TheLaws.TheKnot as knot
 

@@ -101,6 +101,16 @@ impl Bitmap {
         end
     }
 
+    /// Sets or clears one bit: `__set_bit` and `__clear_bit`.
+    pub fn put(&mut self, place: u32, value: bool)
+        requires { place < length self.old }
+        ensures { self.new ≡ paint (holds (span place 1)) value self.old }
+    {
+        let _ = &self.bits;
+        let word = &mut self.words[(place / WORD) as usize];
+        *word = with_bits(*word, mask_of(place % WORD, 1), value);
+    }
+
     /// Sets or clears so many bits from a place on: `bitmap_set` and `bitmap_clear`.
     pub fn fill(&mut self, start: u32, bits: u32, value: bool)
         requires { start + bits ≤ length self.old }

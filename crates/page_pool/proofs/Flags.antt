@@ -11,6 +11,7 @@ use Rattle.vm_model.specs.declared.areas.Span.{Span}
 use Rattle.vm_model.specs.Space.{one_if, span, holds, paint}
 use Rattle.vm_model.proofs.Elements.{same_by_get, slice_get-drop}
 use Rattle.vm_model.proofs.Paint.{slice_get-paint}
+use Rattle.chunk_bitmaps.specs.Bitmap.{IsNextBit}
 use Rattle.page_pool.specs.StaleList.{set_count, set_in, AreCountedBy, AreCounted}
 use Rattle.page_pool.proofs.Rows.{one_if-cond, same_or_apart}
 
@@ -232,3 +233,12 @@ pub nothing_stale : (size group : ℕ) (flags : List Bool) (s : Span) → 0 < si
 nothing_stale size group flags s some none each = sym (same_by_get (paint (holds s) false flags) flags (λ page.
     slice_get-paint (holds s) false flags page ∙ clear_if (slice_get flags page) (holds s page) (λ inside set.
     let more : 0 < set_in size group flags = subst (λ g. 0 < set_in size g flags) (each page inside) (set_in-some size page flags some set) in absurd (omega arith))))
+
+-- nothing is cleared before the next page that is set
+pub skipped : (flags : List Bool) (from end place : ℕ) → IsNextBit flags true from end place → flags ≡ paint (holds (span from (place - from))) false flags
+skipped flags from end place next = sym (same_by_get (paint (holds (span from (place - from))) false flags) flags (λ page.
+    slice_get-paint (holds (span from (place - from))) false flags page ∙ clear_if (slice_get flags page) (holds (span from (place - from)) page) (λ inside set.
+    let low : from ≤ page = grind (arith, nat_tests) in
+    let high : page < place = grind (arith, nat_tests) in
+    let clear : slice_get flags page ≡ Some false = next.others page low high in
+    cc)))

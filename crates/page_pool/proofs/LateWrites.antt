@@ -1,6 +1,6 @@
 -- One element is written, of a list of which the first so many were.
 use Rattle.std.proofs.Common.{◌≡◌, ℕ, zero, suc, ◌+◌, ◌-◌, ◌<◌, ◌≤◌, List, [], ◌∷◌, ◌++◌, length, replicate, get_or, slice_set, refl, ap, ◌∙◌, arith}
-use Rattle.std.proofs.lemmas.List.{length-set, length-append, length-replicate, get_or-replicate}
+use Rattle.std.proofs.lemmas.List.{length-set, length-append, length-replicate}
 use Rattle.page_pool.specs.Late.{with_blanks}
 
 set_in_front : {X : Type 0} (xs ys : List X) (k : ℕ) (x : X) → k < length xs → slice_set xs k x ++ ys ≡ slice_set (xs ++ ys) k x

@@ -11,3 +11,4 @@ pub mod UnitPages
 pub mod Populating
 pub mod Depopulating
 pub mod WordSums
+pub mod Groups

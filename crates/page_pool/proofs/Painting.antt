@@ -1,6 +1,8 @@
 -- Places that are set one by one, and the same places painted.
-use Rattle.std.proofs.Common.{◌≡◌, ◌≢◌, ℕ, zero, suc, ◌+◌, ◌-◌, ◌≤◌, Bool, true, false, ◌||◌, ◌==◌, if◌then◌else◌, List, [], ◌∷◌, slice_get, slice_set, Option, Some, None, option_map, refl, ap, sym, ◌∙◌, arith}
+use Rattle.std.proofs.Common.{◌≡◌, ◌≢◌, ℕ, zero, suc, ◌+◌, ◌-◌, ◌≤◌, Bool, true, false, ◌||◌, ◌==◌, if◌then◌else◌, List, [], ◌∷◌, length, ◌<◌, slice_get, slice_set, Option, Some, None, option_map, refl, ap, sym, ◌∙◌, arith}
 use Rattle.std.proofs.lemmas.Bool.Decides.{nat_tests}
+use Rattle.std.proofs.lemmas.List.{set-get_or}
+use Rattle.vm_model.specs.Bits.{value_at}
 use Rattle.vm_model.specs.declared.areas.Span.{Span}
 use Rattle.vm_model.specs.Space.{span, end_of, holds, paint_from, paint}
 use Rattle.vm_model.proofs.Elements.{same_by_get}
@@ -91,3 +93,14 @@ pub paint-on : {X : Type 0} (start page n : ℕ) (x : X) (ys now after : List X)
     → after ≡ paint (holds (span start (page + n - start))) x ys
 paint-on start page n x ys now after h is more =
     more ∙ ap (paint (holds (span page n)) x) is ∙ paint-paint (holds (span start (page - start))) (holds (span page n)) (holds (span start (page + n - start))) x ys (λ i. holds-on start page n i h)
+
+-- one place is painted
+holds-one : (k i : ℕ) → holds (span k 1) i ≡ (false || (k == i))
+holds-one k i = grind (arith, nat_tests)
+
+pub paint_one : {X : Type 0} (k : ℕ) (x : X) (ys : List X) → paint (holds (span k 1)) x ys ≡ slice_set ys k x
+paint_one k x ys = sym (ap (λ zs. slice_set zs k x) (sym (paint-none (λ i. false) x ys (λ i. refl))) ∙ paint-set (λ i. false) (holds (span k 1)) x ys k (holds-one k))
+
+-- a place that already has the value
+pub set_again : (bits : List Bool) (place : ℕ) (value : Bool) → place < length bits → value_at bits place ≡ value → slice_set bits place value ≡ bits
+set_again bits place value within is = ap (slice_set bits place) (sym is) ∙ set-get_or bits place false

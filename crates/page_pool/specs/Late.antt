@@ -1,11 +1,6 @@
 -- Lists of which only the first so many elements were ever written.
-use Rattle.std.specs.Prelude.{ℕ, ◌-◌, ◌≤◌, List, ◌++◌, length, replicate}
+use Rattle.std.specs.Prelude.{ℕ, ◌-◌, List, ◌++◌, length, replicate}
 
 -- what was written, and blanks up to a length
 abbrev pub with_blanks : {X : Type 0} → X → List X → ℕ → List X
 with_blanks blank written n = written ++ replicate (n - length written) blank
-
--- there is room for all of them
-pub record HasRoomFor (n written capacity : ℕ) : Type 0 where
-  pub fits : written ≤ n
-  pub room : n ≤ capacity

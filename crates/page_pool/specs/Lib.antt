@@ -5,3 +5,4 @@ pub mod Late
 pub mod Words
 pub mod Units
 pub mod Sections
+pub mod Groups

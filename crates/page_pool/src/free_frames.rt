@@ -56,7 +56,7 @@ impl FreeFrames {
         ensures { self.old ≡ record self.new { numbers = result ∷ self.new.numbers } }
     {
         let frame = self.taken.find_next(false, self.lowest, self.taken.len());
-        self.taken.fill(frame, 1, true);
+        self.taken.put(frame, true);
         self.free -= 1;
         self.lowest = frame + 1;
         frame
@@ -68,7 +68,7 @@ impl FreeFrames {
         requires taken { is_among self.old.numbers frame ≡ false }
         ensures { self.new ≡ record self.old { numbers = put_by (λ n. n) frame self.old.numbers } }
     {
-        self.taken.fill(frame, 1, false);
+        self.taken.put(frame, false);
         self.free += 1;
         self.lowest = self.lowest.min(frame);
     }

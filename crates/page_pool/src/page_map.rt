@@ -1,25 +1,48 @@
 //! Which frame each page has, as the kernel's page tables keep it.
-ghost use Rattle.std.specs.Prelude.{◌≡◌, ◌<◌, None, IfOk, length, replicate, slice_index_or, slice_set};
+ghost use Rattle.std.specs.Prelude.{◌≡◌, ◌<◌, Option, None, ℕ, IfOk, length, replicate, slice_index_or, slice_set, vec_capacity};
+ghost use Rattle.page_pool.specs.Groups.{AreGroups, IsOwn};
 
 use std::alloc::{AllocError, Global};
 use std::marker::Model;
 
-/// The frames of pages, up to the last page that ever had one. The pages behind it have none, and take no time.
+/// How many pages a group has. Its frames are written, all none, when one of its pages gets a frame for the first time.
+const GROUP: usize = 128;
+
+/// The frames of pages. A group of pages none of which ever had one takes 4 bytes, and shares the frames of the group with
+/// number 0, which are none.
 #[derive(Drop)]
 pub(crate) struct PageMap {
+    numbers: Vec<u32>,
     written: Vec<Option<u32>>,
     pages: u32,
 }
 
 impl Model for PageMap {
     ghost use Rattle.std.specs.Prelude.{List, Option, None, ℕ, length, vec_capacity};
-    ghost use Rattle.page_pool.specs.Late.{with_blanks, HasRoomFor};
+    ghost use Rattle.page_pool.specs.Groups.{with_groups, HasGroups};
 
     ghost Value = { List (Option ℕ) };
 
-    ghost view = { λ m. with_blanks None m.written.items m.pages };
+    ghost view = { λ m. with_groups None m.numbers.items m.written.items m.pages };
 
-    ghost invariant = { λ m. HasRoomFor m.pages (length m.written.items) (vec_capacity m.written) };
+    ghost invariant = { λ m. HasGroups m.pages m.numbers.items m.written.items (vec_capacity m.written) };
+}
+
+/// The place of the first page of a group among the written ones, after its pages were written if they never were.
+fn own_group(numbers: &mut Vec<u32>, written: &mut Vec<Option<u32>>, group: usize) -> usize
+    requires within { group < length numbers.old.items }
+    requires groups { AreGroups (Option ℕ) None numbers.old.items written.old.items (vec_capacity written.old) }
+    ensures { IsOwn (Option ℕ) None numbers.old.items written.old.items numbers.new.items written.new.items (vec_capacity written.new) group result }
+{
+    if numbers[group] > 0 {
+        return numbers[group] as usize * GROUP;
+    }
+    let first = written.len();
+    let Ok(()) = written.resize(first + GROUP, None) else {
+        unreachable!();
+    };
+    numbers[group] = (first / GROUP) as u32;
+    first
 }
 
 impl PageMap {
@@ -27,8 +50,15 @@ impl PageMap {
     pub(crate) fn unmapped(alloc: Global, pages: u32) -> Result<PageMap, AllocError>
         ensures { IfOk result (λ map. map ≡ replicate pages None) }
     {
-        let written = Vec::with_capacity(alloc, pages as usize)?;
-        Ok(PageMap { written, pages })
+        let groups = pages.div_ceil(GROUP as u32) as usize;
+        let numbers = vec![in alloc; 0; groups]?;
+        let mut written = Vec::with_capacity(alloc, (groups + 1) * GROUP)?;
+        written.resize(GROUP, None)?;
+        Ok(PageMap {
+            numbers,
+            written,
+            pages,
+        })
     }
 
     /// How many pages there are.
@@ -43,10 +73,9 @@ impl PageMap {
         requires { page < length self.now }
         ensures { result ≡ slice_index_or self.now page result }
     {
-        match self.written.get(page as usize) {
-            Some(frame) => *frame,
-            None => None,
-        }
+        let place = page as usize;
+        let number = self.numbers[place / GROUP] as usize;
+        self.written[number * GROUP + place % GROUP]
     }
 
     /// Gives a page another frame, or none. The room for it was there from the start.
@@ -55,15 +84,7 @@ impl PageMap {
         ensures { self.new ≡ slice_set self.old page frame }
     {
         let place = page as usize;
-        if place < self.written.len() {
-            self.written[place] = frame;
-            return;
-        }
-        let Ok(()) = self.written.resize(place, None) else {
-            unreachable!();
-        };
-        let Ok(()) = self.written.push(frame) else {
-            unreachable!();
-        };
+        let first = own_group(&mut self.numbers, &mut self.written, place / GROUP);
+        self.written[first + place % GROUP] = frame;
     }
 }

@@ -179,8 +179,7 @@ impl PageSide {
     }
 
     /// No page of a span is stale any more, as after `flush_tlb_kernel_range`. It takes time for each 4,096 pages of
-    /// the span, for each 64 of those in which one was stale, and for each page of these 64 if one of them was. It takes
-    /// no memory.
+    /// the span, for each 64 of those in which one was stale, and for each stale page. It takes no memory.
     pub fn flush(&mut self, span: Span)
         requires inside { end_of span ≤ length self.old.frames }
         ensures flushed { self.new ≡ with_flushed span self.old }

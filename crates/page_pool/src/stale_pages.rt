@@ -1,8 +1,10 @@
 //! Which pages are stale: those whose old frames a TLB may still have, until `flush_tlb_kernel_range`.
 ghost use Rattle.std.specs.Prelude.{◌≡◌, ◌/◌, ◌<◌, ◌≤◌, ◌^◌, ℕ, true, false, IfOk, length, replicate, slice_get, slice_set};
 ghost use Rattle.vm_model.specs.Space.{holds, end_of, paint};
+ghost use Rattle.chunk_bitmaps.specs.Bitmap.{IsNextBit};
 ghost use Rattle.page_pool.specs.StaleList.{is_set, set_count};
 
+use chunk_bitmaps::Bitmap;
 use std::alloc::{AllocError, Global};
 use std::marker::Model;
 use vm_model::Span;
@@ -13,10 +15,13 @@ const GROUP: u32 = 64;
 /// How many pages a cluster of 64 groups has, which a flush passes over too where none of them is stale.
 const CLUSTER: u32 = 64 * GROUP;
 
-/// For each page whether it is stale, and how many pages of each group and of each cluster are.
+/// The most pages that a bitmap has bits for.
+const MOST_PAGES: u32 = 1 << 31;
+
+/// A bit for each page that is set where it is stale, and how many pages of each group and of each cluster are.
 #[derive(Drop)]
 pub(crate) struct StalePages {
-    flags: Vec<bool>,
+    flags: Bitmap,
     groups: Vec<u16>,
     clusters: Vec<u16>,
     count: u32,
@@ -28,17 +33,20 @@ impl Model for StalePages {
 
     ghost Value = { List Bool };
 
-    ghost view = { λ s. s.flags.items };
+    ghost view = { λ s. s.flags };
 
-    ghost invariant = { λ s. AreCounted s.flags.items s.groups.items s.clusters.items s.count };
+    ghost invariant = { λ s. AreCounted s.flags s.groups.items s.clusters.items s.count };
 }
 
 impl StalePages {
-    /// So many pages, none of them stale.
+    /// So many pages, none of them stale. An error comes also where there are more than 2 ^ 31.
     pub(crate) fn none(alloc: Global, space: u32) -> Result<StalePages, AllocError>
         ensures { IfOk result (λ pages. pages ≡ replicate space false) }
     {
-        let flags = vec![in alloc; false; space as usize]?;
+        if space > MOST_PAGES {
+            return Err(AllocError);
+        }
+        let flags = Bitmap::clear(alloc, space)?;
         let groups = vec![in alloc; 0; space.div_ceil(GROUP) as usize]?;
         let clusters = vec![in alloc; 0; space.div_ceil(CLUSTER) as usize]?;
         Ok(StalePages {
@@ -53,9 +61,10 @@ impl StalePages {
     pub(crate) fn contains(&self, page: u32) -> bool
         ensures { result ≡ is_set (slice_get self.now page) }
     {
-        match self.flags.get(page as usize) {
-            Some(flag) => *flag,
-            None => false,
+        if page < self.flags.len() {
+            self.flags.contains(page)
+        } else {
+            false
         }
     }
 
@@ -65,10 +74,10 @@ impl StalePages {
         requires space { length self.old < 2 ^ 32 }
         ensures { self.new ≡ slice_set self.old page true }
     {
-        if self.flags[page as usize] {
+        if self.flags.contains(page) {
             return;
         }
-        self.flags[page as usize] = true;
+        self.flags.put(page, true);
         self.groups[(page / GROUP) as usize] += 1;
         self.clusters[(page / CLUSTER) as usize] += 1;
         self.count += 1;
@@ -90,13 +99,22 @@ impl StalePages {
         requires { page < length self.old }
         ensures { self.new ≡ slice_set self.old page false }
     {
-        if !self.flags[page as usize] {
+        if !self.flags.contains(page) {
             return;
         }
-        self.flags[page as usize] = false;
+        self.flags.put(page, false);
         self.groups[(page / GROUP) as usize] -= 1;
         self.clusters[(page / CLUSTER) as usize] -= 1;
         self.count -= 1;
+    }
+
+    /// The first stale page from one on and before the end, or the end.
+    fn next_stale(&self, from: u32, end: u32) -> u32
+        requires order { from ≤ end }
+        requires within { end ≤ length self.now }
+        ensures { IsNextBit self.now true from end result }
+    {
+        self.flags.find_next(true, from, end)
     }
 
     /// No page of a span is stale any more.
@@ -105,8 +123,11 @@ impl StalePages {
         requires space { length self.old < 2 ^ 32 }
         ensures { self.new ≡ paint (holds span) false self.old }
     {
-        for page in span.start..span.start + span.pages {
+        let end = span.start + span.pages;
+        let mut page = self.next_stale(span.start, end);
+        while page < end {
             self.clear_page(page);
+            page = self.next_stale(page + 1, end);
         }
     }
 
@@ -123,8 +144,7 @@ impl StalePages {
         }
     }
 
-    /// No page of a span is stale any more. It takes time for each group, and for each page of the groups that have a
-    /// stale one.
+    /// No page of a span is stale any more. It takes time for each group, and for each stale page.
     fn flush_groups(&mut self, span: Span)
         requires inside { end_of span ≤ length self.old }
         requires space { length self.old < 2 ^ 32 }
@@ -153,7 +173,7 @@ impl StalePages {
     }
 
     /// No page of a span is stale any more. It takes time for each cluster, for each group of the clusters that have a
-    /// stale page, and for each page of the groups that have one.
+    /// stale page, and for each stale page.
     pub(crate) fn flush(&mut self, span: Span)
         requires inside { end_of span ≤ length self.old }
         requires space { length self.old < 2 ^ 32 }

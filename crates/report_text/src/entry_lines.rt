@@ -1,41 +1,39 @@
 //! The lines of the replies, and their tally.
 ghost use Rattle.std.specs.Prelude.{◌≡◌, ◌++◌, ◌∷◌, [], OnOk};
-ghost use Rattle.vm_model.specs.Words.{fields};
-ghost use Rattle.report_text.specs.Numerals.{address, reply_words};
+ghost use Rattle.text_lines.specs.Fields.{field_text};
+ghost use Rattle.vm_model.specs.Words.{line};
+ghost use Rattle.report_text.specs.Numerals.{reply_words};
 ghost use Rattle.report_text.specs.Tally.{counts_line, tally_line};
 
 use crate::numerals::hex_digits;
 use crate::rows::Row;
 use crate::tally::{Tally, tally_of};
 use std::alloc::AllocError;
-use text_lines::Field::{Amount, Number, Pair, Tagged, Word};
-use text_lines::{put_field, put_line, put_words};
+use text_lines::Field::{self, Amount, Joined, Number, Pair, Tagged, Word};
+use text_lines::{put_fields, put_line};
 use vm_model::{Entry, Reply};
 
-/// Writes an address, a space before it.
-fn put_address(text: &mut Vec<u8>, number: u64) -> Result<(), AllocError>
-    ensures { OnOk result (text.new.items ≡ text.old.items ++ fields ([] ∷ address number ∷ [])) }
-{
-    put_words(text, &[Word(b"0x")])?;
-    put_field(text, Word(&hex_digits(number)))
-}
-
-/// Writes the words of a reply, a space before each.
-fn put_reply(text: &mut Vec<u8>, reply: &Reply) -> Result<(), AllocError>
-    ensures { OnOk result (text.new.items ≡ text.old.items ++ fields ([] ∷ reply_words reply.now)) }
+/// Writes the line of a reply, between the call that it answers and the event at which it came.
+fn put_reply(text: &mut Vec<u8>, call: Field, reply: &Reply, event: Field) -> Result<(), AllocError>
+    ensures { OnOk result (text.new.items ≡ text.old.items ++ line (field_text call.entry ∷ (reply_words reply.now ++ field_text event.entry ∷ []))) }
 {
     match reply {
-        Reply::Address(number) => put_address(text, *number),
-        Reply::Done => put_words(text, &[Word(b"done")]),
-        Reply::Sum(total) => put_words(text, &[Word(b"sum"), Amount(*total)]),
-        Reply::Count(pages) => put_words(text, &[Word(b"count"), Number(*pages as u64)]),
-        Reply::NoSpace => put_words(text, &[Word(b"no-space")]),
-        Reply::NoFrames => put_words(text, &[Word(b"no-frames")]),
-        Reply::NoAtomic => put_words(text, &[Word(b"no-atomic")]),
-        Reply::NotLive => put_words(text, &[Word(b"not-live")]),
-        Reply::BadSize => put_words(text, &[Word(b"bad-size")]),
-        Reply::BadAlign => put_words(text, &[Word(b"bad-align")]),
-        Reply::Unbound => put_words(text, &[Word(b"unbound")]),
+        Reply::Address(number) => {
+            let digits = hex_digits(*number);
+            put_fields(text, call, &[Joined(b"0x", &digits), event])
+        }
+        Reply::Done => put_fields(text, call, &[Word(b"done"), event]),
+        Reply::Sum(total) => put_fields(text, call, &[Word(b"sum"), Amount(*total), event]),
+        Reply::Count(pages) => {
+            put_fields(text, call, &[Word(b"count"), Number(*pages as u64), event])
+        }
+        Reply::NoSpace => put_fields(text, call, &[Word(b"no-space"), event]),
+        Reply::NoFrames => put_fields(text, call, &[Word(b"no-frames"), event]),
+        Reply::NoAtomic => put_fields(text, call, &[Word(b"no-atomic"), event]),
+        Reply::NotLive => put_fields(text, call, &[Word(b"not-live"), event]),
+        Reply::BadSize => put_fields(text, call, &[Word(b"bad-size"), event]),
+        Reply::BadAlign => put_fields(text, call, &[Word(b"bad-align"), event]),
+        Reply::Unbound => put_fields(text, call, &[Word(b"unbound"), event]),
     }
 }
 
@@ -45,10 +43,8 @@ impl Row for Entry {
     ghost line = { entry_line };
 
     fn put(&self, text: &mut Vec<u8>) -> Result<(), AllocError> {
-        put_field(text, Pair(self.caller as u64, b".", self.call as u64))?;
-        put_reply(text, &self.reply)?;
-        put_words(text, &[Tagged(b"@", self.event)])?;
-        put_field(text, Word(b"\n"))
+        let call = Pair(self.caller as u64, b".", self.call as u64);
+        put_reply(text, call, &self.reply, Tagged(b"@", self.event))
     }
 }
 

@@ -2,14 +2,14 @@
 ghost use Rattle.std.specs.Prelude.{◌≡◌, ◌++◌, ◌∷◌, [], OnOk, codes};
 ghost use Rattle.std.specs.List.{flat_map};
 ghost use Rattle.text_lines.specs.Fields.{field_text};
-ghost use Rattle.vm_model.specs.Words.{fields, line};
+ghost use Rattle.vm_model.specs.Words.{line};
 ghost use Rattle.report_text.specs.Numerals.{range};
-ghost use Rattle.report_text.specs.TableLines.{events_line, frames_line, area_line, area_kind, dirty_range, block_line, part_line, chunk_line, object_line, counter_line, counter_lines};
+ghost use Rattle.report_text.specs.TableLines.{events_line, frames_line, area_line, dirty_range, block_line, part_line, chunk_line, object_line, counter_line, counter_lines};
 
 use crate::rows::Row;
 use std::alloc::AllocError;
 use text_lines::Field::{self, Amount, Number, Pair, Word};
-use text_lines::{put_field, put_line, put_words};
+use text_lines::put_line;
 use vm_model::{Area, AreaKind, BlockRow, ChunkRow, CounterRow, ObjectRow, PartRow, Span};
 
 /// Writes how many events there were.
@@ -56,29 +56,6 @@ pub fn put_spans(text: &mut Vec<u8>, word: &[u8], spans: &[Span]) -> Result<(), 
     Ok(())
 }
 
-/// Writes the kind of an area, a space before each word.
-fn put_kind(text: &mut Vec<u8>, kind: &AreaKind) -> Result<(), AllocError>
-    ensures { OnOk result (text.new.items ≡ text.old.items ++ fields ([] ∷ area_kind kind.now)) }
-{
-    match kind {
-        AreaKind::Vmalloc => put_words(text, &[Word(b"vmalloc")]),
-        AreaKind::MapRam => put_words(text, &[Word(b"ram")]),
-        AreaKind::Block { cpu } => put_words(
-            text,
-            &[Word(b"block"), Word(b"cpu"), Number(*cpu as u64)],
-        ),
-        AreaKind::Chunk { chunk, group } => put_words(
-            text,
-            &[
-                Word(b"chunk"),
-                Number(*chunk as u64),
-                Word(b"group"),
-                Number(*group as u64),
-            ],
-        ),
-    }
-}
-
 impl Row for Area {
     ghost use Rattle.report_text.specs.TableLines.{area_line};
 
@@ -86,17 +63,30 @@ impl Row for Area {
 
     fn put(&self, text: &mut Vec<u8>) -> Result<(), AllocError> {
         let end = self.span.start as u64 + self.span.pages as u64;
-        let owner = [
-            Word(b"caller"),
-            Number(self.caller as u64),
-            Word(b"serial"),
-            Number(self.serial as u64),
-        ];
-        put_field(text, Word(b"area"))?;
-        put_words(text, &[Pair(self.span.start as u64, b"..", end)])?;
-        put_kind(text, &self.kind)?;
-        put_words(text, &owner)?;
-        put_field(text, Word(b"\n"))
+        let place = Pair(self.span.start as u64, b"..", end);
+        let (by, caller) = (Word(b"caller"), Number(self.caller as u64));
+        let (of, serial) = (Word(b"serial"), Number(self.serial as u64));
+        match self.kind {
+            AreaKind::Vmalloc => {
+                let kind = Word(b"vmalloc");
+                put_line(text, b"area", &[place, kind, by, caller, of, serial])
+            }
+            AreaKind::MapRam => {
+                let kind = Word(b"ram");
+                put_line(text, b"area", &[place, kind, by, caller, of, serial])
+            }
+            AreaKind::Block { cpu } => {
+                let (kind, at, cpu) = (Word(b"block"), Word(b"cpu"), Number(cpu as u64));
+                let rest = [place, kind, at, cpu, by, caller, of, serial];
+                put_line(text, b"area", &rest)
+            }
+            AreaKind::Chunk { chunk, group } => {
+                let (kind, chunk) = (Word(b"chunk"), Number(chunk as u64));
+                let (at, group) = (Word(b"group"), Number(group as u64));
+                let rest = [place, kind, chunk, at, group, by, caller, of, serial];
+                put_line(text, b"area", &rest)
+            }
+        }
     }
 }
 

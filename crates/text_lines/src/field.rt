@@ -17,6 +17,8 @@ pub enum Field<'a> {
     Amount(i64),
     /// A number right behind some bytes.
     Tagged(&'a [u8], u64),
+    /// Bytes right behind others.
+    Joined(&'a [u8], &'a [u8]),
     /// Two numbers with some bytes between them.
     Pair(u64, &'a [u8], u64),
 }
@@ -48,6 +50,10 @@ pub fn put_field(text: &mut Vec<u8>, field: Field) -> Result<(), AllocError>
         Field::Tagged(tag, n) => {
             text.extend_from_slice(tag)?;
             put_number(text, n)
+        }
+        Field::Joined(front, back) => {
+            text.extend_from_slice(front)?;
+            text.extend_from_slice(back)
         }
         Field::Pair(a, mark, b) => {
             put_number(text, a)?;

@@ -108,6 +108,13 @@ last_picked callers text rest old new newer count n so few clean known spells pu
       put ∙ ap (λ t. t ++ n ∷ []) so.put ∙ append_assoc old so.picks (n ∷ []),
     )
 
+-- the same, where the text of the pick is told
+pub last_told : (callers : ℕ) (text rest old new newer : List ℕ) (count n : ℕ) → callers < 2 ^ 16 → IsPicked callers text rest old new count → count < 64
+    → within 1 callers n ≡ true → rest ≡ decimal n → newer ≡ new ++ n ∷ [] → AddsPicks callers text true old newer
+last_told callers text rest old new newer count n small so few known spells put =
+    let clean : lacks 32 rest ≡ true = ap (lacks 32) spells ∙ lacks-clean 32 (decimal n) (omega arith) (clean-decimal n (pick_is_number callers n small known)) in
+    last_picked callers text rest old new newer count n so few clean known spells put
+
 -- a field that picks nobody
 pub not_picked : (callers : ℕ) (text rest field more old new newer : List ℕ) (count : ℕ) → callers < 2 ^ 16 → IsPicked callers text rest old new count → rest ≡ field ++ 32 ∷ more → lacks 32 field ≡ true
     → ((n : ℕ) → within 1 callers n ≡ true → field ≢ decimal n) → AddsPicks callers text false old newer

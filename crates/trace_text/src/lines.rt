@@ -22,14 +22,16 @@ use crate::sections::close_section;
 use std::alloc::{AllocError, Global};
 use std::mem;
 
-/// Ends the names of the open section. Those of the opening are kept.
+/// Ends the names of the open section. Those of the opening are kept. The callers' sections, one after another, have slots
+/// for twice an even share of the names.
 fn close_names(alloc: Global, progress: &mut Progress)
     ensures none { (name : List ℕ) → place_of progress.new.names name ≡ None }
     ensures kept { progress.new.opening_names ≡ (if progress.old.caller == 0 then progress.old.names else progress.old.opening_names) }
     ensures same { progress.new ≡ record progress.old { names = progress.new.names; opening_names = progress.new.opening_names } }
 {
     if progress.caller == 0 {
-        let names = Names::new(alloc, progress.names.wanted());
+        let slots = progress.names.wanted() / (progress.callers as usize / 2).max(1);
+        let names = Names::new(alloc, slots);
         progress.opening_names = mem::replace(&mut progress.names, names);
     } else {
         progress.names.clear();

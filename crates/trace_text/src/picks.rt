@@ -1,5 +1,5 @@
 //! The picks of an `order` line, as they are read.
-ghost use Rattle.std.specs.Prelude.{◌≡◌, ◌≢◌, ◌++◌, ◌∷◌, ℕ, IfOk, IfSome, IfNone, IsTrue, decimal};
+ghost use Rattle.std.specs.Prelude.{◌≡◌, ◌≢◌, ◌++◌, ◌∷◌, [], ℕ, IfOk, IfSome, IfNone, IsTrue, decimal};
 ghost use Rattle.vm_model.specs.Words.{within};
 ghost use Rattle.trace_text.specs.Held.{AddsPicks};
 
@@ -36,11 +36,48 @@ fn pick_before(text: &[u8], callers: u16, width: usize) -> Option<(u16, &[u8])>
     Some((caller, &text[width + 1..]))
 }
 
-/// The same, of a pick of one or two digits: no trace has more than 16 callers.
+/// The caller that one digit picks.
+fn digit_pick(digit: u8, callers: u16) -> Option<u16>
+    ensures { IfSome result (λ caller. IsTrue (within 1 callers caller) × (digit ∷ [] ≡ decimal caller)) }
+{
+    if digit < b'1' || b'9' < digit {
+        return None;
+    }
+    let caller = u16::from(digit - b'0');
+    if callers < caller {
+        return None;
+    }
+    Some(caller)
+}
+
+/// The caller that one digit picks, where a space is behind it, and the text behind that space.
+fn digit_before(text: &[u8], callers: u16) -> Option<(u16, &[u8])>
+    ensures { IfSome result (λ found. IsTrue (within 1 callers found.0) × (text.now ≡ decimal found.0 ++ 32 ∷ found.1.now)) }
+{
+    if text.len() < 2 || text[1] != b' ' {
+        return None;
+    }
+    let Some(caller) = digit_pick(text[0], callers) else {
+        return None;
+    };
+    Some((caller, &text[2..]))
+}
+
+/// The caller that a text of one digit picks.
+fn last_digit(text: &[u8], callers: u16) -> Option<u16>
+    ensures { IfSome result (λ caller. IsTrue (within 1 callers caller) × (text.now ≡ decimal caller)) }
+{
+    if text.len() != 1 {
+        return None;
+    }
+    digit_pick(text[0], callers)
+}
+
+/// The caller that one or two digits pick, where a space is behind them, and the text behind that space: no trace has more than 16 callers.
 fn short_pick(text: &[u8], callers: u16) -> Option<(u16, &[u8])>
     ensures { IfSome result (λ found. IsTrue (within 1 callers found.0) × (text.now ≡ decimal found.0 ++ 32 ∷ found.1.now)) }
 {
-    match pick_before(text, callers, 1) {
+    match digit_before(text, callers) {
         Some(found) => Some(found),
         None => pick_before(text, callers, 2),
     }
@@ -56,6 +93,10 @@ pub fn read_picks(picks: &mut Vec<u16>, callers: u16, text: &[u8]) -> Result<boo
             picks.push(caller)?;
             rest = more;
             continue;
+        }
+        if let Some(caller) = last_digit(rest, callers) {
+            picks.push(caller)?;
+            return Ok(true);
         }
         let Some((field, more)) = cut(rest, b' ') else {
             let Some(caller) = pick(rest, callers) else {

@@ -58,6 +58,9 @@ impl PageSide {
         if free < asked {
             return Err(NoFrames { asked, free });
         }
+        if asked == 0 {
+            return Ok(());
+        }
         for unit in units {
             self.map_unit(base, *unit, pages);
         }

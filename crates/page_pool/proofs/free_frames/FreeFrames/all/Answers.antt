@@ -1,5 +1,5 @@
 use Rattle.std.proofs.Common.{◌∙◌, ap, arith}
-use Rattle.page_pool.specs.FrameList.{FrameList, lowest_first}
+use Rattle.page_pool.specs.FrameList.{lowest_first}
 use Rattle.page_pool.proofs.FreeBits.{lowest_first-all, counted_first}
 use Rattle.page_pool.proofs.free_frames.FreeFrames.all.Goals as goal
 

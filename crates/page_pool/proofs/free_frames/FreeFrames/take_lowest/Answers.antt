@@ -12,8 +12,8 @@ found bits now free lowest end frame view counted all next some =
 pub find_next-frame-requires : goal.find_next-frame-requires
 find_next-frame-requires c = let within = c.self.invariant.within in let all = c.len.ensures.len in record { order = omega arith; within = omega arith }
 
-pub fill-requires : goal.fill-requires
-fill-requires c =
+pub put-requires : goal.put-requires
+put-requires c =
     let is = found c.self.inside.taken c.args.self.now c.self.inside.free c.self.inside.lowest c.len.result c.find_next-frame.result c.self.view_is c.self.invariant c.len.ensures.len c.find_next-frame.ensures c.requires in
     let within = is.within in omega arith
 
@@ -33,10 +33,10 @@ invariant_of-self c =
     let some = c.requires in
     let count = c.self.invariant.count in
     let same = ap (λ (f : FrameList). length f.numbers) c.self.view_is in
-    subst (λ (bits : List Bool). AreCounted bits (c.self.inside.free - 1) (c.find_next-frame.result + 1)) (sym c.fill.ensures)
+    subst (λ (bits : List Bool). AreCounted bits (c.self.inside.free - 1) (c.find_next-frame.result + 1)) (sym c.put.ensures)
     (counted_taken c.self.inside.taken c.self.inside.free c.self.inside.lowest (c.self.inside.free - 1) c.find_next-frame.result c.self.invariant is (omega arith))
 
 pub returns : goal.returns
 returns c =
     let is = found c.self.inside.taken c.args.self.now c.self.inside.free c.self.inside.lowest c.len.result c.find_next-frame.result c.self.view_is c.self.invariant c.len.ensures.len c.find_next-frame.ensures c.requires in
-    sym c.self.view_is ∙ taken_from c.self.inside.taken c.fill.new.self c.find_next-frame.result is c.fill.ensures
+    sym c.self.view_is ∙ taken_from c.self.inside.taken c.put.new.self c.find_next-frame.result is c.put.ensures

@@ -1,22 +1,39 @@
-use Rattle.std.proofs.Common.{◌≡◌, vec_len, ◌∷◌, [], ◌++◌, ◌-◌, length, replicate, slice_set, take, None, ap, ◌∙◌, arith}
-use Rattle.std.proofs.lemmas.List.{take_all}
-use Rattle.page_pool.specs.Late.{with_blanks}
-use Rattle.page_pool.proofs.LateWrites.{written_before, written_behind, length-with_blanks}
+use Rattle.std.proofs.Common.{◌≡◌, ◌+◌, ◌*◌, ◌/◌, ◌%◌, Option, ℕ, None, vec_capacity, length, get_or, slice_set, ap, sym, ◌∙◌, subst, arith}
+use Rattle.page_pool.specs.Groups.{with_groups, AreGroups}
+use Rattle.page_pool.proofs.Groups.{length-with_groups, groups_set, written_in_group, same_view}
 use Rattle.page_pool.proofs.page_map.PageMap.set.Goals as goal
 
-pub returns-then-place-len : goal.returns-then-place-len
-returns-then-place-len c =
-    written_before None c.self.inside.written.items c.self.inside.pages c.args.page c.args.frame (omega arith) ∙ ap (λ frames. slice_set frames c.args.page c.args.frame) c.self.view_is
+pub own_group-first-requires : goal.own_group-first-requires
+own_group-first-requires c =
+    let long = length-with_groups None c.self.inside.numbers.items c.self.inside.written.items c.self.inside.pages in
+    let same = ap length c.self.view_is in
+    record { within = omega (arith, c.self.invariant.places); groups = c.self.invariant.groups }
+
+pub index_mut-requires : goal.index_mut-requires
+index_mut-requires c =
+    let own = c.own_group-first.ensures in
+    omega (arith, own.at, own.groups.within (c.args.page / 128), c.own_group-first.new.written.ok.0)
+
+pub invariant_of-self : goal.invariant_of-self
+invariant_of-self c =
+    let own = c.own_group-first.ensures in
+    let numbers = c.own_group-first.new.numbers.items in
+    let written = c.own_group-first.new.written.items in
+    let place : c.own_group-first.result + c.args.page % 128 ≡ 128 * get_or numbers (c.args.page / 128) 0 + c.args.page % 128 = omega (arith, own.at) in
+    record {
+      groups = subst (λ i. AreGroups (Option ℕ) None numbers (slice_set written i c.args.frame) (vec_capacity c.own_group-first.new.written)) (sym place)
+          (groups_set None c.args.frame numbers written (vec_capacity c.own_group-first.new.written) (c.args.page / 128) (c.args.page % 128) own.groups own.own);
+      places = omega (arith, own.count, c.self.invariant.places);
+    }
 
 pub returns : goal.returns
 returns c =
-    let written = c.self.inside.written.items in
-    let gap = replicate (c.args.page - length written) None in
-    let long = ap length c.self.view_is in
-    let whole : take c.args.page written ≡ written = take_all c.args.page written (omega arith) in
-    let same : vec_len c.self.inside.written ≡ length written = omega arith in
-    let now : c.push.new.self.items ≡ (written ++ gap) ++ c.args.frame ∷ [] =
-    c.in-Ok-push.ensures.items ∙ ap (λ items. items ++ c.args.frame ∷ []) (c.in-Ok.ensures.items ∙ ap (λ n. take c.args.page written ++ replicate (c.args.page - n) None) same ∙ ap (λ items. items ++ gap) whole) in
-    ap (λ items. with_blanks None items c.self.inside.pages) now
-    ∙ written_behind None written c.self.inside.pages c.args.page c.args.frame (omega arith) (omega (arith, length-with_blanks None written c.self.inside.pages c.self.invariant.fits))
-    ∙ ap (λ frames. slice_set frames c.args.page c.args.frame) c.self.view_is
+    let own = c.own_group-first.ensures in
+    let numbers = c.own_group-first.new.numbers.items in
+    let written = c.own_group-first.new.written.items in
+    let long = length-with_groups None c.self.inside.numbers.items c.self.inside.written.items c.self.inside.pages in
+    let same = ap length c.self.view_is in
+    let place : c.own_group-first.result + c.args.page % 128 ≡ 128 * get_or numbers (c.args.page / 128) 0 + c.args.page % 128 = omega (arith, own.at) in
+    ap (λ i. with_groups None numbers (slice_set written i c.args.frame) c.self.inside.pages) place
+    ∙ written_in_group None c.args.frame numbers written (vec_capacity c.own_group-first.new.written) c.self.inside.pages c.args.page own.groups own.own (omega arith)
+    ∙ ap (λ frames. slice_set frames c.args.page c.args.frame) (same_view None c.self.inside.numbers.items numbers c.self.inside.written.items written c.self.inside.pages own.same ∙ c.self.view_is)

@@ -1,9 +1,9 @@
-use Rattle.std.proofs.Common.{ℕ, ◌+◌, ◌*◌, length, drop, get_or, ap, sym, ◌∙◌, subst, arith}
+use Rattle.std.proofs.Common.{◌≡◌, List, [], ◌∷◌, refl, ℕ, ◌+◌, ◌*◌, length, drop, get_or, ap, sym, ◌∙◌, subst, arith}
 use Rattle.std.proofs.lemmas.List.{length-append}
 use Rattle.page_pool.specs.declared.page_side.NoFrames.{NoFrames}
 use Rattle.page_pool.specs.Pages.{Pages, free_of}
 use Rattle.vm_model.specs.PageSets.{pages_in}
-use Rattle.page_pool.specs.Units.{pages_in_unit, pages_at}
+use Rattle.page_pool.specs.Units.{pages_in_unit, pages_at, with_frames_for}
 use Rattle.page_pool.proofs.UnitPages.{length-pages_at, length-pages_in_unit, units_from, units_end}
 use Rattle.page_pool.proofs.Kept.{kept_free}
 use Rattle.page_pool.proofs.Populating.{IsPopulating, bare_once, bare_front, length-bare, populating_first, populating_some, populating_last}
@@ -40,6 +40,21 @@ returns-then-free-asked-clause-too_few c =
     let count = length-pages_at c.args.base c.args.units.now (pages_in c.args.pages) ∙ ap (λ n. length c.args.units.now * n) (sym c.count_of.ensures) in
     let free = kept_free (record { frames = c.self.inside.frames; stale = c.self.inside.stale; cells = c.self.inside.cells }) c.self.inside.free c.self.inside.mapped c.self.invariant
     ∙ ap (λ (p : Pages). length (free_of p)) c.self.view_is in
+    omega arith
+
+empty : (pages : List ℕ) → length pages ≡ 0 → pages ≡ []
+empty [] e = refl
+empty (page ∷ pages) e = absurd (omega arith)
+
+pub returns-then-asked-eq0-clause-mapped : goal.returns-then-asked-eq0-clause-mapped
+returns-then-asked-eq0-clause-mapped c =
+    let all = pages_at c.args.base c.args.units.now (pages_in c.args.pages) in
+    let count = length-pages_at c.args.base c.args.units.now (pages_in c.args.pages) ∙ ap (λ n. length c.args.units.now * n) (sym c.count_of.ensures) in
+    ap (λ pages. with_frames_for pages c.args.self.now) (sym (empty all (omega arith)))
+
+pub returns-then-asked-eq0-clause-enough : goal.returns-then-asked-eq0-clause-enough
+returns-then-asked-eq0-clause-enough c =
+    let count = length-pages_at c.args.base c.args.units.now (pages_in c.args.pages) ∙ ap (λ n. length c.args.units.now * n) (sym c.count_of.ensures) in
     omega arith
 
 pub loop-unit-init : goal.loop-unit-init

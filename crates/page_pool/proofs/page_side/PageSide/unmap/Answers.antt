@@ -1,5 +1,3 @@
-use Rattle.std.proofs.Common.{None, is_some, count_by, ap, ◌∙◌, arith}
-use Rattle.vm_model.specs.Space.{holds, paint}
 use Rattle.page_pool.proofs.Kept.{kept_unmapped}
 use Rattle.page_pool.proofs.page_side.PageSide.unmap.Goals as goal
 

@@ -6,7 +6,7 @@ use Rattle.page_pool.proofs.stale_pages.StalePages.flush_cluster.Goals as goal
 
 pub returns-else-index-gt0 : goal.returns-else-index-gt0
 returns-else-index-gt0 c =
-    let flags = c.self.inside.flags.items in
+    let flags = c.self.inside.flags in
     let cluster = c.args.span.start / 4096 in
     let same = ap (λ fs. length fs) c.self.view_is in
     let read = cluster_read flags c.self.inside.groups.items c.self.inside.clusters.items c.self.inside.count c.args.span.start c.index.result.now c.self.invariant (omega arith) c.index.ensures in

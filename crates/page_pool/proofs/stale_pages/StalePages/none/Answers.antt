@@ -8,7 +8,7 @@ invariant_of-result c =
     let space = c.args.space in
     let of_groups : c.div_ceil.result ≡ (space + 63) / 64 = omega arith in
     let of_clusters : c.div_ceil-2.result ≡ (space + 4095) / 4096 = omega arith in
-    let flags : c.in_ok-flags.flags.items ≡ replicate space false = search rules in
+    let flags : c.in_ok-flags.flags ≡ replicate space false = c.in_ok-flags.ensures in
     let groups : c.in_ok-groups.groups.items ≡ replicate c.div_ceil.result 0 = search rules in
     let clusters : c.in_ok-clusters.clusters.items ≡ replicate c.div_ceil-2.result 0 = search rules in
     subst (λ (fs : List Bool). AreCounted fs c.in_ok-groups.groups.items c.in_ok-clusters.clusters.items 0) (sym flags)
