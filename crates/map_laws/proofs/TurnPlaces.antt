@@ -154,7 +154,8 @@ module _ (c : Setup) (m : PlainMap) where
     same_section : (x s : Section) → Some x ≡ Some s → s ≡ x
     same_section x s e = cc
 
-    purge_by : (p : Place) (s : Section) (b : Bool) → asks_turn (ask c p) ≡ b → given c m (ask c p) ≡ Some s → Change m.purge_turn (effect_as c m k s).purge_turn k (has_purge p) (has_next has_purge (next c p s))
+    purge_by : (p : Place) (s : Section) (b : Bool) → asks_turn (ask c p) ≡ b → given c m (ask c p) ≡ Some s
+        → Change m.purge_turn (effect_as c m k s).purge_turn k (has_purge p) (has_next has_purge (next c p s))
     purge_by p s false n e = Stays (purge_stays c m k s (no_turn c m (ask c p) s n e)) (purge_row s p (next c p s) (place_row c s p) n)
     purge_by (PurgeTaking extra after) s true n e = let is = taking_is m.purge_turn TakePurge s e in Taken is.0 (ap (λ x. (effect_as c m k x).purge_turn) is.1) refl
     purge_by (PurgeGiving after) s true n e = Given refl (ap (λ x. (effect_as c m k x).purge_turn) (same_section GivePurge s e)) (went_on_none after)
@@ -167,7 +168,8 @@ module _ (c : Setup) (m : PlainMap) where
     pub purge_change : (p : Place) (s : Section) → given c m (ask c p) ≡ Some s → Change m.purge_turn (effect_as c m k s).purge_turn k (has_purge p) (has_next has_purge (next c p s))
     purge_change p s e = purge_by p s (asks_turn (ask c p)) refl e
 
-    alloc_by : (p : Place) (s : Section) (b : Bool) → asks_turn (ask c p) ≡ b → IsProper c p → given c m (ask c p) ≡ Some s → Change m.alloc_turn (effect_as c m k s).alloc_turn k (has_alloc p) (has_next has_alloc (next c p s))
+    alloc_by : (p : Place) (s : Section) (b : Bool) → asks_turn (ask c p) ≡ b → IsProper c p → given c m (ask c p) ≡ Some s
+        → Change m.alloc_turn (effect_as c m k s).alloc_turn k (has_alloc p) (has_next has_alloc (next c p s))
     alloc_by p s false n is e = Stays (alloc_stays c m k s (no_turn c m (ask c p) s n e)) (alloc_row s p (next c p s) (place_row c s p) is e n)
     alloc_by (PurgeTaking extra after) s true n is e = Stays (ap (λ x. (effect_as c m k x).alloc_turn) (taking_is m.purge_turn TakePurge s e).1) refl
     alloc_by (PurgeGiving after) s true n is e = Stays (ap (λ x. (effect_as c m k x).alloc_turn) (same_section GivePurge s e)) (went_on_alloc after)
