@@ -16,7 +16,7 @@ use Rattle.vm_model.specs.Rules.{IsTrace}
 use Rattle.vm_model.specs.Laws.{object_at, word_of, is_word, grown_if}
 use Rattle.map_laws.proofs.AreaWorlds.{IsLegalStep, event_legal, legally_lasts}
 use Rattle.map_laws.proofs.BlockFacts.{to_same}
-use Rattle.map_laws.proofs.CellsKept.{HaveCells, have_cells_section, have_cells_first}
+use Rattle.map_laws.proofs.Words.{HaveCells, have_cells_section, have_cells_first, AreCells, HasFrame, added_other}
 use Rattle.map_laws.proofs.Deeds.{adds_at}
 use Rattle.map_laws.proofs.Frames.{IsFramed}
 use Rattle.map_laws.proofs.Lists.{there}
@@ -30,7 +30,6 @@ use Rattle.map_laws.proofs.SizedCalls.{AreSized, sized_lasts, sized_first}
 use Rattle.map_laws.proofs.SumLaws.{sums_are_the_adds}
 use Rattle.map_laws.proofs.TraceWorlds.{IsTraceWorld, trace_reached}
 use Rattle.map_laws.proofs.UsedWords.{add_within}
-use Rattle.map_laws.proofs.Words.{AreCells, HasFrame, added_other}
 use Rattle.call_laws.specs.Adds.{AddsChangeOneWord}
 
 never_word : (a b c d : Bool) → (a ≡ true → b ≡ true → ⊥) → (a && b && c && d) ≡ false

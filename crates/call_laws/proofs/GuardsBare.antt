@@ -5,7 +5,6 @@ use Rattle.vm_model.specs.declared.calls.Call.{Call}
 use Rattle.vm_model.specs.declared.areas.Span.{Span}
 use Rattle.vm_model.specs.declared.areas.Area.{Area}
 use Rattle.vm_model.specs.declared.areas.AreaKind.{AreaKind}
-use Rattle.vm_model.specs.declared.areas.AreaKind.TheVariants as kind
 use Rattle.vm_model.specs.Space.{end_of, holds, covers, is_among}
 use Rattle.vm_model.specs.Setup.{Setup, groups_at, pages_in_units}
 use Rattle.vm_model.specs.PlainMap.{PlainMap}
@@ -22,7 +21,7 @@ use Rattle.vm_model.specs.History.{World, Local, started, moved_to, made_by, ope
 use Rattle.vm_model.specs.LegalHistory.{Meets}
 use Rattle.vm_model.specs.Rules.{IsSetup, IsTrace}
 use Rattle.map_laws.proofs.AreaFacts.{IsHolding, guard_part}
-use Rattle.map_laws.proofs.AreasMade.{asks_settle, no_settle, areas_after}
+use Rattle.map_laws.proofs.AreaStarts.{asks_settle, no_settle, areas_after}
 use Rattle.map_laws.proofs.AreaWorlds.{IsLegalStep, IsLegallyLasting}
 use Rattle.map_laws.proofs.Chosen.{IsIn, filter_has}
 use Rattle.map_laws.proofs.Frames.{IsFramed, has_call, not_over}
@@ -34,6 +33,7 @@ use Rattle.map_laws.proofs.Spans.{covers_one, holds_from}
 use Rattle.map_laws.proofs.Touched.{unpainted, painted_still}
 use Rattle.map_laws.proofs.TraceWorlds.{IsTraceWorld, trace_first, trace_lasts, holding_here, proper_here}
 use Rattle.call_laws.specs.Guards.{OnGuard, OnGuardInHand}
+use Rattle.vm_model.specs.declared.areas.AreaKind.TheVariants as kind
 
 abbrev pub IsClean : PlainMap → ℕ → Type 0
 IsClean m page = slice_get m.stale page ≡ Some false
@@ -48,7 +48,8 @@ by_held m page test mapped none = by_test (test page) refl
 
 pub clean_kept : (c : Setup) (m : PlainMap) (k : ℕ) (s : Section) (page : ℕ) → IsLegalAs c m k s → IsUnmapped m page → IsClean m page → IsClean (effect_as c m k s) page
 clean_kept c m k (Unmap s) page legal none clean = unpainted (holds s) true m.stale page (by_held m page (holds s) (λ e. legal page (covers_one s page ∙ e)) none) ∙ clean
-clean_kept c m k (Depopulate base pages) page legal none clean = unpainted (is_among (pages_in_units c base pages)) true m.stale page (by_held m page (is_among (pages_in_units c base pages)) (λ e. legal page e) none) ∙ clean
+clean_kept c m k (Depopulate base pages) page legal none clean =
+    unpainted (is_among (pages_in_units c base pages)) true m.stale page (by_held m page (is_among (pages_in_units c base pages)) (λ e. legal page e) none) ∙ clean
 clean_kept c m k (Flush s) page legal none clean = painted_still (holds s) false m.stale page clean
 clean_kept c m k _ page legal none clean = clean
 
@@ -91,7 +92,8 @@ clean_begins c m _ _ = tt
 -- Where a section leads.
 
 clean_row : (n : PlainMap) (c : Setup) (m : PlainMap) (s : Section) (p : Place) (to : Next) → PlaceRow c s p to → given c m (ask c p) ≡ Some s
-    → ((place : Span) (k : AreaKind) → p ≡ MappingArea place k → OnGuard k place (IsClean n)) → ((area : Area) → IsIn area m.areas → OnGuard area.kind area.span (IsClean n) × (1 ≤ area.span.pages)) → OnNext (HandClean n) to
+    → ((place : Span) (k : AreaKind) → p ≡ MappingArea place k → OnGuard k place (IsClean n))
+    → ((area : Area) → IsIn area m.areas → OnGuard area.kind area.span (IsClean n) × (1 ≤ area.span.pages)) → OnNext (HandClean n) to
 clean_row n c m s _ _ (Mapped place k had) e mapping live = mapping place k refl
 clean_row n c m s _ _ (Removed start serial area told) e mapping live = live area (by_list (named_areas start serial m.areas) refl (ap removed (same_Some _ _ e) ∙ told))
   where
@@ -101,7 +103,8 @@ clean_row n c m s _ _ (Removed start serial area told) e mapping live = live are
 clean_row n c m s _ _ _ e mapping live = cc
 
 clean_next : (n : PlainMap) (c : Setup) (m : PlainMap) (p : Place) (s : Section) → given c m (ask c p) ≡ Some s
-    → ((place : Span) (k : AreaKind) → p ≡ MappingArea place k → OnGuard k place (IsClean n)) → ((area : Area) → IsIn area m.areas → OnGuard area.kind area.span (IsClean n) × (1 ≤ area.span.pages)) → OnNext (HandClean n) (next c p s)
+    → ((place : Span) (k : AreaKind) → p ≡ MappingArea place k → OnGuard k place (IsClean n))
+    → ((area : Area) → IsIn area m.areas → OnGuard area.kind area.span (IsClean n) × (1 ≤ area.span.pages)) → OnNext (HandClean n) (next c p s)
 clean_next n c m p s e mapping live = clean_row n c m s p (next c p s) (place_row c s p) e mapping live
 
 -- In every world.
@@ -137,15 +140,18 @@ module _ (c : Setup) (opening : List Call) (calls : List (List Call)) (trace : I
       after = effect_as c w.map k s
 
       area_still : (a : Area) → IsIn a w.map.areas → OnGuard a.kind a.span (IsClean after)
-      area_still a there = both_guards (IsUnmapped w.map) (IsClean w.map) (IsClean after) a.kind a.span (λ page none clean. clean_kept c w.map k s page legal none clean) (area_unmapped c w is.trace a there) (is.areas a there)
+      area_still a there = both_guards (IsUnmapped w.map) (IsClean w.map) (IsClean after) a.kind a.span (λ page none clean. clean_kept c w.map k s page legal none clean)
+          (area_unmapped c w is.trace a there) (is.areas a there)
 
       hand_by : (p : Place) → HandClean w.map p → OnGuardInHand p (IsUnmapped w.map) → HandClean after p
       hand_by (SettlingArea place kd) clean none = both_guards (IsUnmapped w.map) (IsClean w.map) (IsClean after) kd place (λ page n c'. clean_kept c w.map k s page legal n c') none clean
-      hand_by (UnmappingArea area) clean none = (both_guards (IsUnmapped w.map) (IsClean w.map) (IsClean after) area.kind area.span (λ page n c'. clean_kept c w.map k s page legal n c') none clean.0, clean.1)
+      hand_by (UnmappingArea area) clean none =
+          (both_guards (IsUnmapped w.map) (IsClean w.map) (IsClean after) area.kind area.span (λ page n c'. clean_kept c w.map k s page legal n c') none clean.0, clean.1)
       hand_by _ clean none = tt
 
       hand_still : (j : ℕ) (x : Local) → slice_get w.locals j ≡ Some x → HandClean after x.place
-      hand_still j x at = hand_by x.place (is.hands j x at) (hand_unmapped c w.map x.caller x.place (proper_here c trace.setup w framed is.trace j x at) (holding_here c trace.setup w framed is.trace j x at) (is.hands j x at))
+      hand_still j x at = hand_by x.place (is.hands j x at)
+          (hand_unmapped c w.map x.caller x.place (proper_here c trace.setup w framed is.trace j x at) (holding_here c trace.setup w framed is.trace j x at) (is.hands j x at))
 
     module _ (k : ℕ) (l : Local) (s : Section) (step : IsLegalStep w k l s) where
       own_setup : l.setup ≡ c
@@ -176,31 +182,37 @@ module _ (c : Setup) (opening : List Call) (calls : List (List Call)) (trace : I
       own_next : OnNext (HandClean (after l.caller s legal_here)) (next c l.place s)
       own_next = clean_next (after l.caller s legal_here) c w.map l.place s gives_here mapping_still (λ area there. (area_still l.caller s legal_here area there, is.trace.full.each area there))
 
-      one_settled : (place : Span) (kd : AreaKind) (first : ℕ) → OnGuard kd place (IsClean (after l.caller s legal_here)) → (i : ℕ) (a : Area) → slice_get (areas_of l.caller first ((place, kd) ∷ [])) i ≡ Some a
+      one_settled : (place : Span) (kd : AreaKind) (first : ℕ) → OnGuard kd place (IsClean (after l.caller s legal_here)) → (i : ℕ) (a : Area)
+          → slice_get (areas_of l.caller first ((place, kd) ∷ [])) i ≡ Some a
           → OnGuard a.kind a.span (IsClean (after l.caller s legal_here))
       one_settled place kd first clean zero a e = subst (λ (x : Area). OnGuard x.kind x.span (IsClean (after l.caller s legal_here))) (same_Some _ _ e) clean
       one_settled place kd first clean (suc i) a e = cc
 
-      settled_alone : (place : Span) (kd : AreaKind) (first : ℕ) → s ≡ Settle ((place, kd) ∷ []) first → OnGuard kd place (IsClean (after l.caller s legal_here)) → (a : Area) → IsIn a (after l.caller s legal_here).areas
+      settled_alone : (place : Span) (kd : AreaKind) (first : ℕ) → s ≡ Settle ((place, kd) ∷ []) first → OnGuard kd place (IsClean (after l.caller s legal_here)) → (a : Area)
+          → IsIn a (after l.caller s legal_here).areas
           → OnGuard a.kind a.span (IsClean (after l.caller s legal_here))
-      settled_alone place kd first e clean a ia = elim (with_in (areas_of l.caller first ((place, kd) ∷ [])) w.map.areas a (subst (λ (x : Section). IsIn a (effect_as c w.map l.caller x).areas) e ia)) [
-        | inl new ↦ one_settled place kd first clean new.place a new.at
-        | inr was ↦ area_still l.caller s legal_here a was
-      ]
+      settled_alone place kd first e clean a ia =
+          elim (with_in (areas_of l.caller first ((place, kd) ∷ [])) w.map.areas a (subst (λ (x : Section). IsIn a (effect_as c w.map l.caller x).areas) e ia)) [
+            | inl new ↦ one_settled place kd first clean new.place a new.at
+            | inr was ↦ area_still l.caller s legal_here a was
+          ]
 
-      groups_plain : (k' first chunk group : ℕ) (spans : List Span) (i : ℕ) (a : Area) → slice_get (areas_of k' first (group_kinds chunk group spans)) i ≡ Some a → OnGuard a.kind a.span (IsClean (after l.caller s legal_here))
+      groups_plain : (k' first chunk group : ℕ) (spans : List Span) (i : ℕ) (a : Area) → slice_get (areas_of k' first (group_kinds chunk group spans)) i ≡ Some a
+          → OnGuard a.kind a.span (IsClean (after l.caller s legal_here))
       groups_plain k' first chunk group [] i a e = cc
       groups_plain k' first chunk group (x ∷ spans) zero a e = subst (λ (y : Area). OnGuard y.kind y.span (IsClean (after l.caller s legal_here))) (same_Some _ _ e) tt
       groups_plain k' first chunk group (x ∷ spans) (suc i) a e = groups_plain k' (suc first) chunk (suc group) spans i a e
 
-      areas_by : (p : Place) → l.place ≡ p → (b : Bool) → asks_settle (ask c p) ≡ b → Meets c (ask c p) s → HandClean (after l.caller s legal_here) p → (a : Area) → IsIn a (after l.caller s legal_here).areas → OnGuard a.kind a.span (IsClean (after l.caller s legal_here))
+      areas_by : (p : Place) → l.place ≡ p → (b : Bool) → asks_settle (ask c p) ≡ b → Meets c (ask c p) s → HandClean (after l.caller s legal_here) p → (a : Area)
+          → IsIn a (after l.caller s legal_here).areas → OnGuard a.kind a.span (IsClean (after l.caller s legal_here))
       areas_by p at false e w' clean a ia = area_still l.caller s legal_here a (areas_after c w.map l.caller s (no_settle c (ask c p) s e w') a ia)
       areas_by (SettlingArea place kd) at true e w' clean a ia = settled_alone place kd w'.0 w'.1 clean a ia
       areas_by (SettlingBlock place cpu pages) at true e w' clean a ia = settled_alone place (kind.Block cpu) w'.0 w'.1 tt a ia
-      areas_by (SettlingGroups base chunk bytes align) at true e w' clean a ia = elim (with_in (areas_of l.caller w'.0 (group_areas c chunk base)) w.map.areas a (subst (λ (x : Section). IsIn a (effect_as c w.map l.caller x).areas) w'.1 ia)) [
-        | inl new ↦ groups_plain l.caller w'.0 chunk 0 (groups_at c base) new.place a new.at
-        | inr was ↦ area_still l.caller s legal_here a was
-      ]
+      areas_by (SettlingGroups base chunk bytes align) at true e w' clean a ia =
+          elim (with_in (areas_of l.caller w'.0 (group_areas c chunk base)) w.map.areas a (subst (λ (x : Section). IsIn a (effect_as c w.map l.caller x).areas) w'.1 ia)) [
+            | inl new ↦ groups_plain l.caller w'.0 chunk 0 (groups_at c base) new.place a new.at
+            | inr was ↦ area_still l.caller s legal_here a was
+          ]
       areas_by _ at true e w' clean a ia = cc
 
       guarded_step : IsGuardedWorld c (made_by w l s)
@@ -227,7 +239,8 @@ module _ (c : Setup) (opening : List Call) (calls : List (List Call)) (trace : I
   started_clean m answers first (own ∷ more) (suc j) l h = started_clean m answers (suc first) more j l h
 
   first_clean : (k : ℕ) (l : Local) → slice_get (started c [] 0 opening ∷ []) k ≡ Some l → HandClean (opening_world c opening calls).map l.place
-  first_clean zero l h = subst (λ (x : Local). HandClean (opening_world c opening calls).map x.place) (same_Some _ _ h) (begins_with (HandClean (opening_world c opening calls).map) c (clean_begins c (opening_world c opening calls).map) [] [] (slice_get opening 0))
+  first_clean zero l h = subst (λ (x : Local). HandClean (opening_world c opening calls).map x.place) (same_Some _ _ h)
+      (begins_with (HandClean (opening_world c opening calls).map) c (clean_begins c (opening_world c opening calls).map) [] [] (slice_get opening 0))
   first_clean (suc k) l h = cc
 
   pub guarded_lasts : IsLegallyLasting c calls (IsGuardedWorld c)
@@ -258,7 +271,8 @@ bare_in_hand : (c : Setup) (m : PlainMap) (k : ℕ) (p : Place) → IsProper c p
 bare_in_hand c m k (MappingArea s kd) proper is clean = span_guard (IsBare m) kd s proper.1 (λ page h. is.bare page h)
 bare_in_hand c m k (Dropping s) proper is clean = is.bare
 bare_in_hand c m k (SettlingArea s kd) proper is clean = both_guards (IsUnmapped m) (IsClean m) (IsBare m) kd s (bare m) (hand_unmapped c m k (SettlingArea s kd) proper is clean) clean
-bare_in_hand c m k (UnmappingArea area) proper is clean = both_guards (IsUnmapped m) (IsClean m) (IsBare m) area.kind area.span (bare m) (hand_unmapped c m k (UnmappingArea area) proper is clean) clean.0
+bare_in_hand c m k (UnmappingArea area) proper is clean =
+    both_guards (IsUnmapped m) (IsClean m) (IsBare m) area.kind area.span (bare m) (hand_unmapped c m k (UnmappingArea area) proper is clean) clean.0
 bare_in_hand c m k _ proper is clean = tt
 
 -- in each such world

@@ -2,11 +2,9 @@
 use Rattle.std.proofs.Common.{◌≡◌, ℕ, zero, suc, ◌-◌, ◌<◌, ◌⊎◌, inl, inr, Bool, true, false, not, List, [], ◌∷◌, ◌++◌, length, slice_get, slice_set, Some, refl, ap, sym, ◌∙◌, subst, arith}
 use Rattle.std.proofs.lemmas.Option.{same_Some}
 use Rattle.vm_model.specs.declared.calls.Call.{Call}
-use Rattle.vm_model.specs.declared.calls.Reply.TheVariants as reply
 use Rattle.vm_model.specs.declared.areas.Span.{Span}
 use Rattle.vm_model.specs.declared.areas.Area.{Area}
 use Rattle.vm_model.specs.declared.areas.AreaKind.{AreaKind}
-use Rattle.vm_model.specs.declared.areas.AreaKind.TheVariants as kind
 use Rattle.vm_model.specs.Space.{end_of, covers, is_among}
 use Rattle.vm_model.specs.Setup.{Setup}
 use Rattle.vm_model.specs.PlainMap.{PlainMap, at_first}
@@ -28,20 +26,21 @@ use Rattle.map_laws.proofs.BlockPlaces.{with_keeps}
 use Rattle.map_laws.proofs.BlockWorlds.{only_one}
 use Rattle.map_laws.proofs.Chosen.{IsIn, filter_in}
 use Rattle.map_laws.proofs.ChunkFacts.{IsChunkAt, start_of}
-use Rattle.map_laws.proofs.ChunkSettled.{with_new}
+use Rattle.map_laws.proofs.ChunkNoted.{with_new}
 use Rattle.map_laws.proofs.Deeds.{removes_at, UnlinksAt, OfPurge, OfBlock, OfGroups, unlinks_at}
 use Rattle.map_laws.proofs.Frames.{IsFramed}
 use Rattle.map_laws.proofs.Lists.{same_or, set_same, set_other, append_first}
 use Rattle.map_laws.proofs.OutMoves.{same_area}
 use Rattle.map_laws.proofs.Spans.{covers_one, holds_from}
-use Rattle.map_laws.proofs.Stories.{more_events, event_first, event_last, WhichEvent, Before, Last, which_event}
+use Rattle.map_laws.proofs.WaitStories.{more_events, event_first, event_last, WhichEvent, Before, Last, which_event, behind_flushed, taken_before}
 use Rattle.map_laws.proofs.TraceWorlds.{areas_once, holding_here}
 use Rattle.map_laws.proofs.WaitReached.{IsWaitedWorld, wait_lasts, wait_first}
-use Rattle.map_laws.proofs.WaitStories.{behind_flushed, taken_before}
 use Rattle.map_laws.proofs.WaitWorlds.{Follows, Taken, IsWaitWorld}
-use Rattle.map_laws.proofs.WaitWorlds as waits
 use Rattle.call_laws.specs.Guards.{OnGuard, GuardsStayBare}
 use Rattle.call_laws.proofs.GuardsBare.{IsClean, clean_kept, HandClean, IsGuardedWorld, area_unmapped, hand_unmapped, guarded_lasts, guarded_first, bare, areas_bare, hands_bare}
+use Rattle.vm_model.specs.declared.calls.Reply.TheVariants as reply
+use Rattle.vm_model.specs.declared.areas.AreaKind.TheVariants as kind
+use Rattle.map_laws.proofs.WaitWorlds as waits
 
 -- where the guard of an area is that event i settled: it lives, a caller unmaps it or is about to let it wait, or it waited since
 pub data Where (w : World) (i page : ℕ) : Type 0 where
@@ -57,7 +56,8 @@ pub record IsWatched (w : World) (i page : ℕ) : Type 0 where
 pub record IsWatchedWorld (c : Setup) (first : PlainMap) (w : World) : Type 0 where
   pub guarded : IsGuardedWorld c w
   pub waits : IsWaitedWorld c first w
-  pub watched : (i k serial : ℕ) (s : Span) → IsEvent w.events i k (Settle ((s, kind.Vmalloc) ∷ []) serial) → IsTakenFrom c first w.events (end_of s - 1) (suc i) (length w.events) → IsWatched w i (end_of s - 1)
+  pub watched : (i k serial : ℕ) (s : Span) → IsEvent w.events i k (Settle ((s, kind.Vmalloc) ∷ []) serial) → IsTakenFrom c first w.events (end_of s - 1) (suc i) (length w.events)
+      → IsWatched w i (end_of s - 1)
 
 of_guard : (P : ℕ → Type 0) (k : AreaKind) (s : Span) (page : ℕ) → k ≡ kind.Vmalloc → end_of s - 1 ≡ page → OnGuard k s P → P page
 of_guard P k s page e at is = subst P at (subst (λ x. OnGuard x s P) e is)
@@ -87,20 +87,24 @@ module _ (c : Setup) (w : World) (framed : IsFramed c w) (is : IsGuardedWorld c 
   one_area : (a b : Area) → IsIn a w.map.areas → IsIn b w.map.areas → a.span.start ≡ b.span.start → a ≡ b
   one_area a b there there' e =
       let wide = is.trace.full.each a there in let wide' = is.trace.full.each b there' in
-      let i = same_area a.span.start w.map.areas there.place there'.place a b (areas_once c w framed is.trace k l here a.span.start) there.at there'.at (holds_from a.span a.span.start (omega arith) (omega arith)) (holds_from b.span a.span.start (omega arith) (omega arith)) in
+      let i = same_area a.span.start w.map.areas there.place there'.place a b (areas_once c w framed is.trace k l here a.span.start) there.at there'.at
+      (holds_from a.span a.span.start (omega arith) (omega arith)) (holds_from b.span a.span.start (omega arith) (omega arith)) in
       same_Some a b (sym there.at ∙ ap (slice_get w.map.areas) i ∙ there'.at)
 
   -- a caller unlinks no vmalloc area
-  not_unlinked : (a : Area) → IsIn a w.map.areas → a.kind ≡ kind.Vmalloc → (starts : List ℕ) (p : Place) → UnlinksAt c starts p → IsBlockAt c w.map l.caller p → IsChunkAt c w.map p → is_among starts a.span.start ≡ true → ⊥
+  not_unlinked : (a : Area) → IsIn a w.map.areas → a.kind ≡ kind.Vmalloc → (starts : List ℕ) (p : Place) → UnlinksAt c starts p → IsBlockAt c w.map l.caller p → IsChunkAt c w.map p
+      → is_among starts a.span.start ≡ true → ⊥
   not_unlinked a there e starts _ (OfPurge extra after) block chunk on = no_block (block a.span.start on).area
     where
       no_block : IsBlockArea c w.map a.span.start → ⊥
-      no_block area = let same = ap (λ (x : Area). x.kind) (one_area a area.area there area.there (sym (ap (λ (x : Span). x.start) area.span))) in let clash : kind.Vmalloc ≡ kind.Block area.cpu = sym e ∙ same ∙ area.kind in cc
+      no_block area = let same = ap (λ (x : Area). x.kind) (one_area a area.area there area.there (sym (ap (λ (x : Span). x.start) area.span))) in
+          let clash : kind.Vmalloc ≡ kind.Block area.cpu = sym e ∙ same ∙ area.kind in cc
   not_unlinked a there e starts _ (OfBlock start reply one) block chunk on = no_block block.area
     where
       no_block : IsBlockArea c w.map start → ⊥
       no_block area =
-          let same = ap (λ (x : Area). x.kind) (one_area a area.area there area.there (sym (ap (λ (x : Span). x.start) area.span ∙ only_one start a.span.start (ap (λ x. is_among x a.span.start) (sym one) ∙ on)))) in
+          let same = ap (λ (x : Area). x.kind)
+          (one_area a area.area there area.there (sym (ap (λ (x : Span). x.start) area.span ∙ only_one start a.span.start (ap (λ x. is_among x a.span.start) (sym one) ∙ on)))) in
           let clash : kind.Vmalloc ≡ kind.Block area.cpu = sym e ∙ same ∙ area.kind in cc
   not_unlinked a there e starts _ (OfGroups base groups) block chunk on =
       let s = start_of c base a.span.start (ap (λ x. is_among x a.span.start) (sym groups) ∙ on) in let area = chunk.1.live s.0 s.1 s.2 in
@@ -109,7 +113,8 @@ module _ (c : Setup) (w : World) (framed : IsFramed c w) (is : IsGuardedWorld c 
 
 -- What a section does with it.
 
-module _ (c : Setup) (setup : IsSetup c) (first : PlainMap) (w : World) (framed : IsFramed c w) (is : IsWatchedWorld c first w) (k : ℕ) (l : Local) (s : Section) (here : slice_get w.locals k ≡ Some l) (meets : Meets c (ask c l.place) s)
+module _ (c : Setup) (setup : IsSetup c) (first : PlainMap) (w : World) (framed : IsFramed c w) (is : IsWatchedWorld c first w) (k : ℕ) (l : Local) (s : Section)
+    (here : slice_get w.locals k ≡ Some l) (meets : Meets c (ask c l.place) s)
     (legal : IsLegalAs c w.map k s) (moved : Local) (goes : (q : Place) → next c l.place s ≡ Go q → moved.place ≡ q) where
   abbrev event : Event
   event = record { caller = k; section = s }
@@ -120,21 +125,25 @@ module _ (c : Setup) (setup : IsSetup c) (first : PlainMap) (w : World) (framed 
   moved_here : slice_get made.locals k ≡ Some moved
   moved_here = set_same w.locals k l moved here
 
-  remove_goes : (a : Area) → IsIn a w.map.areas → (start serial : ℕ) (area : Area) → s ≡ Remove start serial area → (b : Bool) → is_area start serial a ≡ b → IsIn a (effect_as c w.map k (Remove start serial area)).areas ⊎ (moved.place ≡ UnmappingArea a)
+  remove_goes : (a : Area) → IsIn a w.map.areas → (start serial : ℕ) (area : Area) → s ≡ Remove start serial area → (b : Bool) → is_area start serial a ≡ b
+      → IsIn a (effect_as c w.map k (Remove start serial area)).areas ⊎ (moved.place ≡ UnmappingArea a)
   remove_goes a there start serial area e false f = inl (filter_in (λ x. not (is_area start serial x)) w.map.areas a there.place there.at (ap not f))
   remove_goes a there start serial area e true f =
       let named = filter_in (is_area start serial) w.map.areas a there.place there.at f in
       let same = alone named.place (ap (λ x. slice_get x named.place) (sym (subst (IsLegalAs c w.map k) e legal)) ∙ named.at) in
-      inr (goes (UnmappingArea a) (ap (λ p. next c p s) (removes_at c l.place start serial area (subst (Meets c (ask c l.place)) e meets)) ∙ ap (next c (Removing start serial)) e ∙ ap (λ x. Go (UnmappingArea x)) same))
+      inr (goes (UnmappingArea a)
+      (ap (λ p. next c p s) (removes_at c l.place start serial area (subst (Meets c (ask c l.place)) e meets)) ∙ ap (next c (Removing start serial)) e ∙ ap (λ x. Go (UnmappingArea x)) same))
     where
       alone : (i : ℕ) → slice_get (area ∷ []) i ≡ Some a → area ≡ a
       alone zero h = same_Some area a h
       alone (suc i) h = cc
 
-  unlink_goes : (a : Area) → IsIn a w.map.areas → a.kind ≡ kind.Vmalloc → (starts : List ℕ) → s ≡ Unlink starts → (b : Bool) → is_among starts a.span.start ≡ b → IsIn a (effect_as c w.map k (Unlink starts)).areas
+  unlink_goes : (a : Area) → IsIn a w.map.areas → a.kind ≡ kind.Vmalloc → (starts : List ℕ) → s ≡ Unlink starts → (b : Bool) → is_among starts a.span.start ≡ b
+      → IsIn a (effect_as c w.map k (Unlink starts)).areas
   unlink_goes a there kd starts e false f = filter_in (λ (x : Area). not (is_among starts x.span.start)) w.map.areas a there.place there.at (ap not f)
   unlink_goes a there kd starts e true f = absurd
-      (not_unlinked c w framed is.guarded k l here a there kd starts l.place (unlinks_at c l.place starts (subst (Meets c (ask c l.place)) e meets)) (is.guarded.trace.blocks.each k l here) (is.guarded.trace.chunks.each k l here) f)
+      (not_unlinked c w framed is.guarded k l here a there kd starts l.place (unlinks_at c l.place starts (subst (Meets c (ask c l.place)) e meets)) (is.guarded.trace.blocks.each k l here)
+      (is.guarded.trace.chunks.each k l here) f)
 
   -- a vmalloc area lives on, or the caller goes on to unmap it
   area_goes : (a : Area) → IsIn a w.map.areas → a.kind ≡ kind.Vmalloc → (t : Section) → s ≡ t → IsIn a (effect_as c w.map k t).areas ⊎ (moved.place ≡ UnmappingArea a)
@@ -186,10 +195,12 @@ module _ (c : Setup) (setup : IsSetup c) (first : PlainMap) (w : World) (framed 
   watched_new : IsGuardedWorld c made → (serial : ℕ) (sp : Span) → s ≡ Settle ((sp, kind.Vmalloc) ∷ []) serial → IsWatched made (length w.events) (end_of sp - 1)
   watched_new now serial sp e =
       let area : Area = record { span = sp; kind = kind.Vmalloc; caller = k; serial = serial } in
-      let there : IsIn area made.map.areas = subst (λ t. IsIn area (effect_as c w.map k t).areas) (sym e) (with_new (areas_of k serial ((sp, kind.Vmalloc) ∷ [])) w.map.areas area (record { place = 0; at = refl })) in
+      let there : IsIn area made.map.areas = subst (λ t. IsIn area (effect_as c w.map k t).areas) (sym e)
+      (with_new (areas_of k serial ((sp, kind.Vmalloc) ∷ [])) w.map.areas area (record { place = 0; at = refl })) in
       record { clean = now.areas area there; at = InArea area there refl refl }
 
-  watched_now : IsGuardedWorld c made → (i j serial : ℕ) (sp : Span) → IsEvent made.events i j (Settle ((sp, kind.Vmalloc) ∷ []) serial) → IsTakenFrom c first made.events (end_of sp - 1) (suc i) (length made.events) → IsWatched made i (end_of sp - 1)
+  watched_now : IsGuardedWorld c made → (i j serial : ℕ) (sp : Span) → IsEvent made.events i j (Settle ((sp, kind.Vmalloc) ∷ []) serial)
+      → IsTakenFrom c first made.events (end_of sp - 1) (suc i) (length made.events) → IsWatched made i (end_of sp - 1)
   watched_now now i j serial sp at taken = by_event (which_event w.events k s i j (Settle ((sp, kind.Vmalloc) ∷ []) serial) at)
     where
       by_event : WhichEvent w.events k s i j (Settle ((sp, kind.Vmalloc) ∷ []) serial) → IsWatched made i (end_of sp - 1)
@@ -221,7 +232,8 @@ module _ (c : Setup) (opening : List Call) (calls : List (List Call)) (trace : I
     watched_step = record {
       guarded = guarded_now;
       waits = (wait_lasts c opening calls trace at_start).steps w k l s framed is.waits step;
-      watched = subst (λ v. (i j serial : ℕ) (sp : Span) → IsEvent v.events i j (Settle ((sp, kind.Vmalloc) ∷ []) serial) → IsTakenFrom c at_start v.events (end_of sp - 1) (suc i) (length v.events) → IsWatched v i (end_of sp - 1)) (sym same)
+      watched = subst (λ v. (i j serial : ℕ) (sp : Span) → IsEvent v.events i j (Settle ((sp, kind.Vmalloc) ∷ []) serial) → IsTakenFrom c at_start v.events (end_of sp - 1) (suc i)
+          (length v.events) → IsWatched v i (end_of sp - 1)) (sym same)
           (watched_now c trace.setup at_start w framed is k l s step.step.here (subst (λ d. Meets d (ask d l.place) s) setup step.meets) (subst (λ d. IsLegalAs d w.map k s) setup step.legal)
           (moved_to l (next c l.place s)) (λ q e. ap (λ n. (moved_to l n).place) e) (subst (IsGuardedWorld c) same guarded_now));
     }

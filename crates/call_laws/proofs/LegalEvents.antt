@@ -14,7 +14,7 @@ use Rattle.vm_model.specs.Laws.{map_after, map_at}
 use Rattle.map_laws.proofs.Lists.{append_cases}
 use Rattle.map_laws.proofs.Frames.{IsFramed}
 use Rattle.map_laws.proofs.AreaWorlds.{IsLegalStep, legally_lasts}
-use Rattle.map_laws.proofs.Stories.{map_after-append, map_at-before, map_at-last}
+use Rattle.map_laws.proofs.WaitStories.{map_after-append, map_at-before, map_at-last}
 use Rattle.call_laws.specs.Histories.{OwnSection, own_if, own_from, own_sections}
 use Rattle.call_laws.specs.Causes.{WereLegal, EachEventIsLegal}
 

@@ -5,7 +5,6 @@ use Rattle.vm_model.specs.declared.calls.Call.{Call}
 use Rattle.vm_model.specs.declared.areas.Span.{Span}
 use Rattle.vm_model.specs.declared.areas.Area.{Area}
 use Rattle.vm_model.specs.declared.areas.AreaKind.{AreaKind}
-use Rattle.vm_model.specs.declared.areas.AreaKind.TheVariants as kind
 use Rattle.vm_model.specs.Space.{span}
 use Rattle.vm_model.specs.Setup.{Setup}
 use Rattle.vm_model.specs.PlainMap.{PlainMap}
@@ -20,7 +19,7 @@ use Rattle.vm_model.specs.History.{World, Local, moved_to, made_by, opening_answ
 use Rattle.vm_model.specs.LegalHistory.{Meets, IsReached}
 use Rattle.vm_model.specs.Laws.{IsAligned}
 use Rattle.vm_model.specs.Rules.{IsTrace}
-use Rattle.map_laws.proofs.AreasMade.{asks_settle, no_settle, areas_after}
+use Rattle.map_laws.proofs.AreaStarts.{asks_settle, no_settle, areas_after}
 use Rattle.map_laws.proofs.AreaWorlds.{IsLegalStep, legally_lasts}
 use Rattle.map_laws.proofs.Chosen.{IsIn}
 use Rattle.map_laws.proofs.ChunkNumbers.{chunk_number}
@@ -31,6 +30,7 @@ use Rattle.map_laws.proofs.OutMoves.{with_in}
 use Rattle.map_laws.proofs.Places.{IsPlainKind, IsProper}
 use Rattle.map_laws.proofs.TraceWorlds.{IsTraceWorld, trace_first, trace_lasts, proper_here}
 use Rattle.call_laws.specs.MapLaws.{IsGroupAt, ChunksHaveOneBase, UnitsBeyondProcessorsAreUnmapped}
+use Rattle.vm_model.specs.declared.areas.AreaKind.TheVariants as kind
 
 -- the chunk whose areas are live and that is to be added
 abbrev adds : Place → Option ℕ

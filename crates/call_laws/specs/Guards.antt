@@ -30,7 +30,8 @@ OnGuardInHand _ P = Unit {0}
 pub record AreGuardsBare (c : Setup) (first : PlainMap) (w : World) : Type 0 where
   pub areas : (i : ℕ) (a : Area) → slice_get w.map.areas i ≡ Some a → OnGuard a.kind a.span (IsBare w.map)
   pub hands : (k : ℕ) (l : Local) → slice_get w.locals k ≡ Some l → OnGuardInHand l.place (IsBare w.map)
-  pub until_free : (i k serial : ℕ) (s : Span) → IsEvent w.events i k (Settle ((s, kind.Vmalloc) ∷ []) serial) → IsTakenFrom c first w.events (end_of s - 1) (suc i) (length w.events) → IsBare w.map (end_of s - 1)
+  pub until_free : (i k serial : ℕ) (s : Span) → IsEvent w.events i k (Settle ((s, kind.Vmalloc) ∷ []) serial) → IsTakenFrom c first w.events (end_of s - 1) (suc i) (length w.events)
+      → IsBare w.map (end_of s - 1)
 
 abbrev pub GuardsStayBare : Type 0
 GuardsStayBare = Always (λ c m w. AreGuardsBare c m w)

@@ -3,7 +3,6 @@ use Rattle.std.proofs.Common.{◌≡◌, ℕ, zero, suc, ◌≤◌, inl, inr, tr
 use Rattle.vm_model.specs.declared.areas.Span.{Span}
 use Rattle.vm_model.specs.declared.areas.Area.{Area}
 use Rattle.vm_model.specs.declared.areas.AreaKind.{AreaKind}
-use Rattle.vm_model.specs.declared.areas.AreaKind.TheVariants as kind
 use Rattle.vm_model.specs.Space.{span, hull, covers, is_among, times, lowest, pages_of}
 use Rattle.vm_model.specs.Setup.{Setup, groups_at, pages_in_units, highest}
 use Rattle.vm_model.specs.PlainMap.{PlainMap, taken}
@@ -25,9 +24,9 @@ use Rattle.map_laws.proofs.Spans.{covers_one, holds_from}
 use Rattle.map_laws.proofs.AreaFacts.{IsHolding, IsMapFine, own_uses, IsUnbearing, guard_part}
 use Rattle.map_laws.proofs.PlaceMoves.{IsMoved, quiet_moved, carve_area, carve_block, carve_groups, drop_moved, return_moved, length-give_frames}
 use Rattle.map_laws.proofs.WaitMoves.{mapping_moved, unmapping_none, unmap_moved, wait_moved, take_moved, flush_moved}
-use Rattle.map_laws.proofs.OutMoves.{IsInside, IsUnlinked, settle_moved}
-use Rattle.map_laws.proofs.InnerMoves.{remove_moved, unlink_moved, to_purge, to_waiting, inner_moved}
+use Rattle.map_laws.proofs.OutMoves.{IsInside, IsUnlinked, settle_moved, remove_moved, unlink_moved, to_purge, to_waiting, inner_moved}
 use Rattle.map_laws.proofs.Quiet.{leads_bearing, asks_quiet, given_quiet, unbearing_next}
+use Rattle.vm_model.specs.declared.areas.AreaKind.TheVariants as kind
 
 -- the groups at a base are free, each page in one of them
 abbrev pub AreGroupsFree : Setup → PlainMap → Search → Type 0

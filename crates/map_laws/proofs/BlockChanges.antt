@@ -8,10 +8,10 @@ use Rattle.vm_model.specs.Blocks.{PartAt, rounded, size_of, parts_size, dirty_of
 use Rattle.vm_model.specs.Legal.{IsUnmapped}
 use Rattle.map_laws.proofs.Lists.{same_or}
 use Rattle.map_laws.proofs.Chosen.{IsIn, sum_without}
-use Rattle.map_laws.proofs.Sizes.{mapped_at}
+use Rattle.map_laws.proofs.ChunkFalls.{mapped_at}
 use Rattle.vm_model.proofs.RoundedPages.{rounded_some}
 use Rattle.map_laws.proofs.BlockFacts.{OnRow, AreStacked, IsPartFine, IsBlockFine, IsPartIn, block_starts, to_same, stacked_covers, size_cons, Stays}
-use Rattle.map_laws.proofs.Changed.{keyed_in, keyed_is, unkeyed_in}
+use Rattle.map_laws.proofs.ChunkRows.{keyed_in, keyed_is, unkeyed_in}
 
 -- Changes of one block.
 

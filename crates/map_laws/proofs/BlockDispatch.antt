@@ -3,7 +3,6 @@ use Rattle.std.proofs.Common.{◌≡◌, ℕ, zero, suc, ◌+◌, ◌<◌, ◌�
 use Rattle.vm_model.specs.declared.areas.Span.{Span}
 use Rattle.vm_model.specs.declared.areas.Area.{Area}
 use Rattle.vm_model.specs.declared.areas.AreaKind.{AreaKind}
-use Rattle.vm_model.specs.declared.areas.AreaKind.TheVariants as kind
 use Rattle.vm_model.specs.declared.calls.Reply.{Reply}
 use Rattle.vm_model.specs.Space.{count_from, holds, is_among, times, pages_of}
 use Rattle.vm_model.specs.Setup.{Setup, cpus, pages_in_units, groups_at}
@@ -32,6 +31,7 @@ use Rattle.map_laws.proofs.FragmentMoves.{begin_moved, fragment_moved, to_next, 
 use Rattle.map_laws.proofs.BlockPlaces.{HasParts, is_still, still_b, plain_b, unblocky_next, hand_same, not_held, quiet_b, settle_b, held_b, remove_b, unlink_b, as_b, block_settled, framed_b, IsInChunk, groups_b}
 use Rattle.map_laws.proofs.AreaMoves.{AreGroupsFree}
 use Rattle.map_laws.proofs.OutMoves.{IsUnlinked}
+use Rattle.vm_model.specs.declared.areas.AreaKind.TheVariants as kind
 
 -- of the area that is removed at a place
 abbrev pub IsRemovedPlain : PlainMap → Place → Type 0
@@ -59,7 +59,8 @@ module _ (c : Setup) (m : PlainMap) (k : ℕ) (fine : IsMapFine m) (has : HasPar
     length_row zero first = refl
     length_row (suc n) first = ap suc (length_row n (suc first))
 
-    pub map_part : OnRow (first_page at) (rounded at.pages) (IsBare m) → at.pages ≤ rounded at.pages → IsLegalAs c m k (MapPages (mapped_pages at)) → IsBlockMoved c m k (MappingPart at) (MapPages (mapped_pages at)) (Go (SettlingPart at))
+    pub map_part : OnRow (first_page at) (rounded at.pages) (IsBare m) → at.pages ≤ rounded at.pages → IsLegalAs c m k (MapPages (mapped_pages at))
+        → IsBlockMoved c m k (MappingPart at) (MapPages (mapped_pages at)) (Go (SettlingPart at))
     map_part bare less legal = inner_moved c m k (MappingPart at) (MapPages (mapped_pages at)) (Go (SettlingPart at)) all named at hand areas_once refl refl
         (λ page out. record { frame = ungiven (pages_of (mapped_pages at)) (free_frames c m.frames) m.frames page (outside_row (mapped_pages at) page (row_out page out)); clean = λ h. h })
         (λ start. omega arith) (
@@ -70,13 +71,18 @@ module _ (c : Setup) (m : PlainMap) (k : ℕ) (fine : IsMapFine m) (has : HasPar
 
     pub unmap_part : (r : Reply) → OnRow (first_page at) at.pages (IsMapped m) → IsBlockMoved c m k (UnmappingPart at) (Unmap (mapped_pages at)) (Go (Retiring at r))
     unmap_part r mapped = inner_moved c m k (UnmappingPart at) (Unmap (mapped_pages at)) (Go (Retiring at r)) all named at hand areas_once refl refl
-        (λ page out. record { frame = unpainted (holds (mapped_pages at)) None m.frames page (row_out page out); clean = λ h. unpainted (holds (mapped_pages at)) true m.stale page (row_out page out) ∙ h })
+        (λ page out. record {
+          frame = unpainted (holds (mapped_pages at)) None m.frames page (row_out page out);
+          clean = λ h. unpainted (holds (mapped_pages at)) true m.stale page
+              (row_out page out) ∙ h;
+        })
         (λ start. omega arith) (
           hand_same m (effect_as c m k (Unmap (mapped_pages at))) k at refl hand,
           (λ page low high. (let was = mapped page low high in painted (holds (mapped_pages at)) None (Some was.0) m.frames page (holds_from (mapped_pages at) page low high) was.1)),
         )
 
-    pub no_frames_part : (asked : ℕ) (r : Reply) → OnRow (first_page at) (rounded at.pages) (IsBare m) → at.pages ≤ rounded at.pages → IsBlockMoved c m k (MappingPart at) (NoFrames asked) (Go (Retiring at r))
+    pub no_frames_part : (asked : ℕ) (r : Reply) → OnRow (first_page at) (rounded at.pages) (IsBare m) → at.pages ≤ rounded at.pages
+        → IsBlockMoved c m k (MappingPart at) (NoFrames asked) (Go (Retiring at r))
     no_frames_part asked r bare less = outer_moved c m k (MappingPart at) (NoFrames asked) (Go (Retiring at r)) all named refl (λ a cpu there kd z. there)
         (λ page start area a b. record { frame = refl; clean = λ h. h }) (λ start. omega arith)
         (hand_same m (effect_as c m k (NoFrames asked)) k at refl hand, (λ page low high. (bare page low (omega arith)).unmapped))
@@ -95,14 +101,18 @@ module _ (c : Setup) (m : PlainMap) (k : ℕ) (fine : IsMapFine m) (has : HasPar
       by_test true e = absurd (never (mapped_within kd place page e))
       by_test false e = e
 
-  purge_begins : (extra : Option Span) (after : Then) (named : (start : ℕ) → count_of start (block_starts m.blocks) + 0 ≤ 1) → IsBlockMoved c m k (PurgeTaking extra after) TakePurge (Go (PurgeFragmenting 0 [] extra after))
+  purge_begins : (extra : Option Span) (after : Then) (named : (start : ℕ) → count_of start (block_starts m.blocks) + 0 ≤ 1)
+      → IsBlockMoved c m k (PurgeTaking extra after) TakePurge (Go (PurgeFragmenting 0 [] extra after))
   purge_begins extra after named = outer_moved c m k (PurgeTaking extra after) TakePurge (Go (PurgeFragmenting 0 [] extra after)) all named refl (λ a cpu there kd z. there)
       (λ page start area a b. record { frame = refl; clean = λ h. h }) (λ start. omega arith) (λ start h. cc)
 
-  fragment_by : (cpu : ℕ) (gone g : List ℕ) (extra : Option Span) (after : Then) (once : (start : ℕ) → count_of start (block_starts m.blocks) ≤ 1) → IsLegalAs c m k (Fragment cpu g) → ((start : ℕ) → is_among gone start ≡ true → IsOut c m start)
-      → (t : Bool) → IsBlockMoved c m k (PurgeFragmenting cpu gone extra after) (Fragment cpu g) (if t then Go (PurgeFragmenting (suc cpu) (gone ++ g) extra after) else Go (after_fragments (gone ++ g) extra after))
+  fragment_by : (cpu : ℕ) (gone g : List ℕ) (extra : Option Span) (after : Then) (once : (start : ℕ) → count_of start (block_starts m.blocks) ≤ 1) → IsLegalAs c m k (Fragment cpu g)
+      → ((start : ℕ) → is_among gone start ≡ true → IsOut c m start)
+      → (t : Bool) → IsBlockMoved c m k (PurgeFragmenting cpu gone extra after) (Fragment cpu g)
+      (if t then Go (PurgeFragmenting (suc cpu) (gone ++ g) extra after) else Go (after_fragments (gone ++ g) extra after))
   fragment_by cpu gone g extra after once legal outs true = fragment_moved c m k all once cpu gone g extra after legal outs _ (to_next c m k all once cpu gone g extra after legal outs)
-  fragment_by cpu gone g extra after once legal outs false = fragment_moved c m k all once cpu gone g extra after legal outs _ (to_unlink c m k all once cpu gone g extra after legal outs (gone ++ g) refl)
+  fragment_by cpu gone g extra after once legal outs false =
+      fragment_moved c m k all once cpu gone g extra after legal outs _ (to_unlink c m k all once cpu gone g extra after legal outs (gone ++ g) refl)
 
   module _ (p : Place) where
     less_one : (once : (page : ℕ) → own_uses c m p page ≤ 1) (page : ℕ) → times page (spans_of m.areas) ≤ 1
@@ -115,21 +125,31 @@ module _ (c : Setup) (m : PlainMap) (k : ℕ) (fine : IsMapFine m) (has : HasPar
   size_low at hand = let w = (part_within c m hand.block hand.part (all hand.block hand.there) hand.part_there).1 in let r = row_of m k at hand in omega (arith, r.1, r.2)
 
   pub block_by : (p : Place) (s : Section) → IsChunkSided c m p → IsProper c p → IsHolding c m k p → IsRemovedPlain m p → (once : (page : ℕ) → own_uses c m p page ≤ 1)
-      → (named : (start : ℕ) → count_of start (block_starts m.blocks) + count_of start (block_out p) ≤ 1) → IsBlockAt c m k p → Meets c (ask c p) s → IsLegalAs c m k s → IsBlockMoved c m k p s (next c p s)
+      → (named : (start : ℕ) → count_of start (block_starts m.blocks) + count_of start (block_out p) ≤ 1) → IsBlockAt c m k p → Meets c (ask c p) s → IsLegalAs c m k s
+      → IsBlockMoved c m k p s (next c p s)
   block_by (MappingArea place kd) s is proper own plain once named at (inl w) legal =
       as_b c m k fine has all (MappingArea place kd) once named s (MapPages (mapped_part kd place)) w legal
-      (λ l. held_b c m k fine has all (MappingArea place kd) once named (MapPages (mapped_part kd place)) _ refl refl refl (λ page free. record { frame = ungiven (pages_of (mapped_part kd place)) (free_frames c m.frames) m.frames page (outside_row (mapped_part kd place) page (not_mapped kd place page (λ t. free (own.held page (covers_one place page ∙ t))))); clean = λ h. h }))
-  block_by (MappingArea place kd) s is proper own plain once named at (inr w) legal = still_b c m k fine has all (MappingArea place kd) once named s _ (ap is_still w) (unblocky_next c (MappingArea place kd) s refl)
+      (λ l. held_b c m k fine has all (MappingArea place kd) once named (MapPages (mapped_part kd place)) _ refl refl refl
+      (λ page free. record {
+        frame = ungiven (pages_of (mapped_part kd place)) (free_frames c m.frames) m.frames page
+            (outside_row (mapped_part kd place) page (not_mapped kd place page (λ t. free (own.held page (covers_one place page ∙ t)))));
+        clean = λ h. h;
+      }))
+  block_by (MappingArea place kd) s is proper own plain once named at (inr w) legal =
+      still_b c m k fine has all (MappingArea place kd) once named s _ (ap is_still w) (unblocky_next c (MappingArea place kd) s refl)
   block_by (SettlingArea place kd) s is proper own plain once named at w legal =
       as_b c m k fine has all (SettlingArea place kd) once named s (Settle ((place, kd) ∷ []) w.0) w.1 legal
       (λ l. settle_b c m k fine has all (SettlingArea place kd) once named ((place, kd) ∷ []) w.0 _ (λ start. omega arith) tt)
   block_by (Removing start serial) s is proper own plain once named at (inl w) legal =
       as_b c m k fine has all (Removing start serial) once named s (Remove start serial w.0) w.1 legal
       (λ l. remove_b c m k fine has all (Removing start serial) once named start serial w.0 _ refl l (plain w.0 l))
-  block_by (Removing start serial) s is proper own plain once named at (inr w) legal = still_b c m k fine has all (Removing start serial) once named s _ (ap is_still w) (unblocky_next c (Removing start serial) s refl)
+  block_by (Removing start serial) s is proper own plain once named at (inr w) legal =
+      still_b c m k fine has all (Removing start serial) once named s _ (ap is_still w) (unblocky_next c (Removing start serial) s refl)
   block_by (UnmappingArea area) s is proper own plain once named at w legal =
       as_b c m k fine has all (UnmappingArea area) once named s (Unmap (mapped_part area.kind area.span)) w legal
-      (λ l. held_b c m k fine has all (UnmappingArea area) once named (Unmap (mapped_part area.kind area.span)) _ refl refl refl (λ page free. (let out = not_mapped area.kind area.span page (λ t. free (own.held page (covers_one area.span page ∙ t))) in record { frame = unpainted (holds (mapped_part area.kind area.span)) None m.frames page out; clean = λ h. unpainted (holds (mapped_part area.kind area.span)) true m.stale page out ∙ h })))
+      (λ l. held_b c m k fine has all (UnmappingArea area) once named (Unmap (mapped_part area.kind area.span)) _ refl refl refl
+      (λ page free. (let out = not_mapped area.kind area.span page (λ t. free (own.held page (covers_one area.span page ∙ t))) in
+      record { frame = unpainted (holds (mapped_part area.kind area.span)) None m.frames page out; clean = λ h. unpainted (holds (mapped_part area.kind area.span)) true m.stale page out ∙ h })))
   block_by (PurgeTaking extra after) s is proper own plain once named at w legal =
       as_b c m k fine has all (PurgeTaking extra after) once named s TakePurge w legal
       (λ l. purge_begins extra after named)
@@ -150,7 +170,8 @@ module _ (c : Setup) (m : PlainMap) (k : ℕ) (fine : IsMapFine m) (has : HasPar
       (λ l. block_settled c m k fine has all place cpu pages w.0 once named own proper.0)
   block_by (AddingBlock part) s is proper own plain once named at w legal =
       as_b c m k fine has all (AddingBlock part) once named s (AddBlock part) w legal
-      (λ l. (let high = rounded_high part.pages c.part_limit has.power proper.2 in add_moved c m k all part at.0 at.2 proper.0 (let f = has.fits in omega arith) (let f = has.small in let g = proper.2 in omega arith)))
+      (λ l. (let high = rounded_high part.pages c.part_limit has.power proper.2 in add_moved c m k all part at.0 at.2 proper.0 (let f = has.fits in omega arith)
+      (let f = has.small in let g = proper.2 in omega arith)))
   block_by (MappingPart part) s is proper own plain once named at (inl w) legal =
       as_b c m k fine has all (MappingPart part) once named s (MapPages (mapped_pages part)) w legal
       (λ l. map_part part at.0 (less_one (MappingPart part) once) named at.1 (size_low part at.0) l)
@@ -180,15 +201,29 @@ module _ (c : Setup) (m : PlainMap) (k : ℕ) (fine : IsMapFine m) (has : HasPar
       (λ l. settle_b c m k fine has all (SettlingGroups base chunk bytes align) once named (group_areas c chunk base) w.0 _ (λ start. omega arith) tt)
   block_by (Populating object missing) s is proper own plain once named at (inl w) legal =
       as_b c m k fine has all (Populating object missing) once named s (Populate object missing) w legal
-      (λ l. framed_b c m k fine has all (Populating object missing) once named (Populate object missing) _ refl refl refl (λ page out. record { frame = ungiven (pages_in_units c object.base missing) (free_frames c m.frames) m.frames page (not_among_pages (pages_in_units c object.base missing) page (λ h. out (is page h))); clean = λ h. h }))
-  block_by (Populating object missing) s is proper own plain once named at (inr w) legal = still_b c m k fine has all (Populating object missing) once named s _ (ap is_still w) (unblocky_next c (Populating object missing) s refl)
+      (λ l. framed_b c m k fine has all (Populating object missing) once named (Populate object missing) _ refl refl refl
+      (λ page out. record {
+        frame = ungiven (pages_in_units c object.base missing) (free_frames c m.frames) m.frames page
+            (not_among_pages (pages_in_units c object.base missing) page (λ h. out (is page h)));
+        clean = λ h. h;
+      }))
+  block_by (Populating object missing) s is proper own plain once named at (inr w) legal =
+      still_b c m k fine has all (Populating object missing) once named s _ (ap is_still w) (unblocky_next c (Populating object missing) s refl)
   block_by (Filling chunk base own_page filled) s is proper own plain once named at (inl w) legal =
       as_b c m k fine has all (Filling chunk base own_page filled) once named s (Fill base own_page) w legal
-      (λ l. framed_b c m k fine has all (Filling chunk base own_page filled) once named (Fill base own_page) _ refl refl refl (λ page out. record { frame = ungiven (pages_in_units c base (own_page ∷ [])) (free_frames c m.frames) m.frames page (not_among_pages (pages_in_units c base (own_page ∷ [])) page (λ h. out (is page h))); clean = λ h. h }))
-  block_by (Filling chunk base own_page filled) s is proper own plain once named at (inr w) legal = still_b c m k fine has all (Filling chunk base own_page filled) once named s _ (ap is_still w) (unblocky_next c (Filling chunk base own_page filled) s refl)
+      (λ l. framed_b c m k fine has all (Filling chunk base own_page filled) once named (Fill base own_page) _ refl refl refl
+      (λ page out. record {
+        frame = ungiven (pages_in_units c base (own_page ∷ [])) (free_frames c m.frames) m.frames page
+            (not_among_pages (pages_in_units c base (own_page ∷ [])) page (λ h. out (is page h)));
+        clean = λ h. h;
+      }))
+  block_by (Filling chunk base own_page filled) s is proper own plain once named at (inr w) legal =
+      still_b c m k fine has all (Filling chunk base own_page filled) once named s _ (ap is_still w) (unblocky_next c (Filling chunk base own_page filled) s refl)
   block_by (Depopulating base populated) s is proper own plain once named at w legal =
       as_b c m k fine has all (Depopulating base populated) once named s (Depopulate base populated) w legal
-      (λ l. framed_b c m k fine has all (Depopulating base populated) once named (Depopulate base populated) _ refl refl refl (λ page out. (let off = not_among_pages (pages_in_units c base populated) page (λ h. out (is page h)) in record { frame = unpainted (is_among (pages_in_units c base populated)) None m.frames page off; clean = λ h. unpainted (is_among (pages_in_units c base populated)) true m.stale page off ∙ h })))
+      (λ l. framed_b c m k fine has all (Depopulating base populated) once named (Depopulate base populated) _ refl refl refl
+      (λ page out. (let off = not_among_pages (pages_in_units c base populated) page (λ h. out (is page h)) in
+      record { frame = unpainted (is_among (pages_in_units c base populated)) None m.frames page off; clean = λ h. unpainted (is_among (pages_in_units c base populated)) true m.stale page off ∙ h })))
   block_by (UnlinkingGroups base) s is proper own plain once named at w legal =
       as_b c m k fine has all (UnlinkingGroups base) once named s (Unlink (group_starts c base)) w legal
       (λ l. groups_b c m k fine has all (UnlinkingGroups base) once named (group_starts c base) _ refl is.0)

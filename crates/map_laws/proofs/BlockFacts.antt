@@ -3,7 +3,6 @@ use Rattle.std.proofs.Common.{◌≡◌, ℕ, zero, suc, ◌+◌, ◌<◌, ◌�
 use Rattle.std.proofs.lemmas.Bool.Decides.{nat_tests}
 use Rattle.std.proofs.lemmas.List.Sums.{sum_by-cons, sum_by-append}
 use Rattle.vm_model.specs.declared.areas.Area.{Area}
-use Rattle.vm_model.specs.declared.areas.AreaKind.TheVariants as kind
 use Rattle.vm_model.specs.Space.{span, is_among, one_if}
 use Rattle.vm_model.specs.Setup.{Setup}
 use Rattle.vm_model.specs.PlainMap.{PlainMap, Block, Part, InHand, is_live, is_ended}
@@ -13,6 +12,7 @@ use Rattle.vm_model.specs.Places.{Place, PurgeFragmenting, PurgeUnlinking, Unlin
 use Rattle.vm_model.specs.Carried.{count_of}
 use Rattle.map_laws.proofs.Chosen.{IsIn, in_more}
 use Rattle.vm_model.proofs.RoundedPages.{rounded_some}
+use Rattle.vm_model.specs.declared.areas.AreaKind.TheVariants as kind
 
 -- on each of so many pages from a first one on
 abbrev pub OnRow : (first n : ℕ) → (ℕ → Type 0) → Type 0

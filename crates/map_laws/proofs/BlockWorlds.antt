@@ -21,10 +21,9 @@ use Rattle.map_laws.proofs.BlockDispatch.{IsChunkSided, IsRemovedPlain}
 use Rattle.map_laws.proofs.BlockFacts.{IsBlockArea, IsBlockAt, IsBlockFine, IsOut, IsPartIn, IsStill, OnRow, Stays, among_count, block_out, block_starts, count_among, count_cons, out_stays, same_test, still_bare, still_mapped, still_unmapped, to_same}
 use Rattle.map_laws.proofs.BlockMoves.{IsBlockMoved, area_holds, area_start, next_out, part_within, row_of, same_start}
 use Rattle.map_laws.proofs.BlockPlaces.{IsInChunk, IsUnblocky, unblocky_at, unblocky_out}
-use Rattle.map_laws.proofs.Chosen.{IsIn, filter_in, sum_has}
+use Rattle.map_laws.proofs.Chosen.{IsIn, filter_in, sum_has, or_false, or_right}
 use Rattle.map_laws.proofs.Lists.{set_cases}
-use Rattle.map_laws.proofs.MapMoves.{area_times}
-use Rattle.map_laws.proofs.OrTests.{or_false, or_right}
+use Rattle.map_laws.proofs.Quiet.{area_times}
 use Rattle.map_laws.proofs.OutMoves.{IsInside, IsUnlinked, sum_two}
 use Rattle.map_laws.proofs.Places.{HaveBeginnings, AtOver, IsPlainKind, OnNext, answers_call, begins_with}
 use Rattle.map_laws.proofs.Spans.{InSpans, Inside, Outside, covers_one, holds_to, in_spans, times-cons}

@@ -20,13 +20,13 @@ use Rattle.map_laws.proofs.AreaFacts.{IsAreaFine, IsHolding}
 use Rattle.map_laws.proofs.BlockFacts.{IsBlockAt, IsBlockFine, IsOut, IsPartFine, IsPartIn, OnRow, block_out, stacked_at, stacked_covers}
 use Rattle.map_laws.proofs.BlockWorlds.{covered_start, only_one, out_area, row_covers}
 use Rattle.map_laws.proofs.ChunkFacts.{AreGroupsLive, IsChunkAt, IsChunkFine, start_of, unit_page}
-use Rattle.map_laws.proofs.ChunkPlaced.{populated_at}
+use Rattle.map_laws.proofs.ChunkRows.{populated_at}
 use Rattle.map_laws.proofs.Frames.{IsFramed}
 use Rattle.map_laws.proofs.MapLegal.{block_at, held_life, one_at}
 use Rattle.map_laws.proofs.Namings.{namings_once}
 use Rattle.map_laws.proofs.ObjectFacts.{IsObject, IsObjectAt, object_life}
 use Rattle.map_laws.proofs.ObjectWorlds.{SomeonePlaces}
-use Rattle.map_laws.proofs.OrTests.{or_right}
+use Rattle.map_laws.proofs.Chosen.{or_right}
 use Rattle.map_laws.proofs.Places.{IsPlainKind}
 use Rattle.map_laws.proofs.Spans.{covers_one, holds_from, holds_to}
 use Rattle.map_laws.proofs.TraceWorlds.{AreFull, IsTraceWorld, areas_once, has_parts, own_names, trace_reached}

@@ -1,17 +1,22 @@
--- Each section at its place, as to chunks.
-use Rattle.std.proofs.Common.{List, [], arith, false, inl, inr, length, refl, subst, sym, true, ℕ, ◌==◌, ◌∙◌, ◌∷◌, ◌≡◌, ◌≤◌, ◌⊎◌}
+-- What each section keeps of chunks.
+use Rattle.std.proofs.Common.{Bool, false, refl, true, ℕ, ◌≡◌, List, [], arith, inl, inr, length, subst, sym, ◌==◌, ◌∙◌, ◌∷◌, ◌≤◌, ◌⊎◌}
+use Rattle.vm_model.specs.Carried.{IsBeingPopulated, has_alloc}
+use Rattle.vm_model.specs.Events.{Section, AddChunk, AreaNotLive, Depopulate, Enough, Fill, Filled, MapPages, NextPage, NoAtomic, NoFrames, NoPlace, NoSpare, PlaceAtomic, PlaceObject, Populate, Remove, Settle, SettleObject, Spare, Unlink, Unmap, Unplace, Zero}
+use Rattle.vm_model.specs.LegalHistory.{Meets}
+use Rattle.vm_model.specs.Next.{Answer, Go, Next, next}
+use Rattle.vm_model.specs.Places.{AddingChunk, Ask, Choosing, ChoosingAtomic, Depopulating, Filling, NextFill, NotingFilled, Place, Populating, SettlingAtomic, SettlingGroups, SettlingObject, Sparing, UnlinkingGroups, Unplacing, Zeroing, MappingArea, MappingPart, PurgeUnlinking, Removing, UnlinkingBlock, UnmappingArea, UnmappingPart, ask, group_starts}
+use Rattle.vm_model.specs.PlainMap.{PlainMap, Block, Chunk}
+use Rattle.vm_model.specs.Setup.{Setup, pages_in_units}
+use Rattle.map_laws.proofs.PlaceRows.{PlaceRow, Stays, place_row}
+use Rattle.map_laws.proofs.AskRows.{AskRow, Refused, ask_row}
+use Rattle.map_laws.proofs.ChunkFacts.{IsChunkAt, IsChunkFine, NumberStays, chunk_at_stays}
+use Rattle.map_laws.proofs.ChunkRows.{asks_chunky, is_chunky, AreNumbered, plain_rows, plain_stays, rows_kept}
+use Rattle.map_laws.proofs.Places.{OnNext, IsObjectSize, IsProper}
 use Rattle.vm_model.specs.Areas.{group_areas, mapped_part, spans_of}
 use Rattle.vm_model.specs.Blocks.{PartAt, mapped_pages}
-use Rattle.vm_model.specs.Carried.{IsBeingPopulated, has_alloc}
 use Rattle.vm_model.specs.Effects.{effect_as}
-use Rattle.vm_model.specs.Events.{AddChunk, AreaNotLive, Depopulate, Enough, Fill, Filled, MapPages, NextPage, NoAtomic, NoFrames, NoPlace, NoSpare, PlaceAtomic, PlaceObject, Populate, Remove, Section, Settle, SettleObject, Spare, Unlink, Unmap, Unplace, Zero}
 use Rattle.vm_model.specs.Legal.{IsLegalAs}
-use Rattle.vm_model.specs.LegalHistory.{Meets}
-use Rattle.vm_model.specs.Next.{Go, Next, next}
-use Rattle.vm_model.specs.Places.{AddingChunk, Choosing, ChoosingAtomic, Depopulating, Filling, MappingArea, MappingPart, NextFill, NotingFilled, Place, Populating, PurgeUnlinking, Removing, SettlingAtomic, SettlingGroups, SettlingObject, Sparing, UnlinkingBlock, UnlinkingGroups, UnmappingArea, UnmappingPart, Unplacing, Zeroing, ask, group_starts}
-use Rattle.vm_model.specs.PlainMap.{Block, Chunk, PlainMap}
 use Rattle.vm_model.specs.Rules.{AreUnits}
-use Rattle.vm_model.specs.Setup.{Setup, pages_in_units}
 use Rattle.vm_model.specs.Space.{holds, is_among, times}
 use Rattle.vm_model.specs.declared.areas.Area.{Area}
 use Rattle.map_laws.proofs.AreaFacts.{IsHolding, IsMapFine, mapped_within}
@@ -21,20 +26,85 @@ use Rattle.map_laws.proofs.BlockMoves.{area_holds, part_within, row_of}
 use Rattle.map_laws.proofs.BlockPlaces.{IsInChunk, in_one_kind}
 use Rattle.map_laws.proofs.BlockWorlds.{only_one}
 use Rattle.map_laws.proofs.Chosen.{IsIn, filter_has}
-use Rattle.map_laws.proofs.ChunkAdded.{chunk_added}
-use Rattle.map_laws.proofs.ChunkAtomic.{atomic_lives, atomic_moved}
-use Rattle.map_laws.proofs.ChunkFacts.{IsChunkAt, IsChunkFine, NumberStays, chunk_at_stays}
-use Rattle.map_laws.proofs.ChunkLeft.{blocks_apart, framed_stays, not_held_page, removed_stays, unlinked_stays}
+use Rattle.map_laws.proofs.ChunkAdded.{chunk_added, atomic_lives, atomic_moved}
+use Rattle.map_laws.proofs.ChunkLeft.{blocks_apart, framed_stays, not_held_page, removed_stays, unlinked_stays, bared, spared, ungrouped}
 use Rattle.map_laws.proofs.ChunkMoves.{IsChunkMoved, quiet_chunks}
-use Rattle.map_laws.proofs.ChunkNext.{IsUnchunked, given_plain, leads_chunked, leads_unchunked, unchunked_idle, unchunked_next}
-use Rattle.map_laws.proofs.ChunkOut.{bared, spared}
-use Rattle.map_laws.proofs.ChunkPlaces.{fill_moved, place_moved, populate_moved}
-use Rattle.map_laws.proofs.ChunkRows.{AreNumbered, asks_chunky, is_chunky, plain_rows, plain_stays, rows_kept}
-use Rattle.map_laws.proofs.ChunkSettled.{filled_moved, groups_moved, lives_moved, next_moved}
-use Rattle.map_laws.proofs.ChunkUnlinked.{ungrouped}
-use Rattle.map_laws.proofs.Places.{IsObjectSize, IsProper, OnNext}
+use Rattle.map_laws.proofs.ChunkNoted.{fill_moved, place_moved, populate_moved, filled_moved, groups_moved, lives_moved, next_moved}
 use Rattle.map_laws.proofs.Spans.{covers_one, holds_to}
 use Rattle.map_laws.proofs.Touched.{touch}
+
+-- The places of which nothing is said as to chunks and their objects, and the sections that change no chunk but for its objects.
+
+abbrev pub is_chunked : Place → Bool
+is_chunked (AddingChunk base chunk bytes align) = true
+is_chunked (Populating at missing) = true
+is_chunked (SettlingObject at) = true
+is_chunked (Unplacing at) = true
+is_chunked (Zeroing at) = true
+is_chunked (SettlingAtomic at) = true
+is_chunked (Depopulating base populated) = true
+is_chunked (UnlinkingGroups base) = true
+is_chunked (Filling chunk base page filled) = true
+is_chunked (NotingFilled chunk page filled) = true
+is_chunked _ = false
+
+abbrev pub IsUnchunked : Place → Type 0
+IsUnchunked p = is_chunked p ≡ false
+
+pub unchunked_at : (c : Setup) (m : PlainMap) (p : Place) → IsUnchunked p → IsChunkAt c m p
+unchunked_at c m (AddingChunk base chunk bytes align) h = cc
+unchunked_at c m (Populating at missing) h = cc
+unchunked_at c m (SettlingObject at) h = cc
+unchunked_at c m (Unplacing at) h = cc
+unchunked_at c m (Zeroing at) h = cc
+unchunked_at c m (SettlingAtomic at) h = cc
+unchunked_at c m (Depopulating base populated) h = cc
+unchunked_at c m (UnlinkingGroups base) h = cc
+unchunked_at c m (Filling chunk base page filled) h = cc
+unchunked_at c m (NotingFilled chunk page filled) h = cc
+unchunked_at c m _ h = tt
+
+pub unchunked_idle : (p : Place) → IsUnchunked p → (number page : ℕ) → IsBeingPopulated number page p → ⊥
+unchunked_idle (SettlingObject at) h number page b = cc
+unchunked_idle (NotingFilled chunk own filled) h number page b = cc
+unchunked_idle _ h number page b = b
+
+pub unchunked_next : (c : Setup) (m : PlainMap) (n : Next) → OnNext IsUnchunked n → OnNext (IsChunkAt c m) n
+unchunked_next c m (Go p) h = unchunked_at c m p h
+unchunked_next c m (Answer r made) h = tt
+
+-- places from which a section can lead to one of these
+abbrev pub leads_chunked : Place → Bool
+leads_chunked (SettlingGroups base chunk bytes align) = true
+leads_chunked (Choosing bytes align) = true
+leads_chunked (AddingChunk base chunk bytes align) = true
+leads_chunked (Populating at missing) = true
+leads_chunked (ChoosingAtomic bytes align) = true
+leads_chunked (Zeroing at) = true
+leads_chunked Sparing = true
+leads_chunked (Depopulating base populated) = true
+leads_chunked (NextFill filled) = true
+leads_chunked (Filling chunk base page filled) = true
+leads_chunked _ = false
+
+module _ (c : Setup) where
+  -- no other section leads there
+  unchunked_row : (s : Section) (p : Place) (n : Next) → PlaceRow c s p n → leads_chunked p ≡ false → OnNext IsUnchunked n
+  unchunked_row s _ _ Stays h = refl
+  unchunked_row s _ _ _ h = cc
+
+  pub leads_unchunked : (p : Place) (s : Section) → leads_chunked p ≡ false → OnNext IsUnchunked (next c p s)
+  leads_unchunked p s h = unchunked_row s p (next c p s) (place_row c s p) h
+
+  -- a section that meets such an ask
+  plain_row : (a : Ask) (s : Section) → AskRow c a s → asks_chunky a ≡ false → is_chunky s ≡ false
+  plain_row _ _ Refused h = refl
+  plain_row _ _ _ h = cc
+
+  pub given_plain : (a : Ask) (s : Section) → asks_chunky a ≡ false → Meets c a s → is_chunky s ≡ false
+  given_plain a s h w = plain_row a s (ask_row c a s w) h
+
+-- Each section at its place, as to chunks.
 
 module _ (c : Setup) (units : AreUnits c) (m : PlainMap) (k : ℕ) (numbered : AreNumbered m) (once : (page : ℕ) → times page (spans_of m.areas) ≤ 1) (busy : ℕ → ℕ → Type 0) (fine : IsMapFine m)
     (full : (a : Area) → IsIn a m.areas → 1 ≤ a.span.pages) (some : 1 ≤ c.block_pages) (blocks : (b : Block) → IsIn b m.blocks → IsBlockFine c m b) where

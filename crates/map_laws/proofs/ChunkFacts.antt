@@ -13,9 +13,8 @@ use Rattle.vm_model.specs.declared.areas.Area.{Area}
 use Rattle.vm_model.specs.declared.areas.Span.{Span}
 use Rattle.map_laws.proofs.BlockFacts.{IsStill, same_test, still_bare, still_mapped, still_unmapped, to_same}
 use Rattle.map_laws.proofs.BlockPlaces.{IsInChunk}
-use Rattle.map_laws.proofs.Chosen.{IsIn}
+use Rattle.map_laws.proofs.Chosen.{IsIn, or_assoc, or_either, or_right}
 use Rattle.map_laws.proofs.Lists.{same_or}
-use Rattle.map_laws.proofs.OrTests.{or_assoc, or_either, or_right}
 use Rattle.map_laws.proofs.Spans.{holds_from}
 use Rattle.vm_model.specs.declared.areas.AreaKind.TheVariants as kind
 

@@ -17,11 +17,10 @@ use Rattle.vm_model.specs.Space.{count_from, is_among, times}
 use Rattle.vm_model.specs.declared.areas.Area.{Area}
 use Rattle.map_laws.proofs.BlockFacts.{IsStill, same_test, still_unmapped}
 use Rattle.map_laws.proofs.BlockPlaces.{IsInChunk}
-use Rattle.map_laws.proofs.Chosen.{IsIn}
+use Rattle.map_laws.proofs.Chosen.{IsIn, or_right}
 use Rattle.map_laws.proofs.ChunkFacts.{AreGroupsLive, AreSameRows, IsChunkAt, IsChunkFine, IsChunkOf, IsPlacedAt, NumberStays, OnUnits, chunk_at_stays, chunk_stays, group_page, page_in_units, same_page, unit_covered, unit_page}
 use Rattle.map_laws.proofs.ChunkRows.{AreNumbered, rows_kept, rows_numbered, same_row}
 use Rattle.map_laws.proofs.Lists.{same_or}
-use Rattle.map_laws.proofs.OrTests.{or_right}
 use Rattle.map_laws.proofs.OutMoves.{same_area}
 use Rattle.map_laws.proofs.PlaceMoves.{given_all, given_still}
 use Rattle.map_laws.proofs.Places.{OnNext}

@@ -12,7 +12,7 @@ use Rattle.vm_model.specs.Setup.{Setup}
 use Rattle.vm_model.specs.Told.{placed}
 use Rattle.map_laws.proofs.PlaceRows.{PlaceRow, Stays, NoSpaceForChunk, Chose, ChoseNone, AddedChunk, AddedNone, place_row}
 use Rattle.map_laws.proofs.ChunkFalls.{added}
-use Rattle.map_laws.proofs.Filling.{adds_nothing, asks_chunk}
+use Rattle.map_laws.proofs.StepFalls.{adds_nothing, asks_chunk}
 use Rattle.map_laws.proofs.Places.{OnNext}
 
 abbrev pub number_aim : Aim → Option ℕ

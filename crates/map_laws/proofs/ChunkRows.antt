@@ -1,19 +1,63 @@
--- Sections that change no chunk but for its objects, and leave the areas and pages of chunks.
-use Rattle.std.proofs.Common.{◌≡◌, ℕ, ◌<◌, inl, inr, Bool, true, false, slice_get, Some, refl, ap, sym, ◌∙◌, subst, arith}
-use Rattle.map_laws.proofs.Chosen.{IsIn}
-use Rattle.map_laws.proofs.ChunkFacts.{IsSameRow, AreSameRows, NumberStays}
+-- Chunks as rows of the map: what sections leave of them, and where objects are placed.
+use Rattle.std.proofs.Common.{◌≡◌, ◌≢◌, ℕ, ◌⊎◌, inl, inr, Bool, true, false, ◌==◌, if◌then◌else◌, List, map, Some, option_map, refl, ap, sym, ◌∙◌, arith, ◌<◌, slice_get, subst, None, Option, drop, filter, is_some, length, not, option_and_then, suc, unwrap_or, zero, ◌*◌, ◌+◌, ◌-◌, ◌/◌, ◌≤◌}
+use Rattle.std.proofs.lemmas.Bool.Decides.{nat_tests}
+use Rattle.std.proofs.lemmas.Option.{slice_get-map, get_or_from_slice_get, slice_get_within, unwrap_or-slice_get}
+use Rattle.map_laws.proofs.Chosen.{IsIn, among_in, filter_has, filter_in, in_among, least_in}
+use Rattle.map_laws.proofs.ChunkFalls.{mapped_at, hole_is}
+use Rattle.map_laws.proofs.ChunkFacts.{IsSameRow, AreSameRows, NumberStays, IsChunkOf, IsLacking}
 use Rattle.vm_model.specs.Events.{AddChunk, Depopulate, Fill, Filled, Flush, FreeObject, MapPages, PlaceAtomic, PlaceObject, Populate, Remove, Settle, SettleObject, Spare, Unlink, Unmap, Unplace, Section}
 use Rattle.vm_model.specs.Places.{AskAddChunk, AskDepopulate, AskFill, AskFilled, AskMap, AskPopulate, AskRemove, AskSettleObject, AskSpare, AskUnlink, AskUnmap, Ask}
 use Rattle.vm_model.specs.PlainMap.{Chunk, PlainMap}
-use Rattle.vm_model.specs.Setup.{Setup}
-use Rattle.vm_model.specs.Chunks.{change_chunk, with_object, without_object}
-use Rattle.map_laws.proofs.Changed.{keyed_is, keyed_in, unkeyed_in}
+use Rattle.vm_model.specs.Setup.{Setup, unit_bits}
+use Rattle.vm_model.specs.Chunks.{change_chunk, with_object, without_object, ObjectAt, chosen, is_populated, missing_pages, offset_fit, pages_of_object, placed_at, placed_in, placement, slot}
 use Rattle.vm_model.specs.Effects.{effect_as}
 use Rattle.map_laws.proofs.BlockPlaces.{with_keeps}
-use Rattle.map_laws.proofs.Lists.{same_or}
+use Rattle.map_laws.proofs.Lists.{same_or, there}
 use Rattle.vm_model.specs.Areas.{areas_of}
-use Rattle.map_laws.proofs.Touched.{painted_still}
-use Rattle.vm_model.specs.Space.{holds}
+use Rattle.map_laws.proofs.Touched.{painted_still, in_row}
+use Rattle.vm_model.specs.Space.{holds, begins_free, count_from, is_among, lowest}
+use Rattle.vm_model.proofs.Elements.{slice_get-drop}
+use Rattle.map_laws.proofs.Fits.{lowest_fit}
+use Rattle.map_laws.proofs.PlaceMoves.{begins_free-at}
+use Rattle.map_laws.proofs.Places.{IsObjectSize}
+
+-- Lists in which the elements with one key are changed.
+
+module _ {X : Type 0} (key : X → ℕ) (start : ℕ) (change : X → X) where
+  abbrev change_if : X → X
+  change_if x = if key x == start then change x else x
+
+  by_key : (x y : X) (t : Bool) → (key x == start) ≡ t → (if t then change x else x) ≡ y → ((key x ≡ start) × (y ≡ change x)) ⊎ ((key x ≢ start) × (y ≡ x))
+  by_key x y true e h = inl ((let f : key x ≡ start = grind (arith, nat_tests) in f), sym h)
+  by_key x y false e h = inr ((λ f. (let t : (key x == start) ≡ true = grind (arith, nat_tests) in cc)), sym h)
+
+  -- an element of the changed list is the changed one, or another one as it was
+  pub keyed_is : (xs : List X) (y : X) → IsIn y (map (λ x. if key x == start then change x else x) xs) → (was : X) × IsIn was xs × (((key was ≡ start) × (y ≡ change was)) ⊎ ((key was ≢ start) × (y ≡ was)))
+  keyed_is xs y there =
+      let was = mapped_at (λ x. if key x == start then change x else x) xs there.place y there.at in
+      (was.0, record { place = there.place; at = was.1 }, by_key was.0 y (key was.0 == start) refl was.2)
+
+  test_true : (x : X) → key x ≡ start → (key x == start) ≡ true
+  test_true x e = grind (arith, nat_tests)
+
+  test_false : (x : X) (t : Bool) → (key x == start) ≡ t → key x ≢ start → t ≡ false
+  test_false x true e n = absurd (n (let f : key x ≡ start = grind (arith, nat_tests) in f))
+  test_false x false e n = refl
+
+  -- and each element of the list is there, changed or not
+  pub keyed_in : (xs : List X) (x : X) → IsIn x xs → key x ≡ start → IsIn (change x) (map (λ x. if key x == start then change x else x) xs)
+  keyed_in xs x there e = record {
+    place = there.place;
+    at = slice_get-map (λ x. if key x == start then change x else x) xs there.place ∙ ap (option_map (λ x. if key x == start then change x else x)) there.at ∙ ap (λ t. Some (if t then change x else x)) (test_true x e);
+  }
+
+  pub unkeyed_in : (xs : List X) (x : X) → IsIn x xs → key x ≢ start → IsIn x (map (λ x. if key x == start then change x else x) xs)
+  unkeyed_in xs x there n = record {
+    place = there.place;
+    at = slice_get-map (λ x. if key x == start then change x else x) xs there.place ∙ ap (option_map (λ x. if key x == start then change x else x)) there.at ∙ ap (λ t. Some (if t then change x else x)) (test_false x (key x == start) refl n);
+  }
+
+-- Sections that change no chunk but for its objects, and leave the areas and pages of chunks.
 
 pub same_row : (h : Chunk) → IsSameRow h h
 same_row h = record { number = refl; base = refl; long = refl; populated = λ page. refl }
@@ -117,3 +161,109 @@ module _ (c : Setup) (m : PlainMap) (k : ℕ) where
   plain_stays (Remove start serial area) number h = cc
   plain_stays (Unlink starts) number h = cc
   plain_stays s number h = same_stays (effect_as c m k s) number refl refl (λ page f. f)
+
+-- Where an object is placed: its chunk, its pages, and those of them that lack frames.
+
+-- an object as a choice of a chunk places it
+pub record IsPlacement (c : Setup) (fit : Chunk → Option ℕ) (bytes : ℕ) (chunks : List Chunk) (at : ObjectAt) (missing : List ℕ) : Type 0 where
+  pub chunk : Chunk
+  pub there : IsIn chunk chunks
+  pub fits : fit chunk ≡ Some at.off
+  pub numbered : at.chunk ≡ chunk.number
+  pub based : at.base ≡ chunk.base
+  pub sized : at.bytes ≡ bytes
+  pub lacks : missing ≡ missing_pages at chunk
+
+placed_by : (c : Setup) (fit : Chunk → Option ℕ) (bytes : ℕ) (chunks : List Chunk) (h : Chunk) (o : Option ℕ) (at : ObjectAt) (missing : List ℕ) → IsIn h chunks → fit h ≡ o → option_map (placed_in bytes h) o ≡ Some (at, missing)
+    → IsPlacement c fit bytes chunks at missing
+placed_by c fit bytes chunks h None at missing there e f = cc
+placed_by c fit bytes chunks h (Some off) at missing there e f =
+    let own : ObjectAt = record { chunk = h.number; base = h.base; off = off; bytes = bytes } in
+    let two : ObjectAt × List ℕ = (at, missing) in
+    let pair : placed_in bytes h off ≡ two = cc in
+    let same : own ≡ at = ap (λ p. p.0) pair in
+    subst (λ (x : ObjectAt). IsPlacement c fit bytes chunks x missing) same (record {
+      chunk = h;
+      there = there;
+      fits = e;
+      numbered = refl;
+      based = refl;
+      sized = refl;
+      lacks = sym (ap (λ p. p.1) pair);
+    })
+
+placement_by : (c : Setup) (fit : Chunk → Option ℕ) (bytes : ℕ) (chunks : List Chunk) (o : Option Chunk) (at : ObjectAt) (missing : List ℕ) → ((h : Chunk) → o ≡ Some h → IsIn h chunks)
+    → option_and_then (placed_at fit bytes) o ≡ Some (at, missing) → IsPlacement c fit bytes chunks at missing
+placement_by c fit bytes chunks None at missing from e = cc
+placement_by c fit bytes chunks (Some h) at missing from e = placed_by c fit bytes chunks h (fit h) at missing (from h refl) refl e
+
+pub placement_is : (c : Setup) (fit : Chunk → Option ℕ) (bytes : ℕ) (chunks : List Chunk) (at : ObjectAt) (missing : List ℕ) → placement c fit bytes chunks ≡ Some (at, missing) → IsPlacement c fit bytes chunks at missing
+placement_is c fit bytes chunks at missing e = placement_by c fit bytes chunks (chosen c fit chunks) at missing
+    (λ h f. (let is = least_in (slot c) (filter (λ h. is_some (fit h)) chunks) h f in (filter_has (λ (h : Chunk). is_some (fit h)) chunks is.place h is.at).there)) e
+
+-- The pages of an object that fits.
+
+length-count_from : (n first : ℕ) → length (count_from n first) ≡ n
+length-count_from zero first = refl
+length-count_from (suc n) first = ap suc (length-count_from n (suc first))
+
+pub record IsFitting (bits : List Bool) (bytes off : ℕ) : Type 0 where
+  pub bit : ℕ
+  pub at : off ≡ 4 * bit
+  pub free : begins_free (bytes / 4) (drop bit bits) ≡ true
+
+fitting_by : (bytes align off : ℕ) (bits : List Bool) (o : Option ℕ) → lowest bits (bytes / 4) (align / 4) ≡ o → option_map (λ bit. 4 * bit) o ≡ Some off → IsFitting bits bytes off
+fitting_by bytes align off bits None e f = cc
+fitting_by bytes align off bits (Some bit) e f = record { bit = bit; at = (let g : 4 * bit ≡ off = cc in sym g); free = (lowest_fit bits (bytes / 4) (align / 4) bit e).1 }
+
+pub fitting : (bytes align off : ℕ) (bits : List Bool) → offset_fit bytes align bits ≡ Some off → IsFitting bits bytes off
+fitting bytes align off bits e = fitting_by bytes align off bits (lowest bits (bytes / 4) (align / 4)) refl e
+
+-- a free bit of a list of bits
+pub fitting_bit : (bits : List Bool) (bytes off i : ℕ) → (is : IsFitting bits bytes off) → i < bytes / 4 → slice_get bits (is.bit + i) ≡ Some false
+fitting_bit bits bytes off i is low = sym (slice_get-drop is.bit bits i) ∙ begins_free-at (bytes / 4) (drop is.bit bits) i is.free low
+
+pub object_low : (c : Setup) (bits : List Bool) (at : ObjectAt) (bytes : ℕ) → length bits ≡ unit_bits c → IsObjectSize bytes → at.bytes ≡ bytes → IsFitting bits bytes at.off → (page : ℕ) → is_among (pages_of_object at) page ≡ true
+    → (page < c.unit_pages) × (at.off / 4096 ≤ page) × (page ≤ (at.off + at.bytes - 1) / 4096)
+object_low c bits at bytes long size same is page h =
+    let row = in_row (suc ((at.off + at.bytes - 1) / 4096) - at.off / 4096) (at.off / 4096) page h in
+    let whole = size.2 in
+    let last = slice_get_within bits (is.bit + size.1) false (fitting_bit bits bytes at.off size.1 is (omega arith)) in
+    let e = is.at in
+    ((omega arith), row.0, (omega arith))
+
+-- Which pages of an object lack frames.
+
+pub populated_at : (h : Chunk) (page : ℕ) → is_populated h page ≡ true → slice_get h.populated page ≡ Some true
+populated_at h page e = by_value (slice_get h.populated page) refl
+  where
+    by_value : (o : Option Bool) → slice_get h.populated page ≡ o → slice_get h.populated page ≡ Some true
+    by_value None f = let g : is_populated h page ≡ false = sym (unwrap_or-slice_get h.populated page false) ∙ ap (λ o. unwrap_or o false) f in cc
+    by_value (Some true) f = f
+    by_value (Some false) f = let g : is_populated h page ≡ false = get_or_from_slice_get h.populated page false false f in cc
+
+module _ (c : Setup) (fit : Chunk → Option ℕ) (bytes : ℕ) (chunks : List Chunk) (m : PlainMap) (at : ObjectAt) (missing : List ℕ) (is : IsPlacement c fit bytes chunks at missing) where
+  missing_within : (page : ℕ) → is_among missing page ≡ true → is_among (pages_of_object at) page ≡ true
+  missing_within page h =
+      let place = among_in page (missing_pages at is.chunk) (ap (λ l. is_among l page) (sym is.lacks) ∙ h) in
+      in_among page (pages_of_object at) (filter_has (λ page. not (is_populated is.chunk page)) (pages_of_object at) place.place page place.at).there
+
+  either_by : (page : ℕ) → is_among (pages_of_object at) page ≡ true → (t : Bool) → is_populated is.chunk page ≡ t → (is_among missing page ≡ true) ⊎ (slice_get is.chunk.populated page ≡ Some true)
+  either_by page h true e = inr (populated_at is.chunk page e)
+  either_by page h false e = let place = among_in page (pages_of_object at) h in
+      inl (ap (λ l. is_among l page) is.lacks ∙ in_among page (missing_pages at is.chunk) (filter_in (λ page. not (is_populated is.chunk page)) (pages_of_object at) page place.place place.at (ap not e)))
+
+  -- the placed object in a map that has its chunk
+  pub placed_lacking : length is.chunk.populated ≡ c.unit_pages → (of : IsChunkOf m at.chunk at.base) → IsSameRow is.chunk of.chunk → ((page : ℕ) → is_among (pages_of_object at) page ≡ true → page < c.unit_pages) → IsLacking c m at missing
+  placed_lacking long of row low = record {
+    here = of;
+    low = low;
+    either = λ page h. elim (either_by page h _ refl) [ inl lacks ↦ inl lacks | inr has ↦ inr (row.populated page ∙ has) ];
+    within = missing_within;
+    lacks = λ page h. row.populated page ∙ missing_open page h (low page (missing_within page h));
+  }
+    where
+      missing_open : (page : ℕ) → is_among missing page ≡ true → page < c.unit_pages → slice_get is.chunk.populated page ≡ Some false
+      missing_open page h under =
+          let place = among_in page (missing_pages at is.chunk) (ap (λ l. is_among l page) (sym is.lacks) ∙ h) in
+          hole_is is.chunk.populated page (omega (arith, long)) (filter_has (λ page. not (is_populated is.chunk page)) (pages_of_object at) place.place page place.at).passes

@@ -22,14 +22,13 @@ use Rattle.map_laws.proofs.BlockPlaces.{IsInChunk}
 use Rattle.map_laws.proofs.BlockWorlds.{only_one}
 use Rattle.map_laws.proofs.Chosen.{IsIn}
 use Rattle.map_laws.proofs.ChunkFacts.{AreGroupsLive, IsChunkAt, IsChunkFine, IsChunkOf, group_page, unit_covered, unit_page}
-use Rattle.map_laws.proofs.ChunkLeft.{groups_no_block}
+use Rattle.map_laws.proofs.ChunkLeft.{groups_no_block, groups_unlinked}
 use Rattle.map_laws.proofs.ChunkMoves.{IsChunkMoved, next_busy}
-use Rattle.map_laws.proofs.ChunkNext.{IsUnchunked, unchunked_at}
+use Rattle.map_laws.proofs.ChunkDispatch.{IsUnchunked, unchunked_at}
 use Rattle.map_laws.proofs.ChunkRows.{AreNumbered}
-use Rattle.map_laws.proofs.ChunkUnlinked.{groups_unlinked}
 use Rattle.map_laws.proofs.GroupsFree.{groups_free}
 use Rattle.map_laws.proofs.Lists.{append_cases, set_cases, there}
-use Rattle.map_laws.proofs.Others.{SomeOther, other_or, others_still, someone_joins}
+use Rattle.map_laws.proofs.Frames.{SomeOther, other_or, others_still, someone_joins}
 use Rattle.map_laws.proofs.Places.{HaveBeginnings, AtOver, OnNext, answers_call, begins_with}
 use Rattle.map_laws.specs.Turns.{AreTurnsKept}
 

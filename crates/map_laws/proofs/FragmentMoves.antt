@@ -7,9 +7,8 @@ use Rattle.vm_model.specs.Blocks.{PartAt, first_page, parts_size, free_of, dirty
 use Rattle.vm_model.specs.Legal.{IsLegalAs}
 use Rattle.vm_model.specs.Events.{BeginUnmap, Fragment}
 use Rattle.vm_model.specs.Effects.{effect_as}
-use Rattle.vm_model.specs.Places.{BeginningUnmap, PurgeFragmenting, UnmappingPart}
+use Rattle.vm_model.specs.Places.{BeginningUnmap, PurgeFragmenting, UnmappingPart, Then}
 use Rattle.vm_model.specs.Next.{Next, Go, after_fragments}
-use Rattle.vm_model.specs.Places.{Then}
 use Rattle.vm_model.specs.declared.areas.Span.{Span}
 use Rattle.map_laws.proofs.PartMoves.{sum_starts_of}
 use Rattle.vm_model.specs.Carried.{count_of}

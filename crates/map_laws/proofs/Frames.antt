@@ -1,5 +1,5 @@
--- What every caller has beside its place, and how a fact is carried from the first world to each reached one.
-use Rattle.std.proofs.Common.{◌≡◌, ◌≢◌, ℕ, zero, suc, ◌+◌, ◌<◌, ◌⊎◌, inl, inr, List, [], ◌∷◌, ◌++◌, length, slice_get, Option, Some, None, refl, ap, sym, ◌∙◌, subst, arith, length-append, length-set}
+-- What each caller keeps through all steps, and facts of other callers.
+use Rattle.std.proofs.Common.{◌≡◌, ◌≢◌, ℕ, zero, suc, ◌+◌, ◌<◌, ◌⊎◌, inl, inr, List, [], ◌∷◌, ◌++◌, length, slice_get, Option, Some, None, refl, ap, sym, ◌∙◌, subst, arith, length-append, length-set, slice_set}
 use Rattle.std.proofs.lemmas.Option.{slice_get_within}
 use Rattle.vm_model.specs.declared.calls.Call.{Call}
 use Rattle.vm_model.specs.Setup.{Setup}
@@ -12,7 +12,9 @@ use Rattle.vm_model.specs.Given.{given}
 use Rattle.vm_model.specs.History.{Local, World, started, answered, answered_of, moved_to, made_by, opening_world, opening_answers, callers_from, with_callers}
 use Rattle.vm_model.specs.LegalHistory.{IsNext, IsNextOf, IsRun, IsReached, AllOver, after_event, after_event_of, world_after, callers_world}
 use Rattle.vm_model.proofs.OneNext.{one_next}
-use Rattle.map_laws.proofs.Lists.{set_cases, append_cases}
+use Rattle.map_laws.proofs.Lists.{set_cases, append_cases, append_first, same_or, set_other, set_same}
+
+-- What every caller has beside its place, and how a fact is carried from the first world to each reached one.
 
 -- the caller stands under its number, over this setup, and has a call at hand or has ended
 pub record IsOwn (c : Setup) (k : ℕ) (l : Local) : Type 0 where
@@ -138,3 +140,28 @@ lasts c opening calls P first is w reached =
       | inl h ↦ (h.0.framed, h.1)
       | inr h ↦ h
     ]
+
+-- What some caller does at its place, and what some other caller than a given one does.
+
+abbrev pub Someone : (Place → Type 0) → World → Type 0
+Someone P w = (k : ℕ) × (l : Local) × (slice_get w.locals k ≡ Some l) × P l.place
+
+abbrev pub SomeOther : (Place → Type 0) → World → ℕ → Type 0
+SomeOther P w k = (j : ℕ) × (x : Local) × (slice_get w.locals j ≡ Some x) × (j ≢ k) × P x.place
+
+module _ (P : Place → Type 0) (w : World) (k : ℕ) (l : Local) (here : slice_get w.locals k ≡ Some l) where
+  -- it is another caller, or this one
+  pub other_or : Someone P w → SomeOther P w k ⊎ P l.place
+  other_or is = elim (same_or is.0 k) [
+    | inl e ↦ inr (let at = is.2 in let f : slice_get w.locals k ≡ Some is.1 = ap (slice_get w.locals) (sym e) ∙ at in let same : is.1 ≡ l = cc in subst (λ (x : Local). P x.place) same is.3)
+    | inr apart ↦ inl (is.0, is.1, is.2, apart, is.3)
+  ]
+
+  -- the others do it still when this caller has moved
+  pub others_still : (after : Local) (m : PlainMap) (events : List Event) → SomeOther P w k ⊎ P after.place → Someone P (record { map = m; locals = slice_set w.locals k after; events = events })
+  others_still after m events (inl is) = (is.0, is.1, set_other w.locals k is.0 after is.3 ∙ is.2, is.4)
+  others_still after m events (inr is) = (k, after, set_same w.locals k l after here, is)
+
+-- more callers join
+pub someone_joins : (P : Place → Type 0) (w : World) (more : List Local) → Someone P w → Someone P (record w { locals = w.locals ++ more })
+someone_joins P w more is = (is.0, is.1, append_first w.locals more is.0 is.1 is.2, is.3)

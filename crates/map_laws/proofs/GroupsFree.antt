@@ -10,7 +10,7 @@ use Rattle.vm_model.specs.Laws.{as_free}
 use Rattle.vm_model.specs.Rules.{AreApart, AreDisjoint, AreGroups}
 use Rattle.map_laws.proofs.Fits.{and_both, highest_fit}
 use Rattle.map_laws.proofs.Spans.{times-cons, holds_to, holds_from}
-use Rattle.map_laws.proofs.MapMoves.{free_one}
+use Rattle.map_laws.proofs.Quiet.{free_one}
 use Rattle.map_laws.proofs.PlaceMoves.{free_row}
 
 -- how many free places a list begins with

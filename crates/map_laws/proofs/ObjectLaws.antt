@@ -18,14 +18,13 @@ use Rattle.vm_model.specs.declared.areas.Span.{Span}
 use Rattle.map_laws.proofs.BlockFacts.{same_test}
 use Rattle.map_laws.proofs.BlockPlaces.{IsInChunk}
 use Rattle.map_laws.proofs.BlockWorlds.{sum_some}
-use Rattle.map_laws.proofs.Chosen.{IsIn}
+use Rattle.map_laws.proofs.Chosen.{IsIn, one_if_le}
 use Rattle.map_laws.proofs.ChunkFacts.{AreGroupsLive, group_page, unit_covered, unit_page}
 use Rattle.map_laws.proofs.ChunkMoves.{number_once}
 use Rattle.map_laws.proofs.ChunkWorlds.{IsChunkWorld}
 use Rattle.map_laws.proofs.Lists.{same_or, there}
 use Rattle.map_laws.proofs.ObjectFacts.{AreChunksFine, IsBeingPlaced, IsObject, IsObjectAt, IsShaped, count_sum, object_only, same_place, times_map}
 use Rattle.map_laws.proofs.ObjectWorlds.{IsObjectWorld, SomeonePlaces}
-use Rattle.map_laws.proofs.OrTests.{one_if_le}
 use Rattle.map_laws.proofs.Spans.{holds_from, holds_to, times-append}
 use Rattle.map_laws.proofs.TraceWorlds.{trace_reached}
 

@@ -13,14 +13,14 @@ use Rattle.vm_model.specs.PlainMap.{InHand, PlainMap}
 use Rattle.vm_model.specs.Setup.{Setup}
 use Rattle.vm_model.specs.declared.calls.Call.{Call}
 use Rattle.map_laws.proofs.AreaWorlds.{moved_caller}
-use Rattle.map_laws.proofs.ChunkNext.{IsUnchunked}
+use Rattle.map_laws.proofs.ChunkDispatch.{IsUnchunked}
 use Rattle.map_laws.proofs.ChunkNumbers.{IsNumberNext, chunk_number, number_after, number_alloc, same_or_alloc}
 use Rattle.map_laws.proofs.ChunkWorlds.{alone, unchunked_begins}
 use Rattle.map_laws.proofs.Lists.{append_cases, set_cases, there}
 use Rattle.map_laws.proofs.ObjectChanges.{same_fine}
 use Rattle.map_laws.proofs.ObjectFacts.{AreChunksFine, IsBeingPlaced, IsObject, IsObjectAt, next_placed}
 use Rattle.map_laws.proofs.ObjectMoves.{IsObjectMoved, Kills, unhanded_at}
-use Rattle.map_laws.proofs.Others.{SomeOther, Someone, other_or, others_still, someone_joins}
+use Rattle.map_laws.proofs.Frames.{SomeOther, Someone, other_or, others_still, someone_joins}
 use Rattle.map_laws.proofs.Places.{HaveBeginnings, AtOver, OnNext, answers_call, begins_with}
 use Rattle.map_laws.specs.Turns.{AreTurnsKept}
 

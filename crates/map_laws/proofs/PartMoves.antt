@@ -9,9 +9,8 @@ use Rattle.vm_model.specs.Blocks.{PartAt, first_page, rounded, size_of, parts_si
 use Rattle.vm_model.specs.Legal.{IsUnmapped, IsMapped, IsBare, IsLegalAs}
 use Rattle.vm_model.specs.Events.{CutPart, AddBlock, SettlePart, Retire}
 use Rattle.vm_model.specs.Effects.{effect_as}
-use Rattle.vm_model.specs.Places.{CuttingPart, SettlingPart, MappingPart, AddingBlock, Retiring, UnlinkingBlock}
+use Rattle.vm_model.specs.Places.{CuttingPart, SettlingPart, MappingPart, AddingBlock, Retiring, UnlinkingBlock, Made, MadeNothing}
 use Rattle.vm_model.specs.declared.calls.Reply.{Reply}
-use Rattle.vm_model.specs.Places.{Made, MadeNothing}
 use Rattle.vm_model.specs.Next.{Go, Answer}
 use Rattle.vm_model.specs.Carried.{count_of}
 use Rattle.map_laws.proofs.Lists.{same_or, append_cases, append_first}

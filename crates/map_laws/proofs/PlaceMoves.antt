@@ -20,8 +20,7 @@ use Rattle.map_laws.proofs.Places.{OnNext}
 use Rattle.map_laws.proofs.Spans.{times-one, covers_times, in_spans, InSpans, Inside, Outside, covers_one, holds_to}
 use Rattle.map_laws.proofs.Touched.{touch, painted}
 use Rattle.map_laws.proofs.AreaFacts.{IsHolding, IsMapFine, own_uses, next_uses, holds_nothing, nothing_claimed, IsUnbearing}
-use Rattle.map_laws.proofs.MapMoves.{IsOuter, outer_map, held_fine, free_fine, free_one, painted_free, freed_le}
-use Rattle.map_laws.proofs.Quiet.{is_quiet, quiet}
+use Rattle.map_laws.proofs.Quiet.{IsOuter, outer_map, held_fine, free_fine, free_one, painted_free, freed_le, is_quiet, quiet}
 use Rattle.map_laws.proofs.Fits.{lowest_fit}
 
 -- what a section at a place does, where its caller goes on to the given next

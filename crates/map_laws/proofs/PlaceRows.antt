@@ -26,7 +26,8 @@ pub data PlaceRow (c : Setup) (s : Section) : Place → Next → Type 0 where
   FoundNone : (search : Search) (aim : Aim) → PlaceRow c s (Finding search aim) (Go (PurgeTaking None (SearchAgain search aim)))
   AgainArea : (search : Search) (k : AreaKind) (place : Span) → carved s ≡ Some place → PlaceRow c s (FindingAgain search (ForArea k)) (Go (MappingArea place k))
   AgainBlock : (search : Search) (cpu pages : ℕ) (place : Span) → carved s ≡ Some place → PlaceRow c s (FindingAgain search (ForBlock cpu pages)) (Go (SettlingBlock place cpu pages))
-  AgainGroups : (search : Search) (chunk bytes align base : ℕ) → carved_base s ≡ Some base → PlaceRow c s (FindingAgain search (ForChunk chunk bytes align)) (Go (SettlingGroups base chunk bytes align))
+  AgainGroups : (search : Search) (chunk bytes align base : ℕ) → carved_base s ≡ Some base
+      → PlaceRow c s (FindingAgain search (ForChunk chunk bytes align)) (Go (SettlingGroups base chunk bytes align))
   AgainNoArea : (search : Search) (k : AreaKind) → PlaceRow c s (FindingAgain search (ForArea k)) (Answer reply.NoSpace MadeNothing)
   AgainNoBlock : (search : Search) (cpu pages : ℕ) → PlaceRow c s (FindingAgain search (ForBlock cpu pages)) (Answer reply.NoSpace MadeNothing)
   AgainNoGroups : (search : Search) (chunk bytes align : ℕ) (place : Span) → carved s ≡ Some place → PlaceRow c s (FindingAgain search (ForChunk chunk bytes align)) (Answer reply.NoSpace MadeNothing)
@@ -43,7 +44,8 @@ pub data PlaceRow (c : Setup) (s : Section) : Place → Next → Type 0 where
   WaitedReply : (spans : List Span) (r : Reply) → PlaceRow c s (Waiting spans (ReplyWith r)) (Answer r MadeNothing)
   WaitedSpare : (spans : List Span) → PlaceRow c s (Waiting spans SpareAgain) (Go Sparing)
   TookPurge : (extra : Option Span) (after : Then) → PlaceRow c s (PurgeTaking extra after) (Go (PurgeFragmenting 0 [] extra after))
-  FragmentedMore : (cpu : ℕ) (gone : List ℕ) (extra : Option Span) (after : Then) → nat_lt (suc cpu) (cpus c) ≡ true → PlaceRow c s (PurgeFragmenting cpu gone extra after) (Go (PurgeFragmenting (suc cpu) (gone ++ blocks_gone s) extra after))
+  FragmentedMore : (cpu : ℕ) (gone : List ℕ) (extra : Option Span) (after : Then) → nat_lt (suc cpu) (cpus c) ≡ true
+      → PlaceRow c s (PurgeFragmenting cpu gone extra after) (Go (PurgeFragmenting (suc cpu) (gone ++ blocks_gone s) extra after))
   FragmentedSome : (cpu : ℕ) (gone : List ℕ) (extra : Option Span) (after : Then) → PlaceRow c s (PurgeFragmenting cpu gone extra after) (Go (PurgeUnlinking (gone ++ blocks_gone s) extra after))
   FragmentedNone : (cpu : ℕ) (gone : List ℕ) (extra : Option Span) (after : Then) → PlaceRow c s (PurgeFragmenting cpu gone extra after) (Go (PurgeCollecting extra after))
   UnlinkedGone : (gone : List ℕ) (extra : Option Span) (after : Then) → PlaceRow c s (PurgeUnlinking gone extra after) (Go (PurgeWaiting gone extra after))
@@ -106,7 +108,8 @@ module _ (c : Setup) (s : Section) where
   either p true x y f g = f refl
   either p false x y f g = g refl
 
-  finds : (search : Search) (aim : Aim) (o : Option Span) (base : Option ℕ) → carved s ≡ o → carved_base s ≡ base → PlaceRow c s (Finding search aim) (found aim o base (Go (PurgeTaking None (SearchAgain search aim))))
+  finds : (search : Search) (aim : Aim) (o : Option Span) (base : Option ℕ) → carved s ≡ o → carved_base s ≡ base
+      → PlaceRow c s (Finding search aim) (found aim o base (Go (PurgeTaking None (SearchAgain search aim))))
   finds search (ForArea k) (Some place) base e f = FoundArea search k place e
   finds search (ForBlock cpu pages) (Some place) base e f = FoundBlock search cpu pages place e
   finds search (ForChunk chunk bytes align) None (Some base) e f = FoundGroups search chunk bytes align base f
@@ -140,7 +143,8 @@ module _ (c : Setup) (s : Section) where
   gives (ReplyWith r) = GaveToReply r
   gives SpareAgain = GaveToSpare
 
-  fragments : (cpu : ℕ) (gone : List ℕ) (extra : Option Span) (after : Then) (all : List ℕ) → gone ++ blocks_gone s ≡ all → PlaceRow c s (PurgeFragmenting cpu gone extra after) (Go (after_fragments (gone ++ blocks_gone s) extra after))
+  fragments : (cpu : ℕ) (gone : List ℕ) (extra : Option Span) (after : Then) (all : List ℕ) → gone ++ blocks_gone s ≡ all
+      → PlaceRow c s (PurgeFragmenting cpu gone extra after) (Go (after_fragments (gone ++ blocks_gone s) extra after))
   fragments cpu gone extra after all e = subst (λ l. PlaceRow c s (PurgeFragmenting cpu gone extra after) (Go (after_fragments l extra after))) (sym e) (by_list all e)
     where
       by_list : (all : List ℕ) → gone ++ blocks_gone s ≡ all → PlaceRow c s (PurgeFragmenting cpu gone extra after) (Go (after_fragments all extra after))

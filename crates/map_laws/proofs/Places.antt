@@ -2,11 +2,9 @@
 use Rattle.std.proofs.Common.{◌≡◌, ℕ, zero, suc, inl, inr, ◌+◌, ◌*◌, ◌%◌, ◌<◌, ◌≤◌, max, Bool, true, false, nat_le, if◌then◌else◌, List, [], ◌∷◌, slice_get, length, Option, Some, None, refl, ap, sym, ◌∙◌, subst, arith, ℤ, ◌-◌}
 use Rattle.std.proofs.lemmas.Bool.Decides.{nat_tests}
 use Rattle.vm_model.specs.declared.areas.AreaKind.{AreaKind}
-use Rattle.vm_model.specs.declared.areas.AreaKind.TheVariants as kind
 use Rattle.vm_model.specs.declared.calls.Call.{Call}
 use Rattle.vm_model.specs.declared.calls.Call.TheVariants.{Vmalloc, Vfree, MapRam, UnmapRam, UnmapAliases, AllocPercpu, AllocAtomic, FreePercpu, Add, Sum, Balance}
 use Rattle.vm_model.specs.declared.calls.Reply.{Reply}
-use Rattle.vm_model.specs.declared.calls.Reply.TheVariants as reply
 use Rattle.vm_model.specs.Setup.{Setup, highest}
 use Rattle.vm_model.specs.PlainMap.{PlainMap, taken}
 use Rattle.vm_model.specs.Chunks.{ObjectAt}
@@ -22,6 +20,8 @@ use Rattle.map_laws.proofs.Fits.{is_zero, lowest_fit, highest_fit}
 use Rattle.map_laws.proofs.PlaceRows.{PlaceRow, NotCut, SettledBlock, SettledGroups, Mapped, place_row}
 use Rattle.map_laws.proofs.Lists.{there, set_cases, append_cases}
 use Rattle.map_laws.proofs.Frames.{IsStep, IsLasting, not_over, has_call}
+use Rattle.vm_model.specs.declared.areas.AreaKind.TheVariants as kind
+use Rattle.vm_model.specs.declared.calls.Reply.TheVariants as reply
 
 -- an area that is neither a block's nor a chunk's
 abbrev pub IsPlainKind : AreaKind → Type 0

@@ -17,14 +17,10 @@ use Rattle.vm_model.specs.Carried.{IsTurnKept, has_alloc}
 use Rattle.map_laws.proofs.Lists.{set_same, set_other}
 use Rattle.map_laws.proofs.Frames.{IsFramed, IsStep, not_over, has_call}
 use Rattle.map_laws.proofs.Places.{IsProper, HaveBeginnings, AtOver, begins_with, answers_call}
-use Rattle.map_laws.proofs.TurnMoves.{Change, Stays, Taken, Given}
-use Rattle.map_laws.proofs.TurnPlaces.{has_next, alloc_change}
+use Rattle.map_laws.proofs.TurnPlaces.{Change, Stays, Taken, Given, has_next, alloc_change}
 use Rattle.map_laws.proofs.TurnProofs.{AreTurnsProper}
-use Rattle.map_laws.proofs.ChunkFalls.{worth_of, added}
-use Rattle.map_laws.proofs.Left.{left, left_next, per_call, is_balancing}
-use Rattle.map_laws.proofs.Filling.{credit, credit_next, no_credit_next, no_filling_next}
-use Rattle.map_laws.proofs.Sizes.{AreSized}
-use Rattle.map_laws.proofs.StepFalls.{plain_falls, place_falls, credit_falls}
+use Rattle.map_laws.proofs.ChunkFalls.{worth_of, added, AreSized}
+use Rattle.map_laws.proofs.StepFalls.{left, left_next, per_call, is_balancing, credit, credit_next, no_credit_next, no_filling_next, plain_falls, place_falls, credit_falls}
 
 -- what a caller has left, in its call and in those behind it
 abbrev pub weight : Setup → Local → ℕ

@@ -27,7 +27,7 @@ use Rattle.map_laws.proofs.Fits.{and_both}
 use Rattle.map_laws.proofs.Frames.{IsFramed, not_over, has_call}
 use Rattle.map_laws.proofs.Places.{IsPlainKind, IsProper, AllStand, either_place, answers_call}
 use Rattle.map_laws.proofs.OutMoves.{with_in}
-use Rattle.map_laws.proofs.AreasMade.{areas_after}
+use Rattle.map_laws.proofs.AreaStarts.{areas_after}
 use Rattle.map_laws.proofs.AreaWorlds.{IsLegalStep}
 
 -- the serials of areas that live are given

@@ -4,7 +4,7 @@ use Rattle.std.proofs.lemmas.Bool.Decides.{nat_tests}
 use Rattle.std.proofs.lemmas.List.Sums.{sum_by-append, sum_by-cons}
 use Rattle.vm_model.specs.Space.{covers, holds, hull, one_if, times, wider}
 use Rattle.vm_model.specs.declared.areas.Span.{Span}
-use Rattle.map_laws.proofs.OrTests.{or_assoc, or_false}
+use Rattle.map_laws.proofs.Chosen.{or_assoc, or_false}
 
 pub one_le : (b : Bool) → one_if b ≤ 1
 one_le true = omega arith

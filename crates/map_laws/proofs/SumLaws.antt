@@ -29,7 +29,7 @@ use Rattle.map_laws.proofs.MadeNext.{IsNow}
 use Rattle.map_laws.proofs.ObjectsReady.{named_live}
 use Rattle.map_laws.proofs.TraceWorlds.{IsTraceWorld, trace_lasts, trace_first}
 use Rattle.map_laws.proofs.Deeds.{adds_at}
-use Rattle.map_laws.proofs.CellsKept.{HaveCells, have_cells_section, have_cells_first}
+use Rattle.map_laws.proofs.Words.{HaveCells, have_cells_section, have_cells_first}
 use Rattle.map_laws.proofs.ObjectWords.{grown}
 use Rattle.map_laws.proofs.SizedCalls.{AreSized, sized_lasts, sized_first}
 use Rattle.map_laws.proofs.UsedWords.{add_within, sum_within}

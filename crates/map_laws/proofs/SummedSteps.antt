@@ -14,17 +14,16 @@ use Rattle.vm_model.specs.LegalHistory.{Meets}
 use Rattle.vm_model.specs.Laws.{IsEvent, amount_of, added}
 use Rattle.map_laws.proofs.Lists.{set_cases, set_same}
 use Rattle.map_laws.proofs.Deeds.{SettlesAt, settles_at, sums_at}
-use Rattle.map_laws.proofs.Deeds as deed
-use Rattle.map_laws.proofs.Stories.{WhichEvent, Before, Last, which_event}
+use Rattle.map_laws.proofs.WaitStories.{WhichEvent, Before, Last, which_event}
 use Rattle.map_laws.proofs.ObjectFacts.{IsObject, IsObjectAt}
 use Rattle.map_laws.proofs.ObjectWorlds.{SomeonePlaces}
-use Rattle.map_laws.proofs.ObjectWords.{IsWordOf, word_mapped}
-use Rattle.map_laws.proofs.WordsKept.{zeroed_own}
-use Rattle.map_laws.proofs.WordSums.{sums_zero, added_more, added_same, adds_nothing}
+use Rattle.map_laws.proofs.ObjectWords.{IsWordOf, word_mapped, zeroed_own}
+use Rattle.map_laws.proofs.Words.{sums_zero, added_more, added_same, adds_nothing}
 use Rattle.map_laws.proofs.ObjectsBefore.{CameFrom, Was, Settled, came_from, one_object}
 use Rattle.map_laws.proofs.ZeroedPlaces.{IsZeroedAt, Zeroes, Populated, Zeroed}
 use Rattle.map_laws.proofs.TouchedWords.{AreWordsOwn, IsUsable, wordy_of, AreApartFrames, adding, word_same}
 use Rattle.map_laws.proofs.SummedWorlds.{IsSummed, byte_in, amount_serial, live_untouched, hand_untouched, sum_same, sum_added}
+use Rattle.map_laws.proofs.Deeds as deed
 
 -- the next serial of an object doesn't fall
 next_grows : (c : Setup) (m : PlainMap) (k : ℕ) (s : Section) → IsLegalAs c m k s → m.next_object ≤ (effect_as c m k s).next_object

@@ -19,7 +19,7 @@ use Rattle.map_laws.proofs.Deeds.{populates_at, zeroes_at}
 use Rattle.map_laws.proofs.ObjectFacts.{IsObject, IsObjectAt}
 use Rattle.map_laws.proofs.ObjectWorlds.{SomeonePlaces}
 use Rattle.map_laws.proofs.ObjectWords.{IsWordOf}
-use Rattle.map_laws.proofs.WordSums.{sums_agree, sums_grow, is_add}
+use Rattle.map_laws.proofs.Words.{sums_agree, sums_grow, is_add}
 use Rattle.map_laws.proofs.ObjectsBefore.{one_object}
 use Rattle.map_laws.proofs.ZeroedPlaces.{IsZeroedAt}
 use Rattle.map_laws.proofs.TouchedWords.{AreWordsOwn, IsUsable, Touches, AreApartFrames, adding, add_word_of, word_same, word_grows}

@@ -13,7 +13,7 @@ use Rattle.vm_model.specs.declared.areas.Area.{Area}
 use Rattle.vm_model.specs.declared.areas.AreaKind.{AreaKind}
 use Rattle.vm_model.specs.declared.areas.Span.{Span}
 use Rattle.map_laws.proofs.Lists.{set_other}
-use Rattle.map_laws.proofs.OrTests.{or_none}
+use Rattle.map_laws.proofs.Chosen.{or_none}
 use Rattle.map_laws.proofs.Spans.{holds_from}
 
 abbrev pub touch : Setup → PlainMap → Section → ℕ → Bool

@@ -18,8 +18,7 @@ use Rattle.map_laws.proofs.ObjectFacts.{IsObject, AreChunksFine, IsObjectAt}
 use Rattle.map_laws.proofs.ObjectWorlds.{SomeonePlaces}
 use Rattle.map_laws.proofs.Deeds.{populates_at, zeroes_at, adds_at}
 use Rattle.map_laws.proofs.Words.{AreCells, HasFrame, added_own, added_other}
-use Rattle.map_laws.proofs.ObjectWords.{IsWordOf, IsWordy, word_whole, one_word, word_mapped}
-use Rattle.map_laws.proofs.WordsKept.{frame_stays, same_word, word_stays, zeroed_other}
+use Rattle.map_laws.proofs.ObjectWords.{IsWordOf, IsWordy, word_whole, one_word, word_mapped, frame_stays, same_word, word_stays, zeroed_other}
 use Rattle.map_laws.proofs.ZeroedPlaces.{IsZeroedAt}
 
 -- what the words of objects rest on in a world

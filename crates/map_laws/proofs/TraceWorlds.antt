@@ -22,9 +22,8 @@ use Rattle.vm_model.specs.declared.areas.Span.{Span}
 use Rattle.vm_model.specs.declared.calls.Call.{Call}
 use Rattle.map_laws.proofs.AreaFacts.{IsHolding, own_uses}
 use Rattle.map_laws.proofs.AreaMoves.{IsOutside}
-use Rattle.map_laws.proofs.AreaStarts.{area_first, area_joins}
+use Rattle.map_laws.proofs.AreaStarts.{area_first, area_joins, AreMadeWell, areas_after, asks_settle, made_section, no_settle}
 use Rattle.map_laws.proofs.AreaWorlds.{IsAreaWorld, IsLegalStep, IsLegallyLasting, area_kept, legally_lasts, own_once}
-use Rattle.map_laws.proofs.AreasMade.{AreMadeWell, areas_after, asks_settle, made_section, no_settle}
 use Rattle.map_laws.proofs.BlockDispatch.{IsChunkSided, IsRemovedPlain, block_by}
 use Rattle.map_laws.proofs.BlockFacts.{IsBlockAt, block_out, block_starts}
 use Rattle.map_laws.proofs.BlockPlaces.{HasParts, IsUnblocky, unblocky_at, unblocky_out}

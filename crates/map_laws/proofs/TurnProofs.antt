@@ -16,8 +16,7 @@ use Rattle.map_laws.specs.Turns.{AreTurnsKept, TheTurnsAreKept}
 use Rattle.map_laws.proofs.Lists.{append_cases, append_first}
 use Rattle.map_laws.proofs.Frames.{IsFramed, IsStep, IsLasting, lasts, not_over, has_call}
 use Rattle.map_laws.proofs.Places.{IsProper, AllStand, HaveBeginnings, AtOver, begins_with, answers_call, proper_begins, proper_lasts, stand_first}
-use Rattle.map_laws.proofs.TurnMoves.{Change, turn_moves}
-use Rattle.map_laws.proofs.TurnPlaces.{Has, has_next, purge_change, alloc_change}
+use Rattle.map_laws.proofs.TurnPlaces.{Change, turn_moves, Has, has_next, purge_change, alloc_change}
 
 no_purge_begins : (c : Setup) → HaveBeginnings (Has has_purge false) c
 no_purge_begins c _ AtOver = refl

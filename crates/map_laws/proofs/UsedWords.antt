@@ -11,8 +11,7 @@ use Rattle.vm_model.specs.Calls.{made_in, words_for}
 use Rattle.vm_model.specs.History.{World, Local}
 use Rattle.vm_model.specs.Rules.{IsTrace, IsRuled, AreRuled, IsAllocCall}
 use Rattle.map_laws.proofs.ObjectsMade.{AreObjectsMade, made_some}
-use Rattle.map_laws.proofs.SizedPlaces.{IsMadeSized, call_bytes}
-use Rattle.map_laws.proofs.SizedCalls.{IsUse, IsLocalSized, AreSized, calls_at}
+use Rattle.map_laws.proofs.SizedCalls.{IsMadeSized, call_bytes, IsUse, IsLocalSized, AreSized, calls_at}
 
 -- a call of a list is ruled after those before it
 ruled_at : (c : Setup) (opening before calls : List Call) (i : ℕ) (call : Call) → AreRuled c opening before calls → slice_get calls i ≡ Some call → IsRuled c opening (before ++ take i calls) call

@@ -4,7 +4,6 @@ use Rattle.std.proofs.lemmas.Bool.Decides.{nat_tests}
 use Rattle.vm_model.specs.declared.areas.Span.{Span}
 use Rattle.vm_model.specs.declared.areas.Area.{Area}
 use Rattle.vm_model.specs.declared.areas.AreaKind.{AreaKind}
-use Rattle.vm_model.specs.declared.areas.AreaKind.TheVariants as kind
 use Rattle.vm_model.specs.Space.{hull, span, holds, covers, one_if, times, paint, pages_of, count_from}
 use Rattle.vm_model.specs.Setup.{Setup}
 use Rattle.vm_model.specs.PlainMap.{PlainMap, Held, Waits, Flushing}
@@ -23,10 +22,10 @@ use Rattle.map_laws.proofs.Lists.{there}
 use Rattle.map_laws.proofs.Places.{OnNext}
 use Rattle.map_laws.proofs.Spans.{hull_is, covers_append, times-append, times-one, covers_times, in_spans, InSpans, Inside, Outside, covers_one, holds_to, holds_from}
 use Rattle.map_laws.proofs.Touched.{IsSame, ungiven, outside_row, untouched, painted, painted_still}
-use Rattle.map_laws.proofs.AreaFacts.{IsHolding, IsMapFine, own_uses, holds_nothing, IsUnbearing}
-use Rattle.map_laws.proofs.AreaFacts.{guard_part, mapped_within, mapped_covers, guard_covers, guard_apart, area_stays}
+use Rattle.map_laws.proofs.AreaFacts.{IsHolding, IsMapFine, own_uses, holds_nothing, IsUnbearing, guard_part, mapped_within, mapped_covers, guard_covers, guard_apart, area_stays}
 use Rattle.map_laws.proofs.PlaceMoves.{IsMoved, given_all, held_in_row, length-give_frames, unbearing_uses, unbearing_own}
-use Rattle.map_laws.proofs.MapMoves.{page_by, waits_fine, flushing_fine, area_times, IsOuter, outer_map, held_fine, painted_free}
+use Rattle.map_laws.proofs.Quiet.{page_by, waits_fine, flushing_fine, area_times, IsOuter, outer_map, held_fine, painted_free}
+use Rattle.vm_model.specs.declared.areas.AreaKind.TheVariants as kind
 
 module _ (c : Setup) (m : PlainMap) (k : ℕ) (fine : IsMapFine m) where
   -- An area's pages get frames.

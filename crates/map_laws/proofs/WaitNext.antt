@@ -19,10 +19,9 @@ use Rattle.map_laws.proofs.PlaceRows.{PlaceRow, Stays, place_row}
 use Rattle.map_laws.proofs.Places.{OnNext}
 use Rattle.map_laws.proofs.Spans.{hull_is, covers_append}
 use Rattle.map_laws.proofs.Touched.{painted}
-use Rattle.map_laws.proofs.OrTests.{or_left}
+use Rattle.map_laws.proofs.Chosen.{or_left}
 use Rattle.map_laws.proofs.PlaceMoves.{place_free}
-use Rattle.map_laws.proofs.Stories.{map_at-more, map_at-end, event_last, event_low}
-use Rattle.map_laws.proofs.WaitStories.{IsTakenSince, IsBehind, IsCarvedBy, IsStoried, taken_more, carved_more}
+use Rattle.map_laws.proofs.WaitStories.{map_at-more, map_at-end, event_last, event_low, IsTakenSince, IsBehind, IsCarvedBy, IsStoried, taken_more, carved_more}
 
 -- nothing was carved for a place that holds nothing
 -- sections at which a span is carved, or gets no frames

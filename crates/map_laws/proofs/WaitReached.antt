@@ -21,8 +21,7 @@ use Rattle.map_laws.proofs.Frames.{IsFramed, not_over, has_call}
 use Rattle.map_laws.proofs.Places.{OnNext, HaveBeginnings, Opens, AtOver, begins_with, moved_has}
 use Rattle.map_laws.proofs.AreaWorlds.{IsAreaWorld, IsLegalStep, IsLegallyLasting, legally_lasts}
 use Rattle.map_laws.proofs.TraceWorlds.{IsTraceWorld, trace_lasts, trace_first}
-use Rattle.map_laws.proofs.Stories.{map_at-end}
-use Rattle.map_laws.proofs.WaitStories.{IsStoried}
+use Rattle.map_laws.proofs.WaitStories.{map_at-end, IsStoried}
 use Rattle.map_laws.proofs.WaitWorlds.{Follows, Waiting, Taken, IsWaiting, IsWaitWorld, is_idle, idle_storied, idle_flushed, wait_section}
 
 idle_opens : (c : Setup) (p : Place) → Opens c p → is_idle p ≡ true

@@ -21,13 +21,11 @@ use Rattle.map_laws.proofs.Spans.{covers_times, covers_one}
 use Rattle.map_laws.proofs.OutMoves.{sum_two}
 use Rattle.map_laws.proofs.Places.{OnNext}
 use Rattle.map_laws.proofs.Deeds.{drops_at, returns_at, collects_at}
-use Rattle.map_laws.proofs.Stories.{map_after-append, map_at-last, map_at-before, map_at-more, more_events, event_first, event_last, event_low, WhichEvent, Before, Last, which_event}
+use Rattle.map_laws.proofs.WaitStories.{map_after-append, map_at-last, map_at-before, map_at-more, more_events, event_first, event_last, event_low, WhichEvent, Before, Last, which_event, IsFreed, Still, Dropped, Returned, freed, waiting_from, waiting_to, waits_now, IsBehind, behind_flushed, IsCarvedBy, IsStoried, behind_more, returned_more, taken_before, freed_before, dropped_more, storied_more}
 use Rattle.map_laws.proofs.AreaFacts.{bare_at}
 use Rattle.map_laws.proofs.AreaWorlds.{IsAreaWorld}
-use Rattle.map_laws.proofs.MapMoves.{free_one}
+use Rattle.map_laws.proofs.Quiet.{free_one}
 use Rattle.map_laws.proofs.Chosen.{sum_has}
-use Rattle.map_laws.proofs.FreedPages.{IsFreed, Still, Dropped, Returned, freed, waiting_from, waiting_to, waits_now}
-use Rattle.map_laws.proofs.WaitStories.{IsBehind, behind_flushed, IsCarvedBy, IsStoried, behind_more, returned_more, taken_before, freed_before, dropped_more, storied_more}
 use Rattle.map_laws.proofs.WaitNext.{storied_next, IsLedTo, collected_next, behind_next, flushed_next}
 
 -- a page that waits, or that a caller is about to flush or to return since event i

@@ -8,7 +8,7 @@ use Rattle.vm_model.specs.Places.{Place, SettlingGroups, Choosing, AddingChunk, 
 use Rattle.vm_model.specs.Next.{Next, Go, Answer, next, after_place, after_atomic, after_spare, after_page}
 use Rattle.vm_model.specs.LegalHistory.{Meets}
 use Rattle.map_laws.proofs.Places.{OnNext, either_next}
-use Rattle.map_laws.proofs.ChunkNext.{IsUnchunked, leads_unchunked}
+use Rattle.map_laws.proofs.ChunkDispatch.{IsUnchunked, leads_unchunked}
 
 -- the object that a caller is about to settle
 abbrev pub IsZeroedAt : Place → ObjectAt → Type 0

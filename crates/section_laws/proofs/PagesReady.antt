@@ -16,7 +16,7 @@ use Rattle.map_laws.proofs.MadeNext.{IsNow}
 use Rattle.map_laws.proofs.MapLegal.{IsReady}
 use Rattle.map_laws.proofs.ObjectFacts.{IsObject, IsObjectAt}
 use Rattle.map_laws.proofs.ObjectsReady.{named_live}
-use Rattle.map_laws.proofs.OrTests.{one_if_le}
+use Rattle.map_laws.proofs.Chosen.{one_if_le}
 use Rattle.map_laws.proofs.UsedWords.{add_within, sum_within}
 use Rattle.section_laws.specs.Lawful.{IsRunning}
 use Rattle.section_laws.specs.Needs.{CanGetFrames, CanLoseFrames, IsReachable, ArePagesReady}

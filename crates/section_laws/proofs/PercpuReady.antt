@@ -15,7 +15,7 @@ use Rattle.map_laws.proofs.EndProofs.{histories_short}
 use Rattle.map_laws.proofs.MapLegal.{IsReady}
 use Rattle.map_laws.proofs.ObjectFacts.{IsObjectAt}
 use Rattle.map_laws.proofs.Places.{IsObjectSize, IsProper}
-use Rattle.map_laws.proofs.Sizes.{AreSized, sized_section}
+use Rattle.map_laws.proofs.ChunkFalls.{AreSized, sized_section}
 use Rattle.map_laws.proofs.TraceWorlds.{proper_here}
 use Rattle.call_laws.specs.Room.{may_place}
 use Rattle.call_laws.proofs.Rooms.{room_counts}

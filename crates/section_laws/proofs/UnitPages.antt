@@ -9,7 +9,7 @@ use Rattle.vm_model.specs.Carried.{count_of}
 use Rattle.vm_model.specs.Rules.{AreUnits}
 use Rattle.map_laws.proofs.BlockFacts.{count_cons, count_append, count_among, same_test, to_same}
 use Rattle.map_laws.proofs.ObjectLaws.{sum_once}
-use Rattle.map_laws.proofs.OrTests.{or_either}
+use Rattle.map_laws.proofs.Chosen.{or_either}
 use Rattle.map_laws.proofs.Spans.{holds_from}
 
 -- moved by a number they are counted no more often

@@ -16,7 +16,6 @@ use Rattle.vm_model.specs.Chunks.{ObjectAt}
 use Rattle.vm_model.specs.Effects.{effect_as}
 use Rattle.vm_model.specs.Events.{Section, Event, Populate, Zero, AddWord}
 use Rattle.vm_model.specs.Places.{MadeNothing, Place, Adding, ask}
-use Rattle.vm_model.specs.declared.calls.Reply.TheVariants as reply
 use Rattle.vm_model.specs.Calls.{Answered}
 use Rattle.vm_model.specs.Next.{Next, Go, Answer, next}
 use Rattle.vm_model.specs.History.{World, Local, moved_to, made_by, opening_world, opening_answers, callers_from}
@@ -30,11 +29,12 @@ use Rattle.map_laws.proofs.OwnFrames.{replicate-at}
 use Rattle.map_laws.proofs.Lists.{set_cases}
 use Rattle.map_laws.proofs.Places.{answers_call}
 use Rattle.map_laws.proofs.SizedCalls.{IsUse, AreSized, sized_lasts, sized_first, calls_at}
-use Rattle.map_laws.proofs.WordSums.{is_add}
+use Rattle.map_laws.proofs.Words.{is_add}
 use Rattle.call_laws.proofs.CallWorlds.{histories_have_shapes}
 use Rattle.section_laws.specs.Lawful.{AreSmall, IsRunning}
 use Rattle.section_laws.specs.Words.{IsWithin, most_amount, most_word, CellsAreSmall, AmountsAreSmall}
 use Rattle.section_laws.proofs.OneState.{in_one_state}
+use Rattle.vm_model.specs.declared.calls.Reply.TheVariants as reply
 
 -- Numbers within a bound.
 
