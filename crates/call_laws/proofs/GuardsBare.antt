@@ -1,5 +1,5 @@
--- Guards stay bare, in every world that a legal history leads to.
-use Rattle.std.proofs.Common.{◌≡◌, ℕ, zero, suc, ◌-◌, ◌≤◌, inl, inr, Bool, true, false, nat_lt, List, [], ◌∷◌, ◌++◌, length, slice_get, Option, Some, None, refl, ap, sym, ◌∙◌, subst, arith}
+-- The guards of live areas, and of those that callers have in hand, are unmapped and not stale.
+use Rattle.std.proofs.Common.{◌≡◌, ℕ, zero, suc, ◌-◌, ◌≤◌, inl, inr, Bool, true, false, List, [], ◌∷◌, length, slice_get, Some, refl, ap, sym, ◌∙◌, subst, arith}
 use Rattle.std.proofs.lemmas.Option.{same_Some}
 use Rattle.vm_model.specs.declared.calls.Call.{Call}
 use Rattle.vm_model.specs.declared.areas.Span.{Span}
@@ -7,36 +7,35 @@ use Rattle.vm_model.specs.declared.areas.Area.{Area}
 use Rattle.vm_model.specs.declared.areas.AreaKind.{AreaKind}
 use Rattle.vm_model.specs.declared.areas.AreaKind.TheVariants as kind
 use Rattle.vm_model.specs.Space.{end_of, holds, covers, is_among}
-use Rattle.vm_model.specs.Setup.{Setup, cpus, groups_at, pages_in_units}
+use Rattle.vm_model.specs.Setup.{Setup, groups_at, pages_in_units}
 use Rattle.vm_model.specs.PlainMap.{PlainMap}
 use Rattle.vm_model.specs.Areas.{areas_of, group_kinds, group_areas, is_area, named_areas}
-use Rattle.vm_model.specs.Blocks.{PartAt}
-use Rattle.vm_model.specs.Chunks.{ObjectAt}
 use Rattle.vm_model.specs.Events.{Section, Settle, Unmap, Depopulate, Flush}
 use Rattle.vm_model.specs.Legal.{IsLegalAs, IsBare, IsUnmapped, IsMapped}
 use Rattle.vm_model.specs.Effects.{effect_as}
-use Rattle.vm_model.specs.Told.{carved, carved_base, had_frames, removed, pages_waiting, spans_taken, blocks_gone, part_told, was_spent, placed, was_live, spare_told, page_told}
+use Rattle.vm_model.specs.Told.{removed}
 use Rattle.vm_model.specs.Given.{given, removal}
-use Rattle.vm_model.specs.Places.{Aim, ForArea, ForBlock, ForChunk, Then, SearchAgain, ReplyWith, SpareAgain, Place, Finding, FindingAgain, MappingArea, SettlingArea, Removing, UnmappingArea, Waiting, PurgeFragmenting, PurgeCollecting, PurgeFlushing, PurgeGiving, CuttingPart, SettlingBlock, MappingPart, BeginningUnmap, Retiring, LookingAtDirty, Choosing, SettlingGroups, AddingChunk, Populating, ChoosingAtomic, FreeingObject, Sparing, NextFill, Filling, ask}
-use Rattle.vm_model.specs.Next.{Next, Go, Answer, next, found, without_space, after_remove, go_on, after_fragments, after_collecting, after_flush, after_cut, after_begin, after_place, after_atomic, after_spare, after_page}
+use Rattle.vm_model.specs.Places.{Place, MappingArea, Dropping, SettlingArea, UnmappingArea, SettlingBlock, SettlingGroups, ask}
+use Rattle.vm_model.specs.Next.{Next, Go, Answer, next}
 use Rattle.vm_model.specs.Calls.{Answered}
 use Rattle.vm_model.specs.History.{World, Local, started, moved_to, made_by, opening_world, opening_answers, callers_from}
-use Rattle.vm_model.specs.LegalHistory.{Meets, IsReached}
-use Rattle.vm_model.specs.Rules.{IsTrace}
+use Rattle.vm_model.specs.LegalHistory.{Meets}
+use Rattle.vm_model.specs.Rules.{IsSetup, IsTrace}
 use Rattle.map_laws.proofs.AreaFacts.{IsHolding, guard_part}
 use Rattle.map_laws.proofs.AreasMade.{asks_settle, no_settle, areas_after}
-use Rattle.map_laws.proofs.AreaWorlds.{IsLegalStep, legally_lasts}
+use Rattle.map_laws.proofs.AreaWorlds.{IsLegalStep, IsLegallyLasting}
 use Rattle.map_laws.proofs.Chosen.{IsIn, filter_has}
 use Rattle.map_laws.proofs.Frames.{IsFramed, has_call, not_over}
 use Rattle.map_laws.proofs.Lists.{set_cases, append_cases}
 use Rattle.map_laws.proofs.OutMoves.{with_in}
-use Rattle.map_laws.proofs.Places.{IsPlainKind, IsProper, OnNext, HaveBeginnings, begins_with, either_next, answers_call}
+use Rattle.map_laws.proofs.Places.{IsPlainKind, IsProper, OnNext, HaveBeginnings, AtOver, begins_with, answers_call}
+use Rattle.map_laws.proofs.PlaceRows.{PlaceRow, Mapped, Removed, place_row}
 use Rattle.map_laws.proofs.Spans.{covers_one, holds_from}
 use Rattle.map_laws.proofs.Touched.{unpainted, painted_still}
 use Rattle.map_laws.proofs.TraceWorlds.{IsTraceWorld, trace_first, trace_lasts, holding_here, proper_here}
-use Rattle.call_laws.specs.Guards.{OnGuard, OnGuardInHand, GuardsStayBare}
+use Rattle.call_laws.specs.Guards.{OnGuard, OnGuardInHand}
 
-abbrev IsClean : PlainMap → ℕ → Type 0
+abbrev pub IsClean : PlainMap → ℕ → Type 0
 IsClean m page = slice_get m.stale page ≡ Some false
 
 -- an unmapped page that isn't stale stays so, as only mapped pages become stale
@@ -47,20 +46,20 @@ by_held m page test mapped none = by_test (test page) refl
     by_test false e = e
     by_test true e = absurd (let has = mapped e in let frame = has.1 in cc)
 
-clean_kept : (c : Setup) (m : PlainMap) (k : ℕ) (s : Section) (page : ℕ) → IsLegalAs c m k s → IsUnmapped m page → IsClean m page → IsClean (effect_as c m k s) page
+pub clean_kept : (c : Setup) (m : PlainMap) (k : ℕ) (s : Section) (page : ℕ) → IsLegalAs c m k s → IsUnmapped m page → IsClean m page → IsClean (effect_as c m k s) page
 clean_kept c m k (Unmap s) page legal none clean = unpainted (holds s) true m.stale page (by_held m page (holds s) (λ e. legal page (covers_one s page ∙ e)) none) ∙ clean
 clean_kept c m k (Depopulate base pages) page legal none clean = unpainted (is_among (pages_in_units c base pages)) true m.stale page (by_held m page (is_among (pages_in_units c base pages)) (λ e. legal page e) none) ∙ clean
 clean_kept c m k (Flush s) page legal none clean = painted_still (holds s) false m.stale page clean
 clean_kept c m k _ page legal none clean = clean
 
 -- of a guard
-on_guard : (P Q : ℕ → Type 0) (k : AreaKind) (s : Span) → ((page : ℕ) → P page → Q page) → OnGuard k s P → OnGuard k s Q
+pub on_guard : (P Q : ℕ → Type 0) (k : AreaKind) (s : Span) → ((page : ℕ) → P page → Q page) → OnGuard k s P → OnGuard k s Q
 on_guard P Q kind.Vmalloc s f is = f (end_of s - 1) is
 on_guard P Q kind.MapRam s f is = tt
 on_guard P Q (kind.Block cpu) s f is = tt
 on_guard P Q (kind.Chunk chunk group) s f is = tt
 
-both_guards : (P Q R : ℕ → Type 0) (k : AreaKind) (s : Span) → ((page : ℕ) → P page → Q page → R page) → OnGuard k s P → OnGuard k s Q → OnGuard k s R
+pub both_guards : (P Q R : ℕ → Type 0) (k : AreaKind) (s : Span) → ((page : ℕ) → P page → Q page → R page) → OnGuard k s P → OnGuard k s Q → OnGuard k s R
 both_guards P Q R kind.Vmalloc s f is also = f (end_of s - 1) is also
 both_guards P Q R kind.MapRam s f is also = tt
 both_guards P Q R (kind.Block cpu) s f is also = tt
@@ -80,118 +79,30 @@ span_guard P (kind.Block cpu) s some on = tt
 span_guard P (kind.Chunk chunk group) s some on = tt
 
 -- of what a caller is settling or unmapping
-abbrev HandClean : PlainMap → Place → Type 0
+abbrev pub HandClean : PlainMap → Place → Type 0
 HandClean m (SettlingArea s k) = OnGuard k s (IsClean m)
 HandClean m (UnmappingArea area) = OnGuard area.kind area.span (IsClean m) × (1 ≤ area.span.pages)
 HandClean m _ = Unit {0}
 
 clean_begins : (c : Setup) (m : PlainMap) → HaveBeginnings (HandClean m) c
-clean_begins c m = record {
-  over = tt;
-  refused = λ r. tt;
-  area = λ pages align k plain some. tt;
-  part = λ cpu pages e f. tt;
-  dirty = tt;
-  object = λ bytes align few. tt;
-  atomic = λ bytes align few. tt;
-  remove = λ start serial. tt;
-  unmap = λ cpu page serial. tt;
-  free = λ at serial. tt;
-  add = λ at serial cpu index amount. tt;
-  sum = λ at serial index. tt;
-  balance = tt;
-}
+clean_begins c m _ AtOver = tt
+clean_begins c m _ _ = tt
 
 -- Where a section leads.
 
-module _ (n : PlainMap) where
-  abbrev Leads : Next → Type 0
-  Leads = OnNext (HandClean n)
+clean_row : (n : PlainMap) (c : Setup) (m : PlainMap) (s : Section) (p : Place) (to : Next) → PlaceRow c s p to → given c m (ask c p) ≡ Some s
+    → ((place : Span) (k : AreaKind) → p ≡ MappingArea place k → OnGuard k place (IsClean n)) → ((area : Area) → IsIn area m.areas → OnGuard area.kind area.span (IsClean n) × (1 ≤ area.span.pages)) → OnNext (HandClean n) to
+clean_row n c m s _ _ (Mapped place k had) e mapping live = mapping place k refl
+clean_row n c m s _ _ (Removed start serial area told) e mapping live = live area (by_list (named_areas start serial m.areas) refl (ap removed (same_Some _ _ e) ∙ told))
+  where
+    by_list : (list : List Area) → named_areas start serial m.areas ≡ list → removed (removal start serial list) ≡ Some area → IsIn area m.areas
+    by_list [] f h = cc
+    by_list (a ∷ list) f h = (filter_has (is_area start serial) m.areas 0 area (ap (λ l. slice_get l 0) f ∙ h)).there
+clean_row n c m s _ _ _ e mapping live = cc
 
-  found_clean : (aim : Aim) (s : Option Span) (base : Option ℕ) (otherwise : Next) → Leads otherwise → Leads (found aim s base otherwise)
-  found_clean (ForArea k) (Some s) base otherwise q = tt
-  found_clean (ForBlock cpu pages) (Some s) base otherwise q = tt
-  found_clean (ForChunk chunk bytes align) (Some s) base otherwise q = tt
-  found_clean (ForArea k) None (Some base) otherwise q = tt
-  found_clean (ForBlock cpu pages) None (Some base) otherwise q = tt
-  found_clean (ForChunk chunk bytes align) None (Some base) otherwise q = tt
-  found_clean aim None None otherwise q = q
-
-  no_space_clean : (aim : Aim) → Leads (without_space aim)
-  no_space_clean (ForArea k) = tt
-  no_space_clean (ForBlock cpu asked) = tt
-  no_space_clean (ForChunk chunk bytes to) = tt
-
-  went_on_clean : (after : Then) → Leads (go_on after)
-  went_on_clean (SearchAgain search aim) = tt
-  went_on_clean (ReplyWith reply) = tt
-  went_on_clean SpareAgain = tt
-
-  fragments_clean : (gone : List ℕ) (extra : Option Span) (after : Then) → HandClean n (after_fragments gone extra after)
-  fragments_clean [] extra after = tt
-  fragments_clean (start ∷ gone) extra after = tt
-
-  collected_clean : (waited : List Span) (o : Option Span) (after : Then) → Leads (after_collecting waited o after)
-  collected_clean waited None after = tt
-  collected_clean waited (Some s) after = tt
-
-  flushed_clean : (waited : List Span) (after : Then) → Leads (after_flush waited after)
-  flushed_clean [] after = tt
-  flushed_clean (s ∷ waited) after = tt
-
-  cut_clean : (c : Setup) (cpu pages : ℕ) (o : Option PartAt) → Leads (after_cut c cpu pages o)
-  cut_clean c cpu pages None = tt
-  cut_clean c cpu pages (Some at) = tt
-
-  begun_clean : (o : Option PartAt) → Leads (after_begin o)
-  begun_clean None = tt
-  begun_clean (Some at) = tt
-
-  place_clean : (bytes align number : ℕ) (o : Option (ObjectAt × List ℕ)) → Leads (after_place bytes align number o)
-  place_clean bytes align number None = tt
-  place_clean bytes align number (Some p) = tt
-
-  atomic_clean : (o : Option (ObjectAt × List ℕ)) → Leads (after_atomic o)
-  atomic_clean None = tt
-  atomic_clean (Some p) = tt
-
-  spared_clean : (o : Option (ℕ × List ℕ)) → Leads (after_spare o)
-  spared_clean None = tt
-  spared_clean (Some p) = tt
-
-  page_clean : (filled : ℕ) (o : Option (ℕ × ℕ × ℕ)) → Leads (after_page filled o)
-  page_clean filled None = tt
-  page_clean filled (Some p) = tt
-
-  clean_next : (c : Setup) (m : PlainMap) (p : Place) (s : Section) → given c m (ask c p) ≡ Some s
-      → ((place : Span) (k : AreaKind) → p ≡ MappingArea place k → OnGuard k place (IsClean n)) → ((area : Area) → IsIn area m.areas → OnGuard area.kind area.span (IsClean n) × (1 ≤ area.span.pages)) → Leads (next c p s)
-  clean_next c m (Finding search aim) s e mapping live = found_clean aim (carved s) (carved_base s) _ tt
-  clean_next c m (FindingAgain search aim) s e mapping live = found_clean aim (carved s) (carved_base s) _ (no_space_clean aim)
-  clean_next c m (MappingArea place k) s e mapping live = either_next (HandClean n) (had_frames s) _ _ (mapping place k refl) tt
-  clean_next c m (Removing start serial) s e mapping live = subst (λ x. Leads (after_remove (removed x))) (same_Some _ _ e) (by_list (named_areas start serial m.areas) refl)
-    where
-      by_list : (list : List Area) → named_areas start serial m.areas ≡ list → Leads (after_remove (removed (removal start serial list)))
-      by_list [] f = tt
-      by_list (area ∷ list) f = live area (filter_has (is_area start serial) m.areas 0 area (ap (λ l. slice_get l 0) f)).there
-  clean_next c m (Waiting spans after) s e mapping live = either_next (HandClean n) (nat_lt c.lazy (pages_waiting s)) _ _ tt (went_on_clean after)
-  clean_next c m (PurgeFragmenting cpu gone extra after) s e mapping live = either_next (HandClean n) (nat_lt (suc cpu) (cpus c)) _ _ tt (fragments_clean (gone ++ blocks_gone s) extra after)
-  clean_next c m (PurgeCollecting extra after) s e mapping live = collected_clean (spans_taken s) _ after
-  clean_next c m (PurgeFlushing hull waited after) s e mapping live = flushed_clean waited after
-  clean_next c m (PurgeGiving after) s e mapping live = went_on_clean after
-  clean_next c m (CuttingPart cpu pages) s e mapping live = cut_clean c cpu pages (part_told s)
-  clean_next c m (MappingPart at) s e mapping live = either_next (HandClean n) (had_frames s) _ _ tt tt
-  clean_next c m (BeginningUnmap cpu page serial) s e mapping live = begun_clean (part_told s)
-  clean_next c m (Retiring at reply) s e mapping live = either_next (HandClean n) (was_spent s) _ _ tt tt
-  clean_next c m (LookingAtDirty cpu ranges) s e mapping live = either_next (HandClean n) (nat_lt (suc cpu) (cpus c)) _ _ tt tt
-  clean_next c m (Choosing bytes align) s e mapping live = place_clean bytes align _ (placed s)
-  clean_next c m (AddingChunk base chunk bytes align) s e mapping live = place_clean bytes align 0 (placed s)
-  clean_next c m (Populating at missing) s e mapping live = either_next (HandClean n) (had_frames s) _ _ tt tt
-  clean_next c m (ChoosingAtomic bytes align) s e mapping live = atomic_clean (placed s)
-  clean_next c m (FreeingObject at serial) s e mapping live = either_next (HandClean n) (was_live s) _ _ tt tt
-  clean_next c m Sparing s e mapping live = spared_clean (spare_told s)
-  clean_next c m (NextFill filled) s e mapping live = page_clean filled (page_told s)
-  clean_next c m (Filling chunk base page filled) s e mapping live = either_next (HandClean n) (had_frames s) _ _ tt tt
-  clean_next c m _ s e mapping live = tt
+clean_next : (n : PlainMap) (c : Setup) (m : PlainMap) (p : Place) (s : Section) → given c m (ask c p) ≡ Some s
+    → ((place : Span) (k : AreaKind) → p ≡ MappingArea place k → OnGuard k place (IsClean n)) → ((area : Area) → IsIn area m.areas → OnGuard area.kind area.span (IsClean n) × (1 ≤ area.span.pages)) → OnNext (HandClean n) (next c p s)
+clean_next n c m p s e mapping live = clean_row n c m s p (next c p s) (place_row c s p) e mapping live
 
 -- In every world.
 
@@ -201,7 +112,7 @@ pub record IsGuardedWorld (c : Setup) (w : World) : Type 0 where
   pub hands : (k : ℕ) (l : Local) → slice_get w.locals k ≡ Some l → HandClean w.map l.place
 
 -- the guard of an area is unmapped
-area_unmapped : (c : Setup) (w : World) → IsTraceWorld c w → (a : Area) → IsIn a w.map.areas → OnGuard a.kind a.span (IsUnmapped w.map)
+pub area_unmapped : (c : Setup) (w : World) → IsTraceWorld c w → (a : Area) → IsIn a w.map.areas → OnGuard a.kind a.span (IsUnmapped w.map)
 area_unmapped c w is a there = by_kind a.kind refl
   where
     by_kind : (k : AreaKind) → a.kind ≡ k → OnGuard k a.span (IsUnmapped w.map)
@@ -211,8 +122,9 @@ area_unmapped c w is a there = by_kind a.kind refl
     by_kind (kind.Block cpu) e = tt
     by_kind (kind.Chunk chunk group) e = tt
 
-hand_unmapped : (c : Setup) (m : PlainMap) (k : ℕ) (p : Place) → IsProper c p → IsHolding c m k p → HandClean m p → OnGuardInHand p (IsUnmapped m)
+pub hand_unmapped : (c : Setup) (m : PlainMap) (k : ℕ) (p : Place) → IsProper c p → IsHolding c m k p → HandClean m p → OnGuardInHand p (IsUnmapped m)
 hand_unmapped c m k (MappingArea s kd) proper is clean = span_guard (IsUnmapped m) kd s proper.1 (λ page h. (is.bare page h).unmapped)
+hand_unmapped c m k (Dropping s) proper is clean = λ page h. (is.bare page h).unmapped
 hand_unmapped c m k (SettlingArea s kd) proper is clean = guard_unmapped (IsUnmapped m) kd s proper.1 (λ page h. is.unmapped page h)
 hand_unmapped c m k (UnmappingArea area) proper is clean = guard_unmapped (IsUnmapped m) area.kind area.span clean.1 (λ page h. is.unmapped page h)
 hand_unmapped c m k _ proper is clean = tt
@@ -318,8 +230,8 @@ module _ (c : Setup) (opening : List Call) (calls : List (List Call)) (trace : I
   first_clean zero l h = subst (λ (x : Local). HandClean (opening_world c opening calls).map x.place) (same_Some _ _ h) (begins_with (HandClean (opening_world c opening calls).map) c (clean_begins c (opening_world c opening calls).map) [] [] (slice_get opening 0))
   first_clean (suc k) l h = cc
 
-  guarded_reached : (w : World) → IsReached c opening calls w → IsFramed c w × IsGuardedWorld c w
-  guarded_reached w reached = legally_lasts c calls (IsGuardedWorld c) (record {
+  pub guarded_lasts : IsLegallyLasting c calls (IsGuardedWorld c)
+  guarded_lasts = record {
     steps = λ v k l s framed is step. guarded_step v framed is k l s step;
     joins = λ v framed one is over. record {
       trace = (trace_lasts c opening calls trace).joins v framed one is.trace over;
@@ -329,25 +241,29 @@ module _ (c : Setup) (opening : List Call) (calls : List (List Call)) (trace : I
         | inr e ↦ started_clean v.map (opening_answers v.locals) 1 calls e.0 l e.2
       ];
     };
-  }) opening (record {
+  }
+
+  pub guarded_first : IsGuardedWorld c (opening_world c opening calls)
+  guarded_first = record {
     trace = trace_first c opening calls trace;
     areas = λ a there. (let at = there.at in cc);
     hands = first_clean;
-  }) w reached
+  }
 
 -- unmapped, and not stale
-bare : (m : PlainMap) (page : ℕ) → IsUnmapped m page → IsClean m page → IsBare m page
+pub bare : (m : PlainMap) (page : ℕ) → IsUnmapped m page → IsClean m page → IsBare m page
 bare m page none clean = record { unmapped = none; not_stale = clean }
 
 bare_in_hand : (c : Setup) (m : PlainMap) (k : ℕ) (p : Place) → IsProper c p → IsHolding c m k p → HandClean m p → OnGuardInHand p (IsBare m)
 bare_in_hand c m k (MappingArea s kd) proper is clean = span_guard (IsBare m) kd s proper.1 (λ page h. is.bare page h)
+bare_in_hand c m k (Dropping s) proper is clean = is.bare
 bare_in_hand c m k (SettlingArea s kd) proper is clean = both_guards (IsUnmapped m) (IsClean m) (IsBare m) kd s (bare m) (hand_unmapped c m k (SettlingArea s kd) proper is clean) clean
 bare_in_hand c m k (UnmappingArea area) proper is clean = both_guards (IsUnmapped m) (IsClean m) (IsBare m) area.kind area.span (bare m) (hand_unmapped c m k (UnmappingArea area) proper is clean) clean.0
 bare_in_hand c m k _ proper is clean = tt
 
-pub guards_stay_bare : GuardsStayBare
-guards_stay_bare c opening calls w trace reached =
-    let both = guarded_reached c opening calls trace w reached in let framed = both.0 in let is = both.1 in record {
-      areas = λ i a at. both_guards (IsUnmapped w.map) (IsClean w.map) (IsBare w.map) a.kind a.span (bare w.map) (area_unmapped c w is.trace a (record { place = i; at = at })) (is.areas a (record { place = i; at = at }));
-      hands = λ k l at. bare_in_hand c w.map l.caller l.place (proper_here c trace.setup w framed is.trace k l at) (holding_here c trace.setup w framed is.trace k l at) (is.hands k l at);
-    }
+-- in each such world
+pub areas_bare : (c : Setup) (w : World) → IsGuardedWorld c w → (a : Area) → IsIn a w.map.areas → OnGuard a.kind a.span (IsBare w.map)
+areas_bare c w is a there = both_guards (IsUnmapped w.map) (IsClean w.map) (IsBare w.map) a.kind a.span (bare w.map) (area_unmapped c w is.trace a there) (is.areas a there)
+
+pub hands_bare : (c : Setup) (setup : IsSetup c) (w : World) → IsFramed c w → IsGuardedWorld c w → (k : ℕ) (l : Local) → slice_get w.locals k ≡ Some l → OnGuardInHand l.place (IsBare w.map)
+hands_bare c setup w framed is k l at = bare_in_hand c w.map l.caller l.place (proper_here c setup w framed is.trace k l at) (holding_here c setup w framed is.trace k l at) (is.hands k l at)

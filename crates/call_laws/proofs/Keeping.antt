@@ -23,6 +23,7 @@ use Rattle.call_laws.proofs.Targeting.{targets_are_got}
 use Rattle.call_laws.proofs.Numbering.{reports_tell}
 use Rattle.call_laws.proofs.Rooms.{room_counts}
 use Rattle.call_laws.proofs.OneBase.{chunks_have_one_base}
+use Rattle.call_laws.proofs.GuardsUntilFree.{guards_stay_bare}
 
 pub reached_keep : ReachedWorldsKeepTheLaws
 reached_keep c opening calls w trace reached = record {
@@ -37,6 +38,7 @@ reached_keep c opening calls w trace reached = record {
   room = room_counts c opening calls w trace reached;
   apart = areas_apart c opening calls w trace reached;
   guard = guard_unmapped c opening calls w trace reached;
+  bare_guards = guards_stay_bare c opening calls w trace reached;
   clean = free_clean c opening calls w trace reached;
   waits = pages_wait c opening calls w trace reached;
   waited = freed_pages_waited c opening calls w trace reached;

@@ -18,5 +18,6 @@ pub mod Replying
 pub mod Numbering
 pub mod OneBase
 pub mod GuardsBare
+pub mod GuardsUntilFree
 pub mod AddedWords
 pub mod Keeping

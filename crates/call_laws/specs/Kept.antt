@@ -25,6 +25,7 @@ use Rattle.call_laws.specs.Numbers.{IsNumbered}
 use Rattle.call_laws.specs.Causes.{WereLegal, searched_for, FoundNoHole, HasItsCause}
 use Rattle.call_laws.specs.Room.{IsRoomCounted}
 use Rattle.call_laws.specs.MapLaws.{StandsAtItsBase}
+use Rattle.call_laws.specs.Guards.{AreGuardsBare}
 
 -- the map before the first event
 abbrev pub first_map : Setup → (opening : List Call) → (calls : List (List Call)) → PlainMap
@@ -50,6 +51,7 @@ pub record KeepsTheLaws (c : Setup) (opening : List Call) (calls : List (List Ca
   -- the map
   pub apart : AreAreasApart c w
   pub guard : (i : ℕ) (a : Area) → slice_get w.map.areas i ≡ Some a → a.kind ≡ kind.Vmalloc → IsUnmapped w.map (end_of a.span - 1)
+  pub bare_guards : AreGuardsBare c (first_map c opening calls) w
   pub clean : AreFreePagesClean w.map
   pub waits : DoPagesWait c (first_map c opening calls) w.events
   pub waited : (page k : ℕ) → IsFreedAt c (first_map c opening calls) w.events page k → IsFreedWell c (first_map c opening calls) w.events page k

@@ -10,9 +10,9 @@
 //!   caller may place one next.
 //! - `chunks`: all areas of a chunk stand at its base plus their group's offset, and no page of it beyond the units
 //!   of the processors is mapped.
-//! - `guards`: the guard of a vmalloc span is bare as long as a caller has the span in hand or an area is live there.
+//! - `guards`: the guard of a vmalloc span is bare from its carve until it is free again.
 //! - `adds`: an add changes one word of all words of all objects, also of those that callers have in hand.
-//! - `all_laws`: all but the last two of these and the laws of `map_laws`, as one record for one world
+//! - `all_laws`: all of these but the outer units and the last, and the laws of `map_laws`, as one record for one world
 //!   (`KeepsTheLaws`).
 #![tactic(auto)]
 
@@ -57,8 +57,8 @@ pub fn chunks()
     ensures outer_units { UnitsBeyondProcessorsAreUnmapped }
 {}
 
-/// The guard of a vmalloc span is unmapped and not stale from its carve on, as long as a caller has the span in hand or an area
-/// is live there: also while the area is being settled or unmapped.
+/// The guard of a vmalloc span is unmapped and not stale from its carve until it is free again: also while the area is being
+/// settled or unmapped, while it waits, and while a purge flushes it.
 pub fn guards()
     ensures bare { GuardsStayBare }
 {}

@@ -1,5 +1,5 @@
 -- How many callers a world of a run has, and which of them moves first.
-use Rattle.std.proofs.Common.{◌≡◌, ℕ, suc, ◌+◌, ◌-◌, ◌<◌, ◌≤◌, inl, inr, Bool, true, false, cond, List, [], ◌∷◌, length, find, slice_get, Option, Some, None, refl, ap, sym, ◌∙◌, subst, arith, length-append, length-set}
+use Rattle.std.proofs.Common.{◌≡◌, ℕ, suc, ◌+◌, ◌-◌, ◌<◌, ◌≤◌, ◌⊎◌, inl, inr, Bool, true, false, cond, List, [], ◌∷◌, length, find, slice_get, Option, Some, None, refl, ap, sym, ◌∙◌, subst, arith, length-append, length-set}
 use Rattle.vm_model.specs.declared.calls.Call.{Call}
 use Rattle.vm_model.specs.Space.{count_from}
 use Rattle.vm_model.specs.Setup.{Setup}
@@ -15,15 +15,22 @@ length-callers_from : (c : Setup) (answers : List Answered) (k : ℕ) (calls : L
 length-callers_from c answers k [] = refl
 length-callers_from c answers k (own ∷ calls) = ap suc (length-callers_from c answers (suc k) calls)
 
-few_reached : (c : Setup) (opening : List Call) (calls : List (List Call)) (w : World) → IsReached c opening calls w → length w.locals ≤ 1 + length calls
-few_reached c opening calls w reached =
-    elim (reached_have (λ v. length v.locals ≡ 1) (λ v. length v.locals ≡ 1 + length calls) c opening calls refl
+-- the opening, and then the callers behind it
+many_reached : (c : Setup) (opening : List Call) (calls : List (List Call)) (w : World) → IsReached c opening calls w → (length w.locals ≡ 1) ⊎ (length w.locals ≡ 1 + length calls)
+many_reached c opening calls w reached =
+    reached_have (λ v. length v.locals ≡ 1) (λ v. length v.locals ≡ 1 + length calls) c opening calls refl
     (λ v k l s h step. length-set v.locals l.caller (moved_to l (next l.setup l.place s)) ∙ h)
     (λ v h over. length-append v.locals (callers_from c (opening_answers v.locals) 1 calls) ∙ ap (λ n. n + length (callers_from c (opening_answers v.locals) 1 calls)) h ∙ ap (λ n. 1 + n) (length-callers_from c (opening_answers v.locals) 1 calls))
-    (λ v k l s h step. length-set v.locals l.caller (moved_to l (next l.setup l.place s)) ∙ h) w reached) [
-      | inl e ↦ omega arith
-      | inr e ↦ omega arith
-    ]
+    (λ v k l s h step. length-set v.locals l.caller (moved_to l (next l.setup l.place s)) ∙ h) w reached
+
+few_reached : (c : Setup) (opening : List Call) (calls : List (List Call)) (w : World) → IsReached c opening calls w → length w.locals ≤ 1 + length calls
+few_reached c opening calls w reached = elim (many_reached c opening calls w reached) [ inl e ↦ omega arith | inr e ↦ omega arith ]
+
+some_reached : (c : Setup) (opening : List Call) (calls : List (List Call)) (w : World) → IsReached c opening calls w → 0 < length w.locals
+some_reached c opening calls w reached = elim (many_reached c opening calls w reached) [ inl e ↦ omega arith | inr e ↦ omega arith ]
+
+pub some_callers : (k : KernelState) → IsSomewhere k → 0 < length k.locals
+some_callers k is = let some = some_reached is.0 is.1 is.2 is.3 is.4.running.reached in let same = ap length is.4.locals in omega arith
 
 pub few_callers : (k : KernelState) → IsSomewhere k → length k.locals ≤ 17
 few_callers k is =

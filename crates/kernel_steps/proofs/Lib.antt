@@ -8,3 +8,4 @@ pub mod Sorted
 pub mod Gathered
 pub mod BlockTables
 pub mod Sent
+pub mod Moves

@@ -72,7 +72,7 @@ pub put_ended : (rs : List Region) (ls : List Local) (k : ℕ) (l : Local) → s
 put_ended rs ls k l here none = sym ((run_of_sections wants moves after).ended (rs, ls) k l none) ∙ ap (section_by wants moves after (rs, ls) k) (sym here)
 
 -- an ask of no region is none
-asks_nothing : (a : Ask) → number_of a ≡ None → a ≡ AskNothing
+pub asks_nothing : (a : Ask) → number_of a ≡ None → a ≡ AskNothing
 asks_nothing AskNothing e = refl
 asks_nothing _ e = absurd cc
 

@@ -1,5 +1,5 @@
 -- Where a kernel stands: its regions and callers are the parts of a world, after the world's own events.
-use Rattle.std.specs.Prelude.{length, ◌≤◌, [], ◌∷◌, ◌≡◌, ◌≢◌, ℕ, true, false, List, map, slice_get, Some, None}
+use Rattle.std.specs.Prelude.{length, ◌≤◌, [], ◌∷◌, ◌≡◌, ◌≢◌, ℕ, Bool, true, false, if◌then◌else◌, List, map, slice_get, Some, None}
 use Rattle.vm_model.specs.declared.calls.Call.{Call}
 use Rattle.vm_model.specs.Setup.{Setup}
 use Rattle.vm_model.specs.Events.{Event}
@@ -8,6 +8,8 @@ use Rattle.vm_model.specs.Given.{can_move}
 use Rattle.vm_model.specs.History.{World, Local, opening_world, with_callers, finish, most_events, callers_from, opening_answers, placing_calls}
 use Rattle.vm_model.specs.Parts.{Region, CpuBlocks, regions_of, wants, moves}
 use Rattle.vm_model.specs.PlainMap.{Block}
+use Rattle.vm_model.specs.declared.tables.Tables.{Tables}
+use Rattle.vm_model.specs.Tables.{tables_of}
 use Rattle.vm_model.specs.declared.rows.BlockRow.{BlockRow}
 use Rattle.vm_model.specs.declared.rows.PartRow.{PartRow}
 use Rattle.map_blocks.specs.BlockRows.{block_table, part_table}
@@ -91,3 +93,10 @@ block_table_of _ = []
 abbrev pub part_table_of : Region → List PartRow
 part_table_of (CpuBlocks cpu pages blocks next) = part_table (record { cpu = cpu; pages = pages; blocks = blocks; next = next })
 part_table_of _ = []
+
+-- the tables of a world, in which the rows that an audit alone reads stand with one only
+abbrev pub tables_for : (audit : Bool) → Setup → World → Tables
+tables_for audit c w = record (tables_of c w) {
+  chunk_audit = if audit then (tables_of c w).chunk_audit else [];
+  hints = if audit then (tables_of c w).hints else [];
+}

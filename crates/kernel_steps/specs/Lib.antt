@@ -1,2 +1,4 @@
 pub mod Kernels
+pub mod Runs
 pub mod Laws
+pub mod Parts

@@ -20,7 +20,7 @@ use Rattle.vm_model.proofs.OneNext.{one_next}
 use Rattle.map_laws.proofs.Lists.{set_cases}
 use Rattle.map_laws.proofs.Chosen.{sum_has}
 use Rattle.map_laws.proofs.Frames.{IsFramed, IsStep, IsOpening, IsLasting, framed_opening, framed_callers, framed_step, opening_step, not_over, has_call}
-use Rattle.map_laws.proofs.Places.{IsProper, OnNext, HaveBeginnings, begins_with, answers_call, moved_setup}
+use Rattle.map_laws.proofs.Places.{IsProper, OnNext, HaveBeginnings, AtOver, begins_with, answers_call, moved_setup}
 use Rattle.map_laws.proofs.Touched.{touch, IsSame, untouched}
 use Rattle.map_laws.proofs.AreaFacts.{IsHolding, IsMapFine, own_uses, next_uses, IsClaimed, holding_stays, holds_nothing, nothing_claimed, IsUnbearing}
 use Rattle.map_laws.proofs.PlaceMoves.{IsMoved}
@@ -35,21 +35,8 @@ pub record IsAreaWorld (w : World) : Type 0 where
 
 -- at the beginning of a call a caller holds nothing
 pub unbearing_begins : (c : Setup) → HaveBeginnings IsUnbearing c
-unbearing_begins c = record {
-  over = refl;
-  refused = λ r. refl;
-  area = λ pages align k plain some. refl;
-  part = λ cpu pages e f. refl;
-  dirty = refl;
-  object = λ bytes align few. refl;
-  atomic = λ bytes align few. refl;
-  remove = λ start serial. refl;
-  unmap = λ cpu page serial. refl;
-  free = λ at serial. refl;
-  add = λ at serial cpu index amount. refl;
-  sum = λ at serial index. refl;
-  balance = refl;
-}
+unbearing_begins c _ AtOver = refl
+unbearing_begins c _ _ = refl
 
 pub moved_caller : (l : Local) (n : Next) → length l.answers < length l.calls → (moved_to l n).caller ≡ l.caller
 moved_caller l (Go p) h = refl

@@ -8,11 +8,12 @@ use Rattle.vm_model.specs.Space.{span, is_among}
 use Rattle.vm_model.specs.Setup.{Setup}
 use Rattle.vm_model.specs.PlainMap.{PlainMap}
 use Rattle.vm_model.specs.Areas.{is_area, areas_of, group_kinds, group_areas}
-use Rattle.vm_model.specs.Events.{Section, ForPages, ForGroups, Settle, Remove, Unlink}
+use Rattle.vm_model.specs.Events.{Section, Settle, Remove, Unlink}
 use Rattle.vm_model.specs.Effects.{effect_as}
-use Rattle.vm_model.specs.Places.{Place, SettlingArea, SettlingBlock, SettlingGroups, Ask, AskNothing, AskRefuse, AskTakePurge, AskGivePurge, AskTakeAlloc, AskGiveAlloc, AskSearch, AskDrop, AskReturn, AskSettle, AskRemove, AskUnlink, AskWait, AskTakeWaiting, AskMap, AskPopulate, AskFill, AskUnmap, AskDepopulate, AskFlush, AskZero, AskAdd, AskSum, AskPlace, AskAddChunk, AskAtomic, AskSettleObject, AskUnplace, AskFree, AskSpare, AskNextPage, AskFilled, AskPart, AskAddBlock, AskSettlePart, AskBegin, AskRetire, AskFragment, AskDirty, ask}
+use Rattle.vm_model.specs.Places.{Place, SettlingArea, SettlingBlock, SettlingGroups, Ask, AskSettle, ask}
 use Rattle.vm_model.specs.LegalHistory.{Meets}
 use Rattle.vm_model.specs.Laws.{IsAligned}
+use Rattle.map_laws.proofs.AskRows.{AskRow, Settled, ask_row}
 use Rattle.map_laws.proofs.Chosen.{IsIn, filter_has}
 use Rattle.map_laws.proofs.Places.{IsPlainKind, IsProper}
 use Rattle.map_laws.proofs.OutMoves.{with_in}
@@ -25,60 +26,12 @@ abbrev pub asks_settle : Ask → Bool
 asks_settle (AskSettle areas) = true
 asks_settle _ = false
 
+settled_by : (c : Setup) (a : Ask) (s : Section) → AskRow c a s → asks_settle a ≡ false → is_settle s ≡ false
+settled_by c _ _ (Settled areas first) h = cc
+settled_by c _ _ _ h = refl
+
 pub no_settle : (c : Setup) (a : Ask) (s : Section) → asks_settle a ≡ false → Meets c a s → is_settle s ≡ false
-no_settle c AskNothing s h w = absurd w
-no_settle c AskRefuse s h w = ap is_settle w
-no_settle c AskTakePurge s h w = ap is_settle w
-no_settle c AskGivePurge s h w = ap is_settle w
-no_settle c AskTakeAlloc s h w = ap is_settle w
-no_settle c AskGiveAlloc s h w = ap is_settle w
-no_settle c (AskSearch (ForPages pages align)) s h (inl w) = ap is_settle w.1
-no_settle c (AskSearch (ForPages pages align)) s h (inr w) = ap is_settle w
-no_settle c (AskSearch ForGroups) s h (inl w) = ap is_settle w.1
-no_settle c (AskSearch ForGroups) s h (inr w) = ap is_settle w
-no_settle c (AskDrop p) s h w = ap is_settle w
-no_settle c (AskReturn spans) s h w = ap is_settle w
-no_settle c (AskSettle areas) s h w = cc
-no_settle c (AskRemove start serial) s h (inl w) = ap is_settle w.1
-no_settle c (AskRemove start serial) s h (inr w) = ap is_settle w
-no_settle c (AskUnlink starts) s h w = ap is_settle w
-no_settle c (AskWait spans) s h w = ap is_settle w.1
-no_settle c AskTakeWaiting s h w = ap is_settle w.1
-no_settle c (AskMap p) s h (inl w) = ap is_settle w
-no_settle c (AskMap p) s h (inr w) = ap is_settle w
-no_settle c (AskPopulate at missing) s h (inl w) = ap is_settle w
-no_settle c (AskPopulate at missing) s h (inr w) = ap is_settle w
-no_settle c (AskFill base page) s h (inl w) = ap is_settle w
-no_settle c (AskFill base page) s h (inr w) = ap is_settle w
-no_settle c (AskUnmap p) s h w = ap is_settle w
-no_settle c (AskDepopulate base pages) s h w = ap is_settle w
-no_settle c (AskFlush p) s h w = ap is_settle w
-no_settle c (AskZero at) s h w = ap is_settle w
-no_settle c (AskAdd at serial cpu index amount) s h w = ap is_settle w
-no_settle c (AskSum at serial index) s h w = ap is_settle w.1
-no_settle c (AskPlace bytes align) s h (inl w) = ap is_settle w.3
-no_settle c (AskPlace bytes align) s h (inr w) = ap is_settle w.1
-no_settle c (AskAddChunk chunk base bytes align) s h w = ap is_settle w.3
-no_settle c (AskAtomic bytes align) s h (inl w) = ap is_settle w.2
-no_settle c (AskAtomic bytes align) s h (inr w) = ap is_settle w
-no_settle c (AskSettleObject at) s h w = ap is_settle w.1
-no_settle c (AskUnplace at) s h w = ap is_settle w
-no_settle c (AskFree at serial) s h (inl w) = ap is_settle w
-no_settle c (AskFree at serial) s h (inr w) = ap is_settle w
-no_settle c AskSpare s h (inl w) = ap is_settle w.3
-no_settle c AskSpare s h (inr w) = ap is_settle w
-no_settle c AskNextPage s h (inl w) = ap is_settle w.3
-no_settle c AskNextPage s h (inr w) = ap is_settle w
-no_settle c (AskFilled chunk page) s h w = ap is_settle w
-no_settle c (AskPart cpu pages) s h (inl w) = ap is_settle w.3
-no_settle c (AskPart cpu pages) s h (inr w) = ap is_settle w
-no_settle c (AskAddBlock at) s h w = ap is_settle w
-no_settle c (AskSettlePart at) s h w = ap is_settle w.1
-no_settle c (AskBegin cpu page serial) s h (inl w) = ap is_settle w.3
-no_settle c (AskBegin cpu page serial) s h (inr w) = ap is_settle w
-no_settle c (AskRetire at) s h w = ap is_settle w.1
-no_settle c (AskFragment cpu) s h w = ap is_settle w.1
-no_settle c (AskDirty cpu) s h w = ap is_settle w.1
+no_settle c a s h w = settled_by c a s (ask_row c a s w) h
 
 -- the areas behind a section are those before it, or those that it settles
 pub areas_after : (c : Setup) (m : PlainMap) (k : ℕ) (s : Section) → is_settle s ≡ false → (a : Area) → IsIn a (effect_as c m k s).areas → IsIn a m.areas

@@ -5,34 +5,33 @@ use Rattle.vm_model.specs.declared.areas.Area.{Area}
 use Rattle.vm_model.specs.declared.areas.AreaKind.{AreaKind}
 use Rattle.vm_model.specs.declared.areas.AreaKind.TheVariants as kind
 use Rattle.vm_model.specs.declared.calls.Reply.{Reply}
-use Rattle.vm_model.specs.Space.{count_from, span, holds, is_among, times, pages_of}
+use Rattle.vm_model.specs.Space.{count_from, holds, is_among, times, pages_of}
 use Rattle.vm_model.specs.Setup.{Setup, cpus, pages_in_units, groups_at}
 use Rattle.vm_model.specs.PlainMap.{PlainMap, Block}
 use Rattle.vm_model.specs.Areas.{spans_of, named_areas, mapped_part, group_areas}
 use Rattle.vm_model.specs.Frames.{free_frames}
 use Rattle.vm_model.specs.Blocks.{PartAt, first_page, mapped_pages, rounded}
 use Rattle.vm_model.specs.Legal.{IsMapped, IsBare, IsLegalAs, OnPages}
-use Rattle.vm_model.specs.Events.{Section, ForPages, Refuse, TakePurge, GivePurge, Carve, NoHole, Drop, Return, Settle, Remove, AreaNotLive, Unlink, Wait, TakeWaiting, MapPages, NoFrames, Unmap, Flush, CutPart, NoPart, AddBlock, SettlePart, BeginUnmap, PartNotLive, Retire, Fragment, Dirty, CarveGroups, AddChunk, AddWord, Depopulate, Enough, Fill, Filled, ForGroups, FreeObject, GiveAlloc, NextPage, NoAtomic, NoPlace, NoSpare, ObjectNotLive, PlaceAtomic, PlaceObject, Populate, SettleObject, Spare, SumWords, TakeAlloc, Unplace, Zero}
+use Rattle.vm_model.specs.Events.{Section, TakePurge, Settle, Remove, Unlink, MapPages, NoFrames, Unmap, CutPart, NoPart, AddBlock, SettlePart, BeginUnmap, PartNotLive, Retire, Fragment, Depopulate, Fill, Populate}
 use Rattle.vm_model.specs.Effects.{effect_as}
-use Rattle.vm_model.specs.Places.{Place, Over, Refusing, Finding, FindingAgain, MappingArea, Dropping, SettlingArea, Removing, UnmappingArea, Waiting, PurgeTaking, PurgeFragmenting, PurgeUnlinking, PurgeWaiting, PurgeCollecting, PurgeFlushing, PurgeReturning, PurgeGiving, CuttingPart, SettlingBlock, AddingBlock, MappingPart, SettlingPart, BeginningUnmap, UnmappingPart, Retiring, UnlinkingBlock, block_spans, LookingAtDirty, Then, ask, Adding, AddingChunk, Choosing, ChoosingAtomic, Depopulating, Filling, FreeingObject, GivingAlloc, NextFill, NotingFilled, Populating, SettlingAtomic, SettlingGroups, SettlingObject, Sparing, Summing, TakingAlloc, TakingToBalance, UnlinkingGroups, Unplacing, Zeroing, group_starts, SearchAgain}
-use Rattle.vm_model.specs.Next.{Go, next, after_fragments, without_space}
+use Rattle.vm_model.specs.Places.{Place, Finding, FindingAgain, MappingArea, SettlingArea, Removing, UnmappingArea, PurgeTaking, PurgeFragmenting, PurgeUnlinking, CuttingPart, SettlingBlock, AddingBlock, MappingPart, SettlingPart, BeginningUnmap, UnmappingPart, Retiring, UnlinkingBlock, Then, ask, Depopulating, Filling, Populating, SettlingGroups, UnlinkingGroups, group_starts}
+use Rattle.vm_model.specs.Next.{Go, next, after_fragments}
 use Rattle.vm_model.specs.Carried.{count_of}
 use Rattle.vm_model.specs.LegalHistory.{Meets}
 use Rattle.map_laws.proofs.Chosen.{IsIn}
-use Rattle.map_laws.proofs.Places.{IsPlainKind, IsProper, either_next}
+use Rattle.map_laws.proofs.Places.{IsPlainKind, IsProper}
 use Rattle.vm_model.proofs.RoundedPages.{rounded_high}
 use Rattle.map_laws.proofs.Spans.{covers_one, holds_from}
-use Rattle.map_laws.proofs.Touched.{painted, unpainted, painted_still, ungiven, outside_row}
+use Rattle.map_laws.proofs.Touched.{painted, unpainted, ungiven, outside_row}
 use Rattle.map_laws.proofs.AreaFacts.{IsHolding, IsMapFine, own_uses, mapped_within}
 use Rattle.map_laws.proofs.PlaceMoves.{given_all, held_in_row}
 use Rattle.map_laws.proofs.BlockFacts.{OnRow, IsBlockFine, IsPartIn, IsOut, IsBlockAt, block_starts, block_out}
 use Rattle.map_laws.proofs.BlockMoves.{part_within, row_of, IsBlockMoved, outer_moved, inner_moved}
 use Rattle.map_laws.proofs.PartMoves.{cut_moved, add_moved, settle_part_moved, retire_moved}
 use Rattle.map_laws.proofs.FragmentMoves.{begin_moved, fragment_moved, to_next, to_unlink}
-use Rattle.map_laws.proofs.BlockPlaces.{HasParts, IsUnblocky, no_space_un, went_on_un, collected_un, flushed_un, hand_same, not_held, quiet_b, settle_b, held_b, remove_b, unlink_b, as_b, block_settled, found_un, framed_b, IsInChunk, groups_b}
+use Rattle.map_laws.proofs.BlockPlaces.{HasParts, is_still, still_b, plain_b, unblocky_next, hand_same, not_held, quiet_b, settle_b, held_b, remove_b, unlink_b, as_b, block_settled, framed_b, IsInChunk, groups_b}
 use Rattle.map_laws.proofs.AreaMoves.{AreGroupsFree}
 use Rattle.map_laws.proofs.OutMoves.{IsUnlinked}
-use Rattle.vm_model.specs.Told.{carved, carved_base}
 
 -- of the area that is removed at a place
 abbrev pub IsRemovedPlain : PlainMap → Place → Type 0
@@ -117,86 +116,80 @@ module _ (c : Setup) (m : PlainMap) (k : ℕ) (fine : IsMapFine m) (has : HasPar
 
   pub block_by : (p : Place) (s : Section) → IsChunkSided c m p → IsProper c p → IsHolding c m k p → IsRemovedPlain m p → (once : (page : ℕ) → own_uses c m p page ≤ 1)
       → (named : (start : ℕ) → count_of start (block_starts m.blocks) + count_of start (block_out p) ≤ 1) → IsBlockAt c m k p → Meets c (ask c p) s → IsLegalAs c m k s → IsBlockMoved c m k p s (next c p s)
-  block_by Over s is proper own plain once named at w legal = absurd w
-  block_by (Refusing r) s is proper own plain once named at w legal = as_b c m k fine has all (Refusing r) once named s (Refuse) w legal (λ l. quiet_b c m k fine has all (Refusing r) once named (Refuse) _ tt refl refl refl (λ page h. h))
-  block_by (Finding (ForPages pages align) aim) s is proper own plain once named at (inl w) legal = as_b c m k fine has all (Finding (ForPages pages align) aim) once named s (Carve (span w.0 pages) align) w.1 legal (λ l. quiet_b c m k fine has all (Finding (ForPages pages align) aim) once named (Carve (span w.0 pages) align) _ (found_un aim (carved (Carve (span w.0 pages) align)) (carved_base (Carve (span w.0 pages) align)) (Go (PurgeTaking None (SearchAgain (ForPages pages align) aim))) refl) refl refl refl (λ page h. h))
-  block_by (Finding (ForPages pages align) aim) s is proper own plain once named at (inr w) legal = as_b c m k fine has all (Finding (ForPages pages align) aim) once named s (NoHole (ForPages pages align)) w legal (λ l. quiet_b c m k fine has all (Finding (ForPages pages align) aim) once named (NoHole (ForPages pages align)) _ (found_un aim (carved (NoHole (ForPages pages align))) (carved_base (NoHole (ForPages pages align))) (Go (PurgeTaking None (SearchAgain (ForPages pages align) aim))) refl) refl refl refl (λ page h. h))
-  block_by (Finding ForGroups aim) s is proper own plain once named at (inl w) legal = as_b c m k fine has all (Finding ForGroups aim) once named s (CarveGroups w.0) w.1 legal (λ l. quiet_b c m k fine has all (Finding ForGroups aim) once named (CarveGroups w.0) _ (found_un aim (carved (CarveGroups w.0)) (carved_base (CarveGroups w.0)) (Go (PurgeTaking None (SearchAgain ForGroups aim))) refl) refl refl refl (λ page h. h))
-  block_by (Finding ForGroups aim) s is proper own plain once named at (inr w) legal = as_b c m k fine has all (Finding ForGroups aim) once named s (NoHole ForGroups) w legal (λ l. quiet_b c m k fine has all (Finding ForGroups aim) once named (NoHole ForGroups) _ (found_un aim (carved (NoHole ForGroups)) (carved_base (NoHole ForGroups)) (Go (PurgeTaking None (SearchAgain ForGroups aim))) refl) refl refl refl (λ page h. h))
-  block_by (FindingAgain (ForPages pages align) aim) s is proper own plain once named at (inl w) legal = as_b c m k fine has all (FindingAgain (ForPages pages align) aim) once named s (Carve (span w.0 pages) align) w.1 legal (λ l. quiet_b c m k fine has all (FindingAgain (ForPages pages align) aim) once named (Carve (span w.0 pages) align) _ (found_un aim (carved (Carve (span w.0 pages) align)) (carved_base (Carve (span w.0 pages) align)) (without_space aim) (no_space_un aim)) refl refl refl (λ page h. h))
-  block_by (FindingAgain (ForPages pages align) aim) s is proper own plain once named at (inr w) legal = as_b c m k fine has all (FindingAgain (ForPages pages align) aim) once named s (NoHole (ForPages pages align)) w legal (λ l. quiet_b c m k fine has all (FindingAgain (ForPages pages align) aim) once named (NoHole (ForPages pages align)) _ (found_un aim (carved (NoHole (ForPages pages align))) (carved_base (NoHole (ForPages pages align))) (without_space aim) (no_space_un aim)) refl refl refl (λ page h. h))
-  block_by (FindingAgain ForGroups aim) s is proper own plain once named at (inl w) legal = as_b c m k fine has all (FindingAgain ForGroups aim) once named s (CarveGroups w.0) w.1 legal (λ l. quiet_b c m k fine has all (FindingAgain ForGroups aim) once named (CarveGroups w.0) _ (found_un aim (carved (CarveGroups w.0)) (carved_base (CarveGroups w.0)) (without_space aim) (no_space_un aim)) refl refl refl (λ page h. h))
-  block_by (FindingAgain ForGroups aim) s is proper own plain once named at (inr w) legal = as_b c m k fine has all (FindingAgain ForGroups aim) once named s (NoHole ForGroups) w legal (λ l. quiet_b c m k fine has all (FindingAgain ForGroups aim) once named (NoHole ForGroups) _ (found_un aim (carved (NoHole ForGroups)) (carved_base (NoHole ForGroups)) (without_space aim) (no_space_un aim)) refl refl refl (λ page h. h))
-  block_by (MappingArea place kd) s is proper own plain once named at (inl w) legal = as_b c m k fine has all (MappingArea place kd) once named s (MapPages (mapped_part kd place)) w legal (λ l. held_b c m k fine has all (MappingArea place kd) once named (MapPages (mapped_part kd place)) _ refl refl refl
-      (λ page free. record { frame = ungiven (pages_of (mapped_part kd place)) (free_frames c m.frames) m.frames page (outside_row (mapped_part kd place) page (not_mapped kd place page (λ t. free (own.held page (covers_one place page ∙ t))))); clean = λ h. h }))
-  block_by (MappingArea place kd) s is proper own plain once named at (inr w) legal = as_b c m k fine has all (MappingArea place kd) once named s (NoFrames (mapped_part kd place).pages) w legal (λ l. quiet_b c m k fine has all (MappingArea place kd) once named (NoFrames (mapped_part kd place).pages) _ refl refl refl refl (λ page h. h))
-  block_by (Dropping place) s is proper own plain once named at w legal = as_b c m k fine has all (Dropping place) once named s (Drop place) w legal (λ l. quiet_b c m k fine has all (Dropping place) once named (Drop place) _ tt refl refl refl (λ page h. h))
-  block_by (SettlingArea place kd) s is proper own plain once named at w legal = as_b c m k fine has all (SettlingArea place kd) once named s (Settle ((place, kd) ∷ []) w.0) w.1 legal
+  block_by (MappingArea place kd) s is proper own plain once named at (inl w) legal =
+      as_b c m k fine has all (MappingArea place kd) once named s (MapPages (mapped_part kd place)) w legal
+      (λ l. held_b c m k fine has all (MappingArea place kd) once named (MapPages (mapped_part kd place)) _ refl refl refl (λ page free. record { frame = ungiven (pages_of (mapped_part kd place)) (free_frames c m.frames) m.frames page (outside_row (mapped_part kd place) page (not_mapped kd place page (λ t. free (own.held page (covers_one place page ∙ t))))); clean = λ h. h }))
+  block_by (MappingArea place kd) s is proper own plain once named at (inr w) legal = still_b c m k fine has all (MappingArea place kd) once named s _ (ap is_still w) (unblocky_next c (MappingArea place kd) s refl)
+  block_by (SettlingArea place kd) s is proper own plain once named at w legal =
+      as_b c m k fine has all (SettlingArea place kd) once named s (Settle ((place, kd) ∷ []) w.0) w.1 legal
       (λ l. settle_b c m k fine has all (SettlingArea place kd) once named ((place, kd) ∷ []) w.0 _ (λ start. omega arith) tt)
-  block_by (Removing start serial) s is proper own plain once named at (inl w) legal = as_b c m k fine has all (Removing start serial) once named s (Remove start serial w.0) w.1 legal
+  block_by (Removing start serial) s is proper own plain once named at (inl w) legal =
+      as_b c m k fine has all (Removing start serial) once named s (Remove start serial w.0) w.1 legal
       (λ l. remove_b c m k fine has all (Removing start serial) once named start serial w.0 _ refl l (plain w.0 l))
-  block_by (Removing start serial) s is proper own plain once named at (inr w) legal = as_b c m k fine has all (Removing start serial) once named s (AreaNotLive start serial) w legal (λ l. quiet_b c m k fine has all (Removing start serial) once named (AreaNotLive start serial) _ tt refl refl refl (λ page h. h))
-  block_by (UnmappingArea area) s is proper own plain once named at w legal = as_b c m k fine has all (UnmappingArea area) once named s (Unmap (mapped_part area.kind area.span)) w legal (λ l. held_b c m k fine has all (UnmappingArea area) once named (Unmap (mapped_part area.kind area.span)) _ refl refl refl
-      (λ page free. (let out = not_mapped area.kind area.span page (λ t. free (own.held page (covers_one area.span page ∙ t))) in
-      record { frame = unpainted (holds (mapped_part area.kind area.span)) None m.frames page out; clean = λ h. unpainted (holds (mapped_part area.kind area.span)) true m.stale page out ∙ h })))
-  block_by (Waiting spans after) s is proper own plain once named at w legal = as_b c m k fine has all (Waiting spans after) once named s (Wait spans w.0) w.1 legal (λ l. quiet_b c m k fine has all (Waiting spans after) once named (Wait spans w.0) _ (either_next IsUnblocky (nat_lt c.lazy w.0) _ _ refl (went_on_un after)) refl refl refl (λ page h. h))
-  block_by (PurgeTaking extra after) s is proper own plain once named at w legal = as_b c m k fine has all (PurgeTaking extra after) once named s TakePurge w legal (λ l. purge_begins extra after named)
-  block_by (PurgeFragmenting cpu gone extra after) s is proper own plain once named at w legal = as_b c m k fine has all (PurgeFragmenting cpu gone extra after) once named s (Fragment cpu w.0) w.1 legal
+  block_by (Removing start serial) s is proper own plain once named at (inr w) legal = still_b c m k fine has all (Removing start serial) once named s _ (ap is_still w) (unblocky_next c (Removing start serial) s refl)
+  block_by (UnmappingArea area) s is proper own plain once named at w legal =
+      as_b c m k fine has all (UnmappingArea area) once named s (Unmap (mapped_part area.kind area.span)) w legal
+      (λ l. held_b c m k fine has all (UnmappingArea area) once named (Unmap (mapped_part area.kind area.span)) _ refl refl refl (λ page free. (let out = not_mapped area.kind area.span page (λ t. free (own.held page (covers_one area.span page ∙ t))) in record { frame = unpainted (holds (mapped_part area.kind area.span)) None m.frames page out; clean = λ h. unpainted (holds (mapped_part area.kind area.span)) true m.stale page out ∙ h })))
+  block_by (PurgeTaking extra after) s is proper own plain once named at w legal =
+      as_b c m k fine has all (PurgeTaking extra after) once named s TakePurge w legal
+      (λ l. purge_begins extra after named)
+  block_by (PurgeFragmenting cpu gone extra after) s is proper own plain once named at w legal =
+      as_b c m k fine has all (PurgeFragmenting cpu gone extra after) once named s (Fragment cpu w.0) w.1 legal
       (λ l. fragment_by cpu gone w.0 extra after (starts_one (PurgeFragmenting cpu gone extra after) named) l at (nat_lt (suc cpu) (cpus c)))
-  block_by (PurgeUnlinking gone extra after) s is proper own plain once named at w legal = as_b c m k fine has all (PurgeUnlinking gone extra after) once named s (Unlink gone) w legal (λ l. unlink_b c m k fine has all (PurgeUnlinking gone extra after) once named gone _ refl refl)
-  block_by (PurgeWaiting gone extra after) s is proper own plain once named at w legal = as_b c m k fine has all (PurgeWaiting gone extra after) once named s (Wait (block_spans c gone) w.0) w.1 legal (λ l. quiet_b c m k fine has all (PurgeWaiting gone extra after) once named (Wait (block_spans c gone) w.0) _ refl refl refl refl (λ page h. h))
-  block_by (PurgeCollecting extra after) s is proper own plain once named at w legal = as_b c m k fine has all (PurgeCollecting extra after) once named s (TakeWaiting w.0) w.1 legal (λ l. quiet_b c m k fine has all (PurgeCollecting extra after) once named (TakeWaiting w.0) _ (collected_un w.0 _ after) refl refl refl (λ page h. h))
-  block_by (PurgeFlushing hull waited after) s is proper own plain once named at w legal = as_b c m k fine has all (PurgeFlushing hull waited after) once named s (Flush hull) w legal
-      (λ l. quiet_b c m k fine has all (PurgeFlushing hull waited after) once named (Flush hull) _ (flushed_un waited after) refl refl refl (λ page h. painted_still (holds hull) false m.stale page h))
-  block_by (PurgeReturning waited after) s is proper own plain once named at w legal = as_b c m k fine has all (PurgeReturning waited after) once named s (Return waited) w legal (λ l. quiet_b c m k fine has all (PurgeReturning waited after) once named (Return waited) _ refl refl refl refl (λ page h. h))
-  block_by (PurgeGiving after) s is proper own plain once named at w legal = as_b c m k fine has all (PurgeGiving after) once named s (GivePurge) w legal (λ l. quiet_b c m k fine has all (PurgeGiving after) once named (GivePurge) _ (went_on_un after) refl refl refl (λ page h. h))
-  block_by (CuttingPart cpu pages) s is proper own plain once named at (inl w) legal = as_b c m k fine has all (CuttingPart cpu pages) once named s (CutPart w.0) w.3 legal
+  block_by (PurgeUnlinking gone extra after) s is proper own plain once named at w legal =
+      as_b c m k fine has all (PurgeUnlinking gone extra after) once named s (Unlink gone) w legal
+      (λ l. unlink_b c m k fine has all (PurgeUnlinking gone extra after) once named gone _ refl refl)
+  block_by (CuttingPart cpu pages) s is proper own plain once named at (inl w) legal =
+      as_b c m k fine has all (CuttingPart cpu pages) once named s (CutPart w.0) w.3 legal
       (λ l. cut_moved c m k all cpu pages w.0 named (let few = proper.1 in let small = has.small in omega (arith, w.2)) l)
-  block_by (CuttingPart cpu pages) s is proper own plain once named at (inr w) legal = as_b c m k fine has all (CuttingPart cpu pages) once named s (NoPart cpu pages) w legal (λ l. quiet_b c m k fine has all (CuttingPart cpu pages) once named (NoPart cpu pages) _ refl refl refl refl (λ page h. h))
-  block_by (SettlingBlock place cpu pages) s is proper own plain once named at w legal = as_b c m k fine has all (SettlingBlock place cpu pages) once named s (Settle ((place, kind.Block cpu) ∷ []) w.0) w.1 legal
+  block_by (CuttingPart cpu pages) s is proper own plain once named at (inr w) legal =
+      as_b c m k fine has all (CuttingPart cpu pages) once named s (NoPart cpu pages) w legal
+      (λ l. quiet_b c m k fine has all (CuttingPart cpu pages) once named (NoPart cpu pages) _ refl refl refl refl (λ page h. h))
+  block_by (SettlingBlock place cpu pages) s is proper own plain once named at w legal =
+      as_b c m k fine has all (SettlingBlock place cpu pages) once named s (Settle ((place, kind.Block cpu) ∷ []) w.0) w.1 legal
       (λ l. block_settled c m k fine has all place cpu pages w.0 once named own proper.0)
-  block_by (AddingBlock part) s is proper own plain once named at w legal = as_b c m k fine has all (AddingBlock part) once named s (AddBlock part) w legal
+  block_by (AddingBlock part) s is proper own plain once named at w legal =
+      as_b c m k fine has all (AddingBlock part) once named s (AddBlock part) w legal
       (λ l. (let high = rounded_high part.pages c.part_limit has.power proper.2 in add_moved c m k all part at.0 at.2 proper.0 (let f = has.fits in omega arith) (let f = has.small in let g = proper.2 in omega arith)))
-  block_by (MappingPart part) s is proper own plain once named at (inl w) legal = as_b c m k fine has all (MappingPart part) once named s (MapPages (mapped_pages part)) w legal
+  block_by (MappingPart part) s is proper own plain once named at (inl w) legal =
+      as_b c m k fine has all (MappingPart part) once named s (MapPages (mapped_pages part)) w legal
       (λ l. map_part part at.0 (less_one (MappingPart part) once) named at.1 (size_low part at.0) l)
-  block_by (MappingPart part) s is proper own plain once named at (inr w) legal = as_b c m k fine has all (MappingPart part) once named s (NoFrames part.pages) w legal
+  block_by (MappingPart part) s is proper own plain once named at (inr w) legal =
+      as_b c m k fine has all (MappingPart part) once named s (NoFrames part.pages) w legal
       (λ l. no_frames_part part at.0 (less_one (MappingPart part) once) named part.pages _ at.1 (size_low part at.0))
-  block_by (SettlingPart part) s is proper own plain once named at w legal = as_b c m k fine has all (SettlingPart part) once named s (SettlePart part w.0) w.1 legal
+  block_by (SettlingPart part) s is proper own plain once named at w legal =
+      as_b c m k fine has all (SettlingPart part) once named s (SettlePart part w.0) w.1 legal
       (λ l. settle_part_moved c m k all part at.0 (starts_one (SettlingPart part) named) w.0 _ _ at.1)
-  block_by (BeginningUnmap cpu page serial) s is proper own plain once named at (inl w) legal = as_b c m k fine has all (BeginningUnmap cpu page serial) once named s (BeginUnmap w.0 serial) w.3 legal
+  block_by (BeginningUnmap cpu page serial) s is proper own plain once named at (inl w) legal =
+      as_b c m k fine has all (BeginningUnmap cpu page serial) once named s (BeginUnmap w.0 serial) w.3 legal
       (λ l. begin_moved c m k all (starts_one (BeginningUnmap cpu page serial) named) cpu page serial w.0 l)
-  block_by (BeginningUnmap cpu page serial) s is proper own plain once named at (inr w) legal = as_b c m k fine has all (BeginningUnmap cpu page serial) once named s (PartNotLive cpu page serial) w legal (λ l. quiet_b c m k fine has all (BeginningUnmap cpu page serial) once named (PartNotLive cpu page serial) _ tt refl refl refl (λ page h. h))
-  block_by (UnmappingPart part) s is proper own plain once named at w legal = as_b c m k fine has all (UnmappingPart part) once named s (Unmap (mapped_pages part)) w legal
+  block_by (BeginningUnmap cpu page serial) s is proper own plain once named at (inr w) legal =
+      as_b c m k fine has all (BeginningUnmap cpu page serial) once named s (PartNotLive cpu page serial) w legal
+      (λ l. quiet_b c m k fine has all (BeginningUnmap cpu page serial) once named (PartNotLive cpu page serial) _ tt refl refl refl (λ page h. h))
+  block_by (UnmappingPart part) s is proper own plain once named at w legal =
+      as_b c m k fine has all (UnmappingPart part) once named s (Unmap (mapped_pages part)) w legal
       (λ l. unmap_part part at.0 (less_one (UnmappingPart part) once) named _ at.1)
-  block_by (Retiring part r) s is proper own plain once named at w legal = as_b c m k fine has all (Retiring part r) once named s (Retire part w.0) w.1 legal
+  block_by (Retiring part r) s is proper own plain once named at w legal =
+      as_b c m k fine has all (Retiring part r) once named s (Retire part w.0) w.1 legal
       (λ l. retire_moved c m k all part at.0 (starts_one (Retiring part r) named) at.1 r w.0 l.1)
-  block_by (UnlinkingBlock start r) s is proper own plain once named at w legal = as_b c m k fine has all (UnlinkingBlock start r) once named s (Unlink (start ∷ [])) w legal (λ l. unlink_b c m k fine has all (UnlinkingBlock start r) once named (start ∷ []) _ refl refl)
-  block_by (LookingAtDirty cpu ranges) s is proper own plain once named at w legal = as_b c m k fine has all (LookingAtDirty cpu ranges) once named s (Dirty cpu w.0) w.1 legal (λ l. quiet_b c m k fine has all (LookingAtDirty cpu ranges) once named (Dirty cpu w.0) _ (either_next IsUnblocky (nat_lt (suc cpu) (cpus c)) _ _ refl refl) refl refl refl (λ page h. h))
-  block_by (SettlingGroups base chunk bytes align) s is proper own plain once named at w legal = as_b c m k fine has all (SettlingGroups base chunk bytes align) once named s (Settle (group_areas c chunk base) w.0) w.1 legal (λ l. settle_b c m k fine has all (SettlingGroups base chunk bytes align) once named (group_areas c chunk base) w.0 _ (λ start. omega arith) tt)
-  block_by (TakingAlloc bytes align) s is proper own plain once named at w legal = as_b c m k fine has all (TakingAlloc bytes align) once named s TakeAlloc w legal (λ l. quiet_b c m k fine has all (TakingAlloc bytes align) once named TakeAlloc _ refl refl refl refl (λ page h. h))
-  block_by (Choosing bytes align) s is proper own plain once named at (inl w) legal = as_b c m k fine has all (Choosing bytes align) once named s (PlaceObject w.0 align w.1) w.3 legal (λ l. quiet_b c m k fine has all (Choosing bytes align) once named (PlaceObject w.0 align w.1) _ refl refl refl refl (λ page h. h))
-  block_by (Choosing bytes align) s is proper own plain once named at (inr w) legal = as_b c m k fine has all (Choosing bytes align) once named s (NoPlace bytes align w.0) w.1 legal (λ l. quiet_b c m k fine has all (Choosing bytes align) once named (NoPlace bytes align w.0) _ refl refl refl refl (λ page h. h))
-  block_by (AddingChunk base chunk bytes align) s is proper own plain once named at w legal = as_b c m k fine has all (AddingChunk base chunk bytes align) once named s (AddChunk chunk base w.0 align w.1) w.3 legal (λ l. quiet_b c m k fine has all (AddingChunk base chunk bytes align) once named (AddChunk chunk base w.0 align w.1) _ refl refl refl refl (λ page h. h))
-  block_by (Populating object missing) s is proper own plain once named at (inl w) legal = as_b c m k fine has all (Populating object missing) once named s (Populate object missing) w legal (λ l. framed_b c m k fine has all (Populating object missing) once named (Populate object missing) _ refl refl refl (λ page out. record { frame = ungiven (pages_in_units c object.base missing) (free_frames c m.frames) m.frames page (not_among_pages (pages_in_units c object.base missing) page (λ h. out (is page h))); clean = λ h. h }))
-  block_by (Populating object missing) s is proper own plain once named at (inr w) legal = as_b c m k fine has all (Populating object missing) once named s (NoFrames (length (pages_in_units c object.base missing))) w legal (λ l. quiet_b c m k fine has all (Populating object missing) once named (NoFrames (length (pages_in_units c object.base missing))) _ refl refl refl refl (λ page h. h))
-  block_by (Filling chunk base own_page filled) s is proper own plain once named at (inl w) legal = as_b c m k fine has all (Filling chunk base own_page filled) once named s (Fill base own_page) w legal (λ l. framed_b c m k fine has all (Filling chunk base own_page filled) once named (Fill base own_page) _ refl refl refl (λ page out. record { frame = ungiven (pages_in_units c base (own_page ∷ [])) (free_frames c m.frames) m.frames page (not_among_pages (pages_in_units c base (own_page ∷ [])) page (λ h. out (is page h))); clean = λ h. h }))
-  block_by (Filling chunk base own_page filled) s is proper own plain once named at (inr w) legal = as_b c m k fine has all (Filling chunk base own_page filled) once named s (NoFrames (length (pages_in_units c base (own_page ∷ [])))) w legal (λ l. quiet_b c m k fine has all (Filling chunk base own_page filled) once named (NoFrames (length (pages_in_units c base (own_page ∷ [])))) _ refl refl refl refl (λ page h. h))
-  block_by (Depopulating base populated) s is proper own plain once named at w legal = as_b c m k fine has all (Depopulating base populated) once named s (Depopulate base populated) w legal (λ l. framed_b c m k fine has all (Depopulating base populated) once named (Depopulate base populated) _ refl refl refl (λ page out. (let off = not_among_pages (pages_in_units c base populated) page (λ h. out (is page h)) in record { frame = unpainted (is_among (pages_in_units c base populated)) None m.frames page off; clean = λ h. unpainted (is_among (pages_in_units c base populated)) true m.stale page off ∙ h })))
-  block_by (UnlinkingGroups base) s is proper own plain once named at w legal = as_b c m k fine has all (UnlinkingGroups base) once named s (Unlink (group_starts c base)) w legal (λ l. groups_b c m k fine has all (UnlinkingGroups base) once named (group_starts c base) _ refl is.0)
-  block_by (SettlingObject object) s is proper own plain once named at w legal = as_b c m k fine has all (SettlingObject object) once named s (SettleObject object w.0) w.1 legal (λ l. quiet_b c m k fine has all (SettlingObject object) once named (SettleObject object w.0) _ refl refl refl refl (λ page h. h))
-  block_by (Unplacing object) s is proper own plain once named at w legal = as_b c m k fine has all (Unplacing object) once named s (Unplace object) w legal (λ l. quiet_b c m k fine has all (Unplacing object) once named (Unplace object) _ refl refl refl refl (λ page h. h))
-  block_by (GivingAlloc reply made) s is proper own plain once named at w legal = as_b c m k fine has all (GivingAlloc reply made) once named s GiveAlloc w legal (λ l. quiet_b c m k fine has all (GivingAlloc reply made) once named GiveAlloc _ tt refl refl refl (λ page h. h))
-  block_by (ChoosingAtomic bytes align) s is proper own plain once named at (inl w) legal = as_b c m k fine has all (ChoosingAtomic bytes align) once named s (PlaceAtomic w.0 align) w.2 legal (λ l. quiet_b c m k fine has all (ChoosingAtomic bytes align) once named (PlaceAtomic w.0 align) _ refl refl refl refl (λ page h. h))
-  block_by (ChoosingAtomic bytes align) s is proper own plain once named at (inr w) legal = as_b c m k fine has all (ChoosingAtomic bytes align) once named s (NoAtomic bytes align) w legal (λ l. quiet_b c m k fine has all (ChoosingAtomic bytes align) once named (NoAtomic bytes align) _ tt refl refl refl (λ page h. h))
-  block_by (Zeroing object) s is proper own plain once named at w legal = as_b c m k fine has all (Zeroing object) once named s (Zero object) w legal (λ l. quiet_b c m k fine has all (Zeroing object) once named (Zero object) _ refl refl refl refl (λ page h. h))
-  block_by (SettlingAtomic object) s is proper own plain once named at w legal = as_b c m k fine has all (SettlingAtomic object) once named s (SettleObject object w.0) w.1 legal (λ l. quiet_b c m k fine has all (SettlingAtomic object) once named (SettleObject object w.0) _ tt refl refl refl (λ page h. h))
-  block_by (FreeingObject object serial) s is proper own plain once named at (inl w) legal = as_b c m k fine has all (FreeingObject object serial) once named s (FreeObject object serial) w legal (λ l. quiet_b c m k fine has all (FreeingObject object serial) once named (FreeObject object serial) _ tt refl refl refl (λ page h. h))
-  block_by (FreeingObject object serial) s is proper own plain once named at (inr w) legal = as_b c m k fine has all (FreeingObject object serial) once named s (ObjectNotLive object serial) w legal (λ l. quiet_b c m k fine has all (FreeingObject object serial) once named (ObjectNotLive object serial) _ tt refl refl refl (λ page h. h))
-  block_by (Adding object serial cpu index amount) s is proper own plain once named at w legal = as_b c m k fine has all (Adding object serial cpu index amount) once named s (AddWord object serial cpu index amount) w legal (λ l. quiet_b c m k fine has all (Adding object serial cpu index amount) once named (AddWord object serial cpu index amount) _ tt refl refl refl (λ page h. h))
-  block_by (Summing object serial index) s is proper own plain once named at w legal = as_b c m k fine has all (Summing object serial index) once named s (SumWords object serial index w.0) w.1 legal (λ l. quiet_b c m k fine has all (Summing object serial index) once named (SumWords object serial index w.0) _ tt refl refl refl (λ page h. h))
-  block_by TakingToBalance s is proper own plain once named at w legal = as_b c m k fine has all TakingToBalance once named s TakeAlloc w legal (λ l. quiet_b c m k fine has all TakingToBalance once named TakeAlloc _ refl refl refl refl (λ page h. h))
-  block_by Sparing s is proper own plain once named at (inl w) legal = as_b c m k fine has all Sparing once named s (Spare w.0 w.1 w.2) w.3 legal (λ l. quiet_b c m k fine has all Sparing once named (Spare w.0 w.1 w.2) _ refl refl refl refl (λ page h. h))
-  block_by Sparing s is proper own plain once named at (inr w) legal = as_b c m k fine has all Sparing once named s NoSpare w legal (λ l. quiet_b c m k fine has all Sparing once named NoSpare _ refl refl refl refl (λ page h. h))
-  block_by (NextFill filled) s is proper own plain once named at (inl w) legal = as_b c m k fine has all (NextFill filled) once named s (NextPage w.0 w.1 w.2) w.3 legal (λ l. quiet_b c m k fine has all (NextFill filled) once named (NextPage w.0 w.1 w.2) _ refl refl refl refl (λ page h. h))
-  block_by (NextFill filled) s is proper own plain once named at (inr w) legal = as_b c m k fine has all (NextFill filled) once named s Enough w legal (λ l. quiet_b c m k fine has all (NextFill filled) once named Enough _ refl refl refl refl (λ page h. h))
-  block_by (NotingFilled chunk own_page filled) s is proper own plain once named at w legal = as_b c m k fine has all (NotingFilled chunk own_page filled) once named s (Filled chunk own_page) w legal (λ l. quiet_b c m k fine has all (NotingFilled chunk own_page filled) once named (Filled chunk own_page) _ refl refl refl refl (λ page h. h))
+  block_by (UnlinkingBlock start r) s is proper own plain once named at w legal =
+      as_b c m k fine has all (UnlinkingBlock start r) once named s (Unlink (start ∷ [])) w legal
+      (λ l. unlink_b c m k fine has all (UnlinkingBlock start r) once named (start ∷ []) _ refl refl)
+  block_by (SettlingGroups base chunk bytes align) s is proper own plain once named at w legal =
+      as_b c m k fine has all (SettlingGroups base chunk bytes align) once named s (Settle (group_areas c chunk base) w.0) w.1 legal
+      (λ l. settle_b c m k fine has all (SettlingGroups base chunk bytes align) once named (group_areas c chunk base) w.0 _ (λ start. omega arith) tt)
+  block_by (Populating object missing) s is proper own plain once named at (inl w) legal =
+      as_b c m k fine has all (Populating object missing) once named s (Populate object missing) w legal
+      (λ l. framed_b c m k fine has all (Populating object missing) once named (Populate object missing) _ refl refl refl (λ page out. record { frame = ungiven (pages_in_units c object.base missing) (free_frames c m.frames) m.frames page (not_among_pages (pages_in_units c object.base missing) page (λ h. out (is page h))); clean = λ h. h }))
+  block_by (Populating object missing) s is proper own plain once named at (inr w) legal = still_b c m k fine has all (Populating object missing) once named s _ (ap is_still w) (unblocky_next c (Populating object missing) s refl)
+  block_by (Filling chunk base own_page filled) s is proper own plain once named at (inl w) legal =
+      as_b c m k fine has all (Filling chunk base own_page filled) once named s (Fill base own_page) w legal
+      (λ l. framed_b c m k fine has all (Filling chunk base own_page filled) once named (Fill base own_page) _ refl refl refl (λ page out. record { frame = ungiven (pages_in_units c base (own_page ∷ [])) (free_frames c m.frames) m.frames page (not_among_pages (pages_in_units c base (own_page ∷ [])) page (λ h. out (is page h))); clean = λ h. h }))
+  block_by (Filling chunk base own_page filled) s is proper own plain once named at (inr w) legal = still_b c m k fine has all (Filling chunk base own_page filled) once named s _ (ap is_still w) (unblocky_next c (Filling chunk base own_page filled) s refl)
+  block_by (Depopulating base populated) s is proper own plain once named at w legal =
+      as_b c m k fine has all (Depopulating base populated) once named s (Depopulate base populated) w legal
+      (λ l. framed_b c m k fine has all (Depopulating base populated) once named (Depopulate base populated) _ refl refl refl (λ page out. (let off = not_among_pages (pages_in_units c base populated) page (λ h. out (is page h)) in record { frame = unpainted (is_among (pages_in_units c base populated)) None m.frames page off; clean = λ h. unpainted (is_among (pages_in_units c base populated)) true m.stale page off ∙ h })))
+  block_by (UnlinkingGroups base) s is proper own plain once named at w legal =
+      as_b c m k fine has all (UnlinkingGroups base) once named s (Unlink (group_starts c base)) w legal
+      (λ l. groups_b c m k fine has all (UnlinkingGroups base) once named (group_starts c base) _ refl is.0)
+  block_by p s is proper own plain once named at w legal = plain_b c m k fine has all p once named s refl refl w

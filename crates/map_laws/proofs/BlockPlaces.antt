@@ -1,14 +1,13 @@
 -- What each section does to blocks and parts at its place.
-use Rattle.std.proofs.Common.{Bool, List, None, Option, Some, [], ap, arith, false, inl, inr, not, refl, slice_get, subst, suc, sym, true, zero, ℕ, ◌+◌, ◌<◌, ◌==◌, ◌∙◌, ◌∷◌, ◌≡◌, ◌≤◌, ◌⊎◌}
+use Rattle.std.proofs.Common.{Bool, List, Some, [], ap, arith, false, inl, inr, not, refl, slice_get, subst, suc, sym, true, zero, ℕ, ◌+◌, ◌<◌, ◌==◌, ◌∙◌, ◌∷◌, ◌≡◌, ◌≤◌, ◌⊎◌}
 use Rattle.vm_model.specs.Areas.{areas_of, is_area, named_areas, spans_of, with_areas}
 use Rattle.vm_model.specs.Blocks.{PartAt}
 use Rattle.vm_model.specs.Carried.{count_of}
-use Rattle.vm_model.specs.Chunks.{ObjectAt}
 use Rattle.vm_model.specs.Effects.{effect_as}
-use Rattle.vm_model.specs.Events.{Remove, Section, Settle, Unlink}
+use Rattle.vm_model.specs.Events.{Remove, Section, Settle, Unlink, MapPages, Populate, Fill, Unmap, Depopulate, CutPart, AddBlock, SettlePart, BeginUnmap, Retire, Fragment, Flush}
 use Rattle.vm_model.specs.Legal.{IsLegalAs, IsMarked}
-use Rattle.vm_model.specs.Next.{Answer, Go, Next, after_atomic, after_collecting, after_flush, after_page, after_place, after_remove, after_spare, found, go_on, next, without_space}
-use Rattle.vm_model.specs.Places.{AddingBlock, Aim, ForArea, ForBlock, ForChunk, MadeNothing, MappingPart, Place, PurgeFragmenting, PurgeUnlinking, ReplyWith, Retiring, SearchAgain, SettlingBlock, SettlingPart, SpareAgain, Then, UnlinkingBlock, UnmappingPart}
+use Rattle.vm_model.specs.Next.{Answer, Go, Next, next}
+use Rattle.vm_model.specs.Places.{AddingBlock, MadeNothing, MappingPart, Place, PurgeFragmenting, PurgeUnlinking, Retiring, SettlingBlock, SettlingPart, UnlinkingBlock, UnmappingPart, AskSettle, AskRemove, AskUnlink, AskMap, AskPopulate, AskFill, AskUnmap, AskDepopulate, AskPart, AskAddBlock, AskSettlePart, AskBegin, AskRetire, AskFragment, Ask, ask, PurgeTaking, CuttingPart, BeginningUnmap}
 use Rattle.vm_model.specs.PlainMap.{Block, Held, PlainMap}
 use Rattle.vm_model.specs.Rules.{IsPower}
 use Rattle.vm_model.specs.Setup.{Setup}
@@ -16,6 +15,10 @@ use Rattle.vm_model.specs.Space.{holds, is_among, one_if, put_by, span, times}
 use Rattle.vm_model.specs.declared.areas.Area.{Area}
 use Rattle.vm_model.specs.declared.areas.AreaKind.{AreaKind}
 use Rattle.vm_model.specs.declared.areas.Span.{Span}
+use Rattle.vm_model.specs.LegalHistory.{Meets}
+use Rattle.map_laws.proofs.AskRows.{AskRow, Refused, ask_row}
+use Rattle.map_laws.proofs.PlaceRows.{PlaceRow, Stays, place_row}
+use Rattle.map_laws.proofs.Touched.{painted_still}
 use Rattle.map_laws.proofs.AreaFacts.{IsHolding, IsMapFine, own_uses}
 use Rattle.map_laws.proofs.BlockFacts.{IsBlockArea, IsBlockAt, IsBlockFine, IsPartIn, IsStill, block_out, block_starts, count_cons, counted_block, not_among, to_same}
 use Rattle.map_laws.proofs.BlockMoves.{IsBlockMoved, area_holds, next_out, outer_moved}
@@ -70,54 +73,88 @@ no_next_at : (c : Setup) (m : PlainMap) (k : ℕ) (n : Next) → OnNext IsUnbloc
 no_next_at c m k (Go p) h = unblocky_at c m k p h
 no_next_at c m k (Answer r made) h = tt
 
-pub found_un : (aim : Aim) (o : Option Span) (base : Option ℕ) (otherwise : Next) → OnNext IsUnblocky otherwise → OnNext IsUnblocky (found aim o base otherwise)
-found_un (ForArea k) (Some place) base otherwise h = refl
-found_un (ForArea k) None (Some base) otherwise h = tt
-found_un (ForArea k) None None otherwise h = h
-found_un (ForBlock cpu pages) (Some place) base otherwise h = refl
-found_un (ForBlock cpu pages) None (Some base) otherwise h = tt
-found_un (ForBlock cpu pages) None None otherwise h = h
-found_un (ForChunk chunk bytes align) (Some place) base otherwise h = tt
-found_un (ForChunk chunk bytes align) None (Some base) otherwise h = refl
-found_un (ForChunk chunk bytes align) None None otherwise h = h
+-- places from which a section can lead to one of these
+abbrev pub leads_blocky : Place → Bool
+leads_blocky (PurgeTaking extra after) = true
+leads_blocky (PurgeFragmenting cpu gone extra after) = true
+leads_blocky (CuttingPart cpu pages) = true
+leads_blocky (SettlingBlock place cpu pages) = true
+leads_blocky (AddingBlock at) = true
+leads_blocky (MappingPart at) = true
+leads_blocky (BeginningUnmap cpu page serial) = true
+leads_blocky (UnmappingPart at) = true
+leads_blocky (Retiring at reply) = true
+leads_blocky _ = false
 
-pub no_space_un : (aim : Aim) → OnNext IsUnblocky (without_space aim)
-no_space_un (ForArea k) = tt
-no_space_un (ForBlock cpu pages) = tt
-no_space_un (ForChunk chunk bytes align) = refl
+unblocky_row : (c : Setup) (s : Section) (p : Place) (n : Next) → PlaceRow c s p n → leads_blocky p ≡ false → OnNext IsUnblocky n
+unblocky_row c s _ _ Stays h = refl
+unblocky_row c s _ _ _ h = cc
 
-pub removed_un : (o : Option Area) → OnNext IsUnblocky (after_remove o)
-removed_un None = tt
-removed_un (Some area) = refl
+pub unblocky_next : (c : Setup) (p : Place) (s : Section) → leads_blocky p ≡ false → OnNext IsUnblocky (next c p s)
+unblocky_next c p s h = unblocky_row c s p (next c p s) (place_row c s p) h
 
-pub went_on_un : (after : Then) → OnNext IsUnblocky (go_on after)
-went_on_un (SearchAgain search aim) = refl
-went_on_un (ReplyWith reply) = tt
-went_on_un SpareAgain = refl
+-- sections that leave blocks, areas and frames
+abbrev pub is_still : Section → Bool
+is_still (Settle areas first) = false
+is_still (Remove start serial area) = false
+is_still (Unlink starts) = false
+is_still (MapPages p) = false
+is_still (Populate at missing) = false
+is_still (Fill base page) = false
+is_still (Unmap p) = false
+is_still (Depopulate base pages) = false
+is_still (CutPart at) = false
+is_still (AddBlock at) = false
+is_still (SettlePart at serial) = false
+is_still (BeginUnmap at serial) = false
+is_still (Retire at spent) = false
+is_still (Fragment cpu gone) = false
+is_still _ = true
 
-pub collected_un : (waited : List Span) (o : Option Span) (after : Then) → OnNext IsUnblocky (after_collecting waited o after)
-collected_un waited None after = refl
-collected_un waited (Some s) after = refl
+abbrev pub asks_still : Ask → Bool
+asks_still (AskSettle areas) = false
+asks_still (AskRemove start serial) = false
+asks_still (AskUnlink starts) = false
+asks_still (AskMap p) = false
+asks_still (AskPopulate at missing) = false
+asks_still (AskFill base page) = false
+asks_still (AskUnmap p) = false
+asks_still (AskDepopulate base pages) = false
+asks_still (AskPart cpu pages) = false
+asks_still (AskAddBlock at) = false
+asks_still (AskSettlePart at) = false
+asks_still (AskBegin cpu page serial) = false
+asks_still (AskRetire at) = false
+asks_still (AskFragment cpu) = false
+asks_still _ = true
 
-pub flushed_un : (waited : List Span) (after : Then) → OnNext IsUnblocky (after_flush waited after)
-flushed_un [] after = refl
-flushed_un (s ∷ waited) after = refl
+still_row : (c : Setup) (a : Ask) (s : Section) → AskRow c a s → asks_still a ≡ true → is_still s ≡ true
+still_row c _ _ Refused h = refl
+still_row c _ _ _ h = cc
 
-pub placed_un : (bytes align n : ℕ) (o : Option (ObjectAt × List ℕ)) → OnNext IsUnblocky (after_place bytes align n o)
-placed_un bytes align n None = refl
-placed_un bytes align n (Some p) = refl
+pub record LeavesBlocks (m m' : PlainMap) : Type 0 where
+  pub blocks : m'.blocks ≡ m.blocks
+  pub areas : m'.areas ≡ m.areas
+  pub frames : m'.frames ≡ m.frames
+  pub clean : (page : ℕ) → slice_get m.stale page ≡ Some false → slice_get m'.stale page ≡ Some false
 
-pub atomic_un : (o : Option (ObjectAt × List ℕ)) → OnNext IsUnblocky (after_atomic o)
-atomic_un None = tt
-atomic_un (Some p) = refl
-
-pub spared_un : (o : Option (ℕ × List ℕ)) → OnNext IsUnblocky (after_spare o)
-spared_un None = refl
-spared_un (Some p) = refl
-
-pub page_un : (filled : ℕ) (o : Option (ℕ × ℕ × ℕ)) → OnNext IsUnblocky (after_page filled o)
-page_un filled None = refl
-page_un filled (Some p) = refl
+leaves_blocks : (c : Setup) (m : PlainMap) (k : ℕ) (s : Section) → is_still s ≡ true → LeavesBlocks m (effect_as c m k s)
+leaves_blocks c m k (Settle areas first) h = cc
+leaves_blocks c m k (Remove start serial area) h = cc
+leaves_blocks c m k (Unlink starts) h = cc
+leaves_blocks c m k (MapPages p) h = cc
+leaves_blocks c m k (Populate at missing) h = cc
+leaves_blocks c m k (Fill base page) h = cc
+leaves_blocks c m k (Unmap p) h = cc
+leaves_blocks c m k (Depopulate base pages) h = cc
+leaves_blocks c m k (CutPart at) h = cc
+leaves_blocks c m k (AddBlock at) h = cc
+leaves_blocks c m k (SettlePart at serial) h = cc
+leaves_blocks c m k (BeginUnmap at serial) h = cc
+leaves_blocks c m k (Retire at spent) h = cc
+leaves_blocks c m k (Fragment cpu gone) h = cc
+leaves_blocks c m k (Flush p) h = record { blocks = refl; areas = refl; frames = refl; clean = λ page e. painted_still (holds p) false m.stale page e }
+leaves_blocks c m k _ h = record { blocks = refl; areas = refl; frames = refl; clean = λ page e. e }
 
 -- Areas that stay among others.
 
@@ -166,6 +203,12 @@ module _ (c : Setup) (m : PlainMap) (k : ℕ) (fine : IsMapFine m) (has : HasPar
         → ((page : ℕ) → slice_get m.stale page ≡ Some false → slice_get (effect_as c m k s).stale page ≡ Some false) → IsBlockMoved c m k p s n
     quiet_b s n un blocks areas frames clean = outer_moved c m k p s n all named blocks (λ a cpu there kd z. subst (IsIn a) (sym areas) there)
         (λ page start area a b. record { frame = ap (λ l. slice_get l page) frames; clean = clean page }) (λ start. omega (arith, no_next_out n start un)) (no_next_at c (effect_as c m k s) k n un)
+
+    pub still_b : (s : Section) (n : Next) → is_still s ≡ true → OnNext IsUnblocky n → IsBlockMoved c m k p s n
+    still_b s n h un = let is = leaves_blocks c m k s h in quiet_b s n un is.blocks is.areas is.frames is.clean
+
+    pub plain_b : (s : Section) → asks_still (ask c p) ≡ true → leads_blocky p ≡ false → Meets c (ask c p) s → IsBlockMoved c m k p s (next c p s)
+    plain_b s asks leads w = still_b s (next c p s) (still_row c (ask c p) s (ask_row c (ask c p) s w) asks) (unblocky_next c p s leads)
 
     pub settle_b : (areas : List (Span × AreaKind)) (first : ℕ) (n : Next) → ((start : ℕ) → next_out n start ≤ count_of start (block_out p)) → OnNext (IsBlockAt c (effect_as c m k (Settle areas first)) k) n → IsBlockMoved c m k p (Settle areas first) n
     settle_b areas first n outs own = outer_moved c m k p (Settle areas first) n all named refl (λ a cpu there kd z. with_keeps (areas_of k first areas) m.areas a there)

@@ -26,7 +26,7 @@ use Rattle.map_laws.proofs.Lists.{set_cases}
 use Rattle.map_laws.proofs.MapMoves.{area_times}
 use Rattle.map_laws.proofs.OrTests.{or_false, or_right}
 use Rattle.map_laws.proofs.OutMoves.{IsInside, IsUnlinked, sum_two}
-use Rattle.map_laws.proofs.Places.{HaveBeginnings, IsPlainKind, OnNext, answers_call, begins_with}
+use Rattle.map_laws.proofs.Places.{HaveBeginnings, AtOver, IsPlainKind, OnNext, answers_call, begins_with}
 use Rattle.map_laws.proofs.Spans.{InSpans, Inside, Outside, covers_one, holds_to, in_spans, times-cons}
 use Rattle.vm_model.specs.declared.areas.AreaKind.TheVariants as kind
 
@@ -36,21 +36,8 @@ pub record IsBlockWorld (c : Setup) (w : World) : Type 0 where
   pub each : (k : ℕ) (l : Local) → slice_get w.locals k ≡ Some l → IsBlockAt c w.map l.caller l.place
 
 pub unblocky_begins : (c : Setup) → HaveBeginnings IsUnblocky c
-unblocky_begins c = record {
-  over = refl;
-  refused = λ r. refl;
-  area = λ pages align k plain some. refl;
-  part = λ cpu pages e f. refl;
-  dirty = refl;
-  object = λ bytes align few. refl;
-  atomic = λ bytes align few. refl;
-  remove = λ start serial. refl;
-  unmap = λ cpu page serial. refl;
-  free = λ at serial. refl;
-  add = λ at serial cpu index amount. refl;
-  sum = λ at serial index. refl;
-  balance = refl;
-}
+unblocky_begins c _ AtOver = refl
+unblocky_begins c _ _ = refl
 
 sum_by_first : {X : Type 0} (f : X → ℕ) (x : X) (xs : List X) (n : ℕ) → f x ≡ n → 1 ≤ sum_by f (x ∷ xs) → (1 ≤ sum_by f xs → (i : ℕ) × (y : X) × (slice_get xs i ≡ Some y) × (1 ≤ f y)) → (i : ℕ) × (y : X) × (slice_get (x ∷ xs) i ≡ Some y) × (1 ≤ f y)
 sum_by_first f x xs zero e h more = let is = more (omega (arith, sum_by-cons f x xs)) in (suc is.0, is.1, is.2, is.3)

@@ -1,23 +1,19 @@
 -- The number that a caller's new chunk gets is the next one, up to its section.
-use Rattle.std.proofs.Common.{Bool, List, None, Option, Some, [], arith, false, inl, inr, nat_lt, refl, subst, suc, sym, true, ℕ, ◌++◌, ◌∙◌, ◌∷◌, ◌≡◌, ◌⊎◌}
-use Rattle.vm_model.specs.Blocks.{PartAt}
+use Rattle.std.proofs.Common.{Bool, None, Option, Some, arith, false, inl, inr, refl, subst, sym, true, ℕ, ◌∙◌, ◌≡◌, ◌⊎◌}
 use Rattle.vm_model.specs.Carried.{has_alloc, is_for_chunk, keeps_alloc}
-use Rattle.vm_model.specs.Chunks.{ObjectAt}
 use Rattle.vm_model.specs.Effects.{effect_as}
 use Rattle.vm_model.specs.Events.{AddChunk, Section}
 use Rattle.vm_model.specs.Legal.{IsLegalAs}
 use Rattle.vm_model.specs.LegalHistory.{Meets}
-use Rattle.vm_model.specs.Next.{Answer, Go, Next, after_atomic, after_begin, after_collecting, after_cut, after_flush, after_fragments, after_page, after_remove, after_spare, found, go_on, next, without_space}
-use Rattle.vm_model.specs.Places.{Adding, AddingChunk, Aim, BeginningUnmap, Choosing, ChoosingAtomic, CuttingPart, Dropping, Filling, Finding, FindingAgain, ForArea, ForBlock, ForChunk, FreeingObject, GivingAlloc, LookingAtDirty, MappingArea, MappingPart, NextFill, Place, Populating, PurgeCollecting, PurgeFlushing, PurgeFragmenting, PurgeGiving, PurgeReturning, PurgeTaking, PurgeUnlinking, PurgeWaiting, Refusing, Removing, ReplyWith, Retiring, SearchAgain, SettlingArea, SettlingAtomic, SettlingGroups, SettlingPart, SpareAgain, Sparing, Summing, Then, Waiting, ask}
+use Rattle.vm_model.specs.Next.{Answer, Go, Next, next}
+use Rattle.vm_model.specs.Places.{AddingChunk, Aim, Choosing, Finding, FindingAgain, ForArea, ForBlock, ForChunk, Place, PurgeCollecting, PurgeFlushing, PurgeFragmenting, PurgeGiving, PurgeReturning, PurgeTaking, PurgeUnlinking, PurgeWaiting, ReplyWith, SearchAgain, SettlingGroups, SpareAgain, Then, Waiting, ask}
 use Rattle.vm_model.specs.PlainMap.{PlainMap}
-use Rattle.vm_model.specs.Setup.{Setup, cpus}
-use Rattle.vm_model.specs.Space.{hull}
-use Rattle.vm_model.specs.Told.{blocks_gone, carved, carved_base, had_frames, page_told, pages_waiting, part_told, placed, removed, spans_taken, spare_told, was_live, was_spent}
-use Rattle.vm_model.specs.declared.areas.Area.{Area}
-use Rattle.vm_model.specs.declared.areas.Span.{Span}
+use Rattle.vm_model.specs.Setup.{Setup}
+use Rattle.vm_model.specs.Told.{placed}
+use Rattle.map_laws.proofs.PlaceRows.{PlaceRow, Stays, NoSpaceForChunk, Chose, ChoseNone, AddedChunk, AddedNone, place_row}
 use Rattle.map_laws.proofs.ChunkFalls.{added}
 use Rattle.map_laws.proofs.Filling.{adds_nothing, asks_chunk}
-use Rattle.map_laws.proofs.Places.{OnNext, either_next}
+use Rattle.map_laws.proofs.Places.{OnNext}
 
 abbrev pub number_aim : Aim → Option ℕ
 number_aim (ForArea k) = None
@@ -80,66 +76,6 @@ number_alloc (AddingChunk base chunk bytes align) number e = refl
 number_alloc _ number e = cc
 
 module _ (c : Setup) where
-  unnumbered : (o : Option ℕ) (q : Place) → chunk_number q ≡ None → HasNumber o q
-  unnumbered o q none number e = cc
-
-  found_number : (aim : Aim) (o : Option Span) (base : Option ℕ) (otherwise : Next) → OnNext (HasNumber (number_aim aim)) otherwise → OnNext (HasNumber (number_aim aim)) (found aim o base otherwise)
-  found_number (ForArea k) (Some place) base otherwise h = λ number e. cc
-  found_number (ForArea k) None (Some base) otherwise h = tt
-  found_number (ForArea k) None None otherwise h = h
-  found_number (ForBlock cpu pages) (Some place) base otherwise h = λ number e. cc
-  found_number (ForBlock cpu pages) None (Some base) otherwise h = tt
-  found_number (ForBlock cpu pages) None None otherwise h = h
-  found_number (ForChunk chunk bytes align) (Some place) base otherwise h = tt
-  found_number (ForChunk chunk bytes align) None (Some base) otherwise h = λ number e. e
-  found_number (ForChunk chunk bytes align) None None otherwise h = h
-
-  no_space_number : (aim : Aim) (o : Option ℕ) → OnNext (HasNumber o) (without_space aim)
-  no_space_number (ForArea k) o = tt
-  no_space_number (ForBlock cpu pages) o = tt
-  no_space_number (ForChunk chunk bytes align) o = λ number e. cc
-
-  removed_number : (o : Option Area) (was : Option ℕ) → OnNext (HasNumber was) (after_remove o)
-  removed_number None was = tt
-  removed_number (Some area) was = λ number e. cc
-
-  went_on_number : (after : Then) → OnNext (HasNumber (number_then after)) (go_on after)
-  went_on_number (SearchAgain search aim) = λ number e. e
-  went_on_number (ReplyWith reply) = tt
-  went_on_number SpareAgain = λ number e. cc
-
-  fragments_number : (gone : List ℕ) (extra : Option Span) (after : Then) → HasNumber (number_then after) (after_fragments gone extra after)
-  fragments_number [] extra after = λ number e. e
-  fragments_number (start ∷ gone) extra after = λ number e. e
-
-  collected_number : (waited : List Span) (o : Option Span) (after : Then) → OnNext (HasNumber (number_then after)) (after_collecting waited o after)
-  collected_number waited None after = λ number e. e
-  collected_number waited (Some s) after = λ number e. e
-
-  flushed_number : (waited : List Span) (after : Then) → OnNext (HasNumber (number_then after)) (after_flush waited after)
-  flushed_number [] after = λ number e. e
-  flushed_number (s ∷ waited) after = λ number e. e
-
-  cut_number : (cpu pages : ℕ) (o : Option PartAt) (was : Option ℕ) → OnNext (HasNumber was) (after_cut c cpu pages o)
-  cut_number cpu pages None was = λ number e. cc
-  cut_number cpu pages (Some at) was = λ number e. cc
-
-  begun_number : (o : Option PartAt) (was : Option ℕ) → OnNext (HasNumber was) (after_begin o)
-  begun_number None was = tt
-  begun_number (Some at) was = λ number e. cc
-
-  atomic_number : (o : Option (ObjectAt × List ℕ)) (was : Option ℕ) → OnNext (HasNumber was) (after_atomic o)
-  atomic_number None was = tt
-  atomic_number (Some p) was = λ number e. cc
-
-  spared_number : (o : Option (ℕ × List ℕ)) (was : Option ℕ) → OnNext (HasNumber was) (after_spare o)
-  spared_number None was = λ number e. cc
-  spared_number (Some p) was = λ number e. cc
-
-  page_number : (filled : ℕ) (o : Option (ℕ × ℕ × ℕ)) (was : Option ℕ) → OnNext (HasNumber was) (after_page filled o)
-  page_number filled None was = λ number e. cc
-  page_number filled (Some p) was = λ number e. cc
-
   -- places that choose a chunk
   abbrev pub is_choosing : Place → Bool
   is_choosing (Choosing bytes align) = true
@@ -147,38 +83,17 @@ module _ (c : Setup) where
   is_choosing _ = false
 
   -- a section elsewhere leads to no other number
+  number_row : (s : Section) (p : Place) (n : Next) → PlaceRow c s p n → is_choosing p ≡ false → OnNext (HasNumber (chunk_number p)) n
+  number_row s _ _ Stays h = λ number e. e
+  number_row s _ _ (NoSpaceForChunk search chunk bytes align) h = λ number e. cc
+  number_row s _ _ (Chose bytes align at missing placed) h = cc
+  number_row s _ _ (ChoseNone bytes align) h = cc
+  number_row s _ _ (AddedChunk base chunk bytes align at missing placed) h = cc
+  number_row s _ _ (AddedNone base chunk bytes align placed) h = cc
+  number_row s _ _ _ h = search
+
   pub number_next : (p : Place) (s : Section) → is_choosing p ≡ false → OnNext (HasNumber (chunk_number p)) (next c p s)
-  number_next (Choosing bytes align) s h = cc
-  number_next (AddingChunk base chunk bytes align) s h = cc
-  number_next (Finding search aim) s h = found_number aim (carved s) (carved_base s) _ (λ number e. e)
-  number_next (FindingAgain search aim) s h = found_number aim (carved s) (carved_base s) _ (no_space_number aim (number_aim aim))
-  number_next (MappingArea place k) s h = either_next (HasNumber None) (had_frames s) _ _ (λ number e. e) (λ number e. e)
-  number_next (Removing start serial) s h = removed_number (removed s) None
-  number_next (Waiting spans after) s h = either_next (HasNumber (number_then after)) (nat_lt c.lazy (pages_waiting s)) _ _ (λ number e. e) (went_on_number after)
-  number_next (PurgeFragmenting cpu gone extra after) s h = either_next (HasNumber (number_then after)) (nat_lt (suc cpu) (cpus c)) _ _ (λ number e. e) (fragments_number (gone ++ blocks_gone s) extra after)
-  number_next (PurgeCollecting extra after) s h = collected_number (spans_taken s) _ after
-  number_next (PurgeFlushing hull waited after) s h = flushed_number waited after
-  number_next (PurgeGiving after) s h = went_on_number after
-  number_next (CuttingPart cpu pages) s h = cut_number cpu pages (part_told s) None
-  number_next (MappingPart at) s h = either_next (HasNumber None) (had_frames s) _ _ (λ number e. e) (λ number e. e)
-  number_next (BeginningUnmap cpu page serial) s h = begun_number (part_told s) None
-  number_next (Retiring at reply) s h = either_next (HasNumber None) (was_spent s) _ _ (λ number e. e) tt
-  number_next (LookingAtDirty cpu ranges) s h = either_next (HasNumber None) (nat_lt (suc cpu) (cpus c)) _ _ (λ number e. e) (λ number e. e)
-  number_next (Populating at missing) s h = either_next (HasNumber None) (had_frames s) _ _ (λ number e. e) (λ number e. e)
-  number_next (ChoosingAtomic bytes align) s h = atomic_number (placed s) None
-  number_next (FreeingObject at serial) s h = either_next (HasNumber None) (was_live s) _ _ tt tt
-  number_next Sparing s h = spared_number (spare_told s) None
-  number_next (NextFill filled) s h = page_number filled (page_told s) None
-  number_next (Filling chunk base page filled) s h = either_next (HasNumber None) (had_frames s) _ _ (λ number e. e) (λ number e. e)
-  number_next (Refusing reply) s h = tt
-  number_next (Dropping place) s h = tt
-  number_next (SettlingArea place own) s h = tt
-  number_next (SettlingPart at) s h = tt
-  number_next (GivingAlloc reply made) s h = tt
-  number_next (SettlingAtomic at) s h = tt
-  number_next (Adding at serial cpu index amount) s h = tt
-  number_next (Summing at serial index) s h = tt
-  number_next _ s h = λ number e. e
+  number_next p s h = number_row s p (next c p s) (place_row c s p) h
 
   module _ (m : PlainMap) (k : ℕ) where
     -- no other section gives a chunk a number

@@ -30,7 +30,7 @@ use Rattle.map_laws.proofs.ChunkUnlinked.{groups_unlinked}
 use Rattle.map_laws.proofs.GroupsFree.{groups_free}
 use Rattle.map_laws.proofs.Lists.{append_cases, set_cases, there}
 use Rattle.map_laws.proofs.Others.{SomeOther, other_or, others_still, someone_joins}
-use Rattle.map_laws.proofs.Places.{HaveBeginnings, OnNext, answers_call, begins_with}
+use Rattle.map_laws.proofs.Places.{HaveBeginnings, AtOver, OnNext, answers_call, begins_with}
 use Rattle.map_laws.specs.Turns.{AreTurnsKept}
 
 module _ (c : Setup) (units : AreUnits c) (groups : AreGroups c) (m : PlainMap) (once : (page : ℕ) → times page (spans_of m.areas) ≤ 1) (full : (a : Area) → IsIn a m.areas → 1 ≤ a.span.pages) (some : 1 ≤ c.block_pages)
@@ -79,21 +79,8 @@ busy_alloc (NotingFilled chunk own filled) number page b = refl
 busy_alloc _ number page b = absurd b
 
 pub unchunked_begins : (c : Setup) → HaveBeginnings IsUnchunked c
-unchunked_begins c = record {
-  over = refl;
-  refused = λ r. refl;
-  area = λ pages align k plain some. refl;
-  part = λ cpu pages e f. refl;
-  dirty = refl;
-  object = λ bytes align few. refl;
-  atomic = λ bytes align few. refl;
-  remove = λ start serial. refl;
-  unmap = λ cpu page serial. refl;
-  free = λ at serial. refl;
-  add = λ at serial cpu index amount. refl;
-  sum = λ at serial index. refl;
-  balance = refl;
-}
+unchunked_begins c _ AtOver = refl
+unchunked_begins c _ _ = refl
 
 -- the other callers that are populating
 abbrev pub OthersPopulate : World → ℕ → (number page : ℕ) → Type 0

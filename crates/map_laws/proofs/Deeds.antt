@@ -1,16 +1,21 @@
 -- What a section is for is known from the ask that it meets.
-use Rattle.std.proofs.Common.{◌≡◌, ◌≢◌, ℕ, ◌⊎◌, inl, inr, List, Option, refl, ap, sym, ◌∙◌, subst, ℤ}
+use Rattle.std.proofs.Common.{◌≡◌, ◌≢◌, ℕ, inl, inr, List, [], ◌∷◌, Option, refl, ap, sym, ◌∙◌, subst, ℤ}
 use Rattle.vm_model.specs.declared.areas.Span.{Span}
+use Rattle.vm_model.specs.declared.areas.Area.{Area}
+use Rattle.vm_model.specs.declared.calls.Reply.{Reply}
 use Rattle.vm_model.specs.Setup.{Setup}
 use Rattle.vm_model.specs.Chunks.{ObjectAt}
-use Rattle.vm_model.specs.Events.{Section, ForPages, ForGroups, Drop, Return, TakeWaiting, Populate, Zero, AddWord, SumWords, SettleObject}
-use Rattle.vm_model.specs.Places.{Place, Zeroing, Adding, Summing, SettlingObject, SettlingAtomic, Dropping, PurgeCollecting, PurgeReturning, Populating, Then, Ask, AskNothing, AskRefuse, AskTakePurge, AskGivePurge, AskTakeAlloc, AskGiveAlloc, AskSearch, AskDrop, AskReturn, AskSettle, AskRemove, AskUnlink, AskWait, AskTakeWaiting, AskMap, AskPopulate, AskFill, AskUnmap, AskDepopulate, AskFlush, AskZero, AskAdd, AskSum, AskPlace, AskAddChunk, AskAtomic, AskSettleObject, AskUnplace, AskFree, AskSpare, AskNextPage, AskFilled, AskPart, AskAddBlock, AskSettlePart, AskBegin, AskRetire, AskFragment, AskDirty, ask}
+use Rattle.vm_model.specs.Events.{Section, Drop, Return, Remove, Unlink, TakeWaiting, Populate, Zero, AddWord, SumWords, SettleObject}
+use Rattle.vm_model.specs.Places.{Place, Zeroing, Adding, Summing, SettlingObject, SettlingAtomic, Dropping, Removing, PurgeUnlinking, UnlinkingBlock, UnlinkingGroups, PurgeCollecting, PurgeReturning, Populating, Then, Ask, AskDrop, AskReturn, AskRemove, AskUnlink, AskTakeWaiting, AskPopulate, AskZero, AskAdd, AskSum, AskSettleObject, ask, group_starts}
+use Rattle.map_laws.proofs.AskRows.{AskRow, Refused, ask_row}
 use Rattle.vm_model.specs.LegalHistory.{Meets}
 
--- the sections that mark pages free, take what waits, give an object frames, or are of its words or life
+-- the sections that mark pages free, take areas out, take what waits, give an object frames, or are of its words or life
 pub data Deed : Type 0 where
   Drops : Deed
   Returns : Deed
+  Removes : Deed
+  Unlinks : Deed
   Collects : Deed
   Populates : Deed
   Zeroes : Deed
@@ -22,6 +27,8 @@ pub data Deed : Type 0 where
 abbrev pub asked : Ask → Deed
 asked (AskDrop s) = Drops
 asked (AskReturn spans) = Returns
+asked (AskRemove start serial) = Removes
+asked (AskUnlink starts) = Unlinks
 asked AskTakeWaiting = Collects
 asked (AskPopulate at missing) = Populates
 asked (AskZero at) = Zeroes
@@ -33,6 +40,8 @@ asked _ = Others
 abbrev pub deed : Section → Deed
 deed (Drop s) = Drops
 deed (Return spans) = Returns
+deed (Remove start serial area) = Removes
+deed (Unlink starts) = Unlinks
 deed (TakeWaiting all) = Collects
 deed (Populate at missing) = Populates
 deed (Zero at) = Zeroes
@@ -41,75 +50,13 @@ deed (SumWords at serial index total) = Sums
 deed (SettleObject at serial) = Settles
 deed _ = Others
 
--- a section does what was asked for, or nothing of this kind
-other : (s t : Section) (d : Deed) → s ≡ t → deed t ≡ Others → (deed s ≡ Others) ⊎ (deed s ≡ d)
-other s t d e h = inl (ap deed e ∙ h)
-
-own : (s t : Section) (d : Deed) → s ≡ t → deed t ≡ d → (deed s ≡ Others) ⊎ (deed s ≡ d)
-own s t d e h = inr (ap deed e ∙ h)
-
-meets_deed : (c : Setup) (a : Ask) (s : Section) → Meets c a s → (deed s ≡ Others) ⊎ (deed s ≡ asked a)
-meets_deed c AskNothing s w = absurd w
-meets_deed c AskRefuse s w = other s _ _ w refl
-meets_deed c AskTakePurge s w = other s _ _ w refl
-meets_deed c AskGivePurge s w = other s _ _ w refl
-meets_deed c AskTakeAlloc s w = other s _ _ w refl
-meets_deed c AskGiveAlloc s w = other s _ _ w refl
-meets_deed c (AskSearch (ForPages pages align)) s (inl w) = other s _ _ w.1 refl
-meets_deed c (AskSearch (ForPages pages align)) s (inr w) = other s _ _ w refl
-meets_deed c (AskSearch ForGroups) s (inl w) = other s _ _ w.1 refl
-meets_deed c (AskSearch ForGroups) s (inr w) = other s _ _ w refl
-meets_deed c (AskDrop p) s w = own s _ _ w refl
-meets_deed c (AskReturn spans) s w = own s _ _ w refl
-meets_deed c (AskSettle areas) s w = other s _ _ w.1 refl
-meets_deed c (AskRemove start serial) s (inl w) = other s _ _ w.1 refl
-meets_deed c (AskRemove start serial) s (inr w) = other s _ _ w refl
-meets_deed c (AskUnlink starts) s w = other s _ _ w refl
-meets_deed c (AskWait spans) s w = other s _ _ w.1 refl
-meets_deed c AskTakeWaiting s w = own s _ _ w.1 refl
-meets_deed c (AskMap p) s (inl w) = other s _ _ w refl
-meets_deed c (AskMap p) s (inr w) = other s _ _ w refl
-meets_deed c (AskPopulate at missing) s (inl w) = own s _ _ w refl
-meets_deed c (AskPopulate at missing) s (inr w) = other s _ _ w refl
-meets_deed c (AskFill base page) s (inl w) = other s _ _ w refl
-meets_deed c (AskFill base page) s (inr w) = other s _ _ w refl
-meets_deed c (AskUnmap p) s w = other s _ _ w refl
-meets_deed c (AskDepopulate base pages) s w = other s _ _ w refl
-meets_deed c (AskFlush p) s w = other s _ _ w refl
-meets_deed c (AskZero at) s w = own s _ _ w refl
-meets_deed c (AskAdd at serial cpu index amount) s w = own s _ _ w refl
-meets_deed c (AskSum at serial index) s w = own s _ _ w.1 refl
-meets_deed c (AskPlace bytes align) s (inl w) = other s _ _ w.3 refl
-meets_deed c (AskPlace bytes align) s (inr w) = other s _ _ w.1 refl
-meets_deed c (AskAddChunk chunk base bytes align) s w = other s _ _ w.3 refl
-meets_deed c (AskAtomic bytes align) s (inl w) = other s _ _ w.2 refl
-meets_deed c (AskAtomic bytes align) s (inr w) = other s _ _ w refl
-meets_deed c (AskSettleObject at) s w = own s _ _ w.1 refl
-meets_deed c (AskUnplace at) s w = other s _ _ w refl
-meets_deed c (AskFree at serial) s (inl w) = other s _ _ w refl
-meets_deed c (AskFree at serial) s (inr w) = other s _ _ w refl
-meets_deed c AskSpare s (inl w) = other s _ _ w.3 refl
-meets_deed c AskSpare s (inr w) = other s _ _ w refl
-meets_deed c AskNextPage s (inl w) = other s _ _ w.3 refl
-meets_deed c AskNextPage s (inr w) = other s _ _ w refl
-meets_deed c (AskFilled chunk page) s w = other s _ _ w refl
-meets_deed c (AskPart cpu pages) s (inl w) = other s _ _ w.3 refl
-meets_deed c (AskPart cpu pages) s (inr w) = other s _ _ w refl
-meets_deed c (AskAddBlock at) s w = other s _ _ w refl
-meets_deed c (AskSettlePart at) s w = other s _ _ w.1 refl
-meets_deed c (AskBegin cpu page serial) s (inl w) = other s _ _ w.3 refl
-meets_deed c (AskBegin cpu page serial) s (inr w) = other s _ _ w refl
-meets_deed c (AskRetire at) s w = other s _ _ w.1 refl
-meets_deed c (AskFragment cpu) s w = other s _ _ w.1 refl
-meets_deed c (AskDirty cpu) s w = other s _ _ w.1 refl
-
--- a section of this kind was asked for
-by_deed : (s : Section) (d e : Deed) → deed s ≡ d → d ≢ Others → (deed s ≡ Others) ⊎ (deed s ≡ e) → e ≡ d
-by_deed s d e h n (inl f) = absurd (n (sym h ∙ f))
-by_deed s d e h n (inr f) = sym f ∙ h
+-- a section of such a kind was asked for
+deed_row : (c : Setup) (a : Ask) (s : Section) → AskRow c a s → deed s ≢ Others → asked a ≡ deed s
+deed_row c _ _ Refused n = absurd (n refl)
+deed_row c _ _ _ n = search
 
 was_asked : (c : Setup) (a : Ask) (s : Section) (d : Deed) → Meets c a s → deed s ≡ d → d ≢ Others → asked a ≡ d
-was_asked c a s d w h n = by_deed s d (asked a) h n (meets_deed c a s w)
+was_asked c a s d w h n = deed_row c a s (ask_row c a s w) (λ e. n (sym h ∙ e)) ∙ h
 
 -- The places at which a caller does these.
 
@@ -121,6 +68,23 @@ drops_at c p s w = let e = was_asked c (ask c p) (Drop s) Drops w refl (λ e. cc
 pub returns_at : (c : Setup) (p : Place) (spans : List Span) → Meets c (ask c p) (Return spans) → (after : Then) × (p ≡ PurgeReturning spans after)
 returns_at c (PurgeReturning waited after) spans w = let e : waited ≡ spans = cc in (after, ap (λ x. PurgeReturning x after) e)
 returns_at c p spans w = let e = was_asked c (ask c p) (Return spans) Returns w refl (λ e. cc) in cc
+
+pub removes_at : (c : Setup) (p : Place) (start serial : ℕ) (area : Area) → Meets c (ask c p) (Remove start serial area) → p ≡ Removing start serial
+removes_at c (Removing own serial') start serial area (inl w) = let same = w.1 in let e : own ≡ start = cc in let f : serial' ≡ serial = cc in cc
+removes_at c (Removing own serial') start serial area (inr w) = cc
+removes_at c p start serial area w = let e = was_asked c (ask c p) (Remove start serial area) Removes w refl (λ e. cc) in cc
+
+-- the areas of blocks, and those of a chunk
+pub data UnlinksAt (c : Setup) (starts : List ℕ) : Place → Type 0 where
+  OfPurge : (extra : Option Span) (after : Then) → UnlinksAt c starts (PurgeUnlinking starts extra after)
+  OfBlock : (start : ℕ) (reply : Reply) → starts ≡ start ∷ [] → UnlinksAt c starts (UnlinkingBlock start reply)
+  OfGroups : (base : ℕ) → starts ≡ group_starts c base → UnlinksAt c starts (UnlinkingGroups base)
+
+pub unlinks_at : (c : Setup) (p : Place) (starts : List ℕ) → Meets c (ask c p) (Unlink starts) → UnlinksAt c starts p
+unlinks_at c (PurgeUnlinking gone extra after) starts w = let e : gone ≡ starts = cc in subst (λ g. UnlinksAt c starts (PurgeUnlinking g extra after)) (sym e) (OfPurge extra after)
+unlinks_at c (UnlinkingBlock start reply) starts w = let e : starts ≡ start ∷ [] = cc in OfBlock start reply e
+unlinks_at c (UnlinkingGroups base) starts w = let e : starts ≡ group_starts c base = cc in OfGroups base e
+unlinks_at c p starts w = let e = was_asked c (ask c p) (Unlink starts) Unlinks w refl (λ e. cc) in cc
 
 pub collects_at : (c : Setup) (p : Place) (all : List Span) → Meets c (ask c p) (TakeWaiting all) → (extra : Option Span) × (after : Then) × (p ≡ PurgeCollecting extra after)
 collects_at c (PurgeCollecting extra after) all w = (extra, after, refl)

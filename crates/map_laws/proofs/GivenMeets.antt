@@ -12,11 +12,15 @@ use Rattle.vm_model.specs.Blocks.{PartAt, first_page, blocks_of, queue_of, free_
 use Rattle.vm_model.specs.Chunks.{ObjectAt, plain_fit, atomic_fit, placement, placed_at, placed_in, chosen, new_chunk, spare_chunk, page_to_fill, is_live_object}
 use Rattle.vm_model.specs.Events.{Section, Search, ForPages, ForGroups, MapPages, Populate, Fill, NoFrames}
 use Rattle.vm_model.specs.Places.{Ask, AskNothing, AskRefuse, AskTakePurge, AskGivePurge, AskTakeAlloc, AskGiveAlloc, AskSearch, AskDrop, AskReturn, AskSettle, AskRemove, AskUnlink, AskWait, AskTakeWaiting, AskMap, AskPopulate, AskFill, AskUnmap, AskDepopulate, AskFlush, AskZero, AskAdd, AskSum, AskPlace, AskAddChunk, AskAtomic, AskSettleObject, AskUnplace, AskFree, AskSpare, AskNextPage, AskFilled, AskPart, AskAddBlock, AskSettlePart, AskBegin, AskRetire, AskFragment, AskDirty}
-use Rattle.vm_model.specs.Given.{given, carving, carving_groups, removal, placing, placing_new, placing_atomic, freeing, sparing, filling, cutting, beginning}
+use Rattle.vm_model.specs.Given.{taking, given, carving, carving_groups, removal, placing, placing_new, placing_atomic, freeing, sparing, filling, cutting, beginning}
 use Rattle.vm_model.specs.LegalHistory.{Meets}
 use Rattle.map_laws.proofs.Lists.{append_cases}
 use Rattle.map_laws.proofs.Chosen.{IsIn, in_more, filter_has, find_has}
-use Rattle.map_laws.proofs.TurnPlaces.{taking_is}
+
+-- a turn that is taken was nobody's
+pub taking_is : (o : Option ℕ) (x s : Section) → taking o x ≡ Some s → (o ≡ None) × (s ≡ x)
+taking_is None x s e = (refl, cc)
+taking_is (Some holder) x s e = cc
 
 -- where a chunk is added, its first object has room
 abbrev pub HasRoom : Setup → PlainMap → Ask → Type 0

@@ -1,18 +1,15 @@
 -- How many sections a caller has left in its call, chunks that it gives up and pages that it fills aside.
-use Rattle.std.proofs.Common.{◌≡◌, ℕ, suc, ◌+◌, ◌*◌, ◌-◌, ◌<◌, ◌≤◌, Bool, true, false, nat_lt, if◌then◌else◌, List, [], ◌∷◌, ◌++◌, Option, Some, None, refl, subst, arith}
+use Rattle.std.proofs.Common.{◌≡◌, ℕ, suc, ◌+◌, ◌*◌, ◌-◌, ◌<◌, ◌≤◌, Bool, true, false, List, [], ◌∷◌, ◌++◌, Option, Some, None, subst, arith}
 use Rattle.std.proofs.lemmas.Bool.Decides.{nat_tests}
-use Rattle.vm_model.specs.declared.areas.Span.{Span}
-use Rattle.vm_model.specs.declared.areas.Area.{Area}
-use Rattle.vm_model.specs.declared.calls.Reply.TheVariants as reply
 use Rattle.vm_model.specs.Setup.{Setup, cpus}
 use Rattle.vm_model.specs.PlainMap.{PlainMap}
-use Rattle.vm_model.specs.Blocks.{PartAt}
 use Rattle.vm_model.specs.Chunks.{ObjectAt, new_chunk, plain_fit, placement}
 use Rattle.vm_model.specs.Events.{Section}
-use Rattle.vm_model.specs.Told.{carved, carved_base, had_frames, removed, pages_waiting, spans_taken, blocks_gone, part_told, was_spent, placed, was_live}
+use Rattle.vm_model.specs.Told.{placed}
 use Rattle.vm_model.specs.Places.{Place, Over, Refusing, Finding, FindingAgain, MappingArea, Dropping, SettlingArea, Removing, UnmappingArea, Waiting, PurgeTaking, PurgeFragmenting, PurgeUnlinking, PurgeWaiting, PurgeCollecting, PurgeFlushing, PurgeReturning, PurgeGiving, CuttingPart, SettlingBlock, AddingBlock, MappingPart, SettlingPart, BeginningUnmap, UnmappingPart, Retiring, UnlinkingBlock, LookingAtDirty, TakingAlloc, Choosing, SettlingGroups, AddingChunk, Populating, SettlingObject, Unplacing, GivingAlloc, ChoosingAtomic, Zeroing, SettlingAtomic, FreeingObject, Adding, Summing, TakingToBalance, Sparing, Depopulating, UnlinkingGroups, NextFill, Filling, NotingFilled, Aim, ForArea, ForBlock, ForChunk, Then, SearchAgain, ReplyWith, SpareAgain, AskAddChunk, ask}
-use Rattle.vm_model.specs.Next.{Next, Go, Answer, next, found, without_space, after_remove, go_on, after_fragments, after_collecting, after_flush, after_cut, after_begin, after_place, after_atomic}
+use Rattle.vm_model.specs.Next.{Next, Go, Answer, next, after_place}
 use Rattle.vm_model.specs.Given.{given, placing_new}
+use Rattle.map_laws.proofs.PlaceRows.{PlaceRow, Stays, FragmentedMore, LookedMore, place_row}
 use Rattle.map_laws.proofs.Places.{IsProper}
 use Rattle.map_laws.proofs.ChunkFalls.{added}
 use Rattle.map_laws.proofs.ChunkRoom.{new_chunk_has_room}
@@ -103,72 +100,7 @@ abbrev pub adds_chunk : Place → Bool
 adds_chunk (AddingChunk base chunk bytes align) = true
 adds_chunk _ = false
 
-either_left : (c : Setup) (b : Bool) (x y : Next) (n : ℕ) → left_next c x < n → left_next c y < n → left_next c (if b then x else y) < n
-either_left c true x y n p q = p
-either_left c false x y n p q = q
-
 module _ (c : Setup) where
-  found_left : (aim : Aim) (o : Option Span) (base : Option ℕ) (otherwise : Next) (n : ℕ) → left_aim c aim < n → left_next c otherwise < n → left_next c (found aim o base otherwise) < n
-  found_left (ForArea k) (Some place) base otherwise n a b = a
-  found_left (ForBlock cpu pages) (Some place) base otherwise n a b = a
-  found_left (ForChunk chunk bytes align) (Some place) base otherwise n a b = omega arith
-  found_left (ForArea k) None (Some base) otherwise n a b = omega arith
-  found_left (ForBlock cpu pages) None (Some base) otherwise n a b = omega arith
-  found_left (ForChunk chunk bytes align) None (Some base) otherwise n a b = a
-  found_left aim None None otherwise n a b = b
-
-  no_space_left : (aim : Aim) → left_next c (without_space aim) < 1 + left_aim c aim
-  no_space_left (ForArea k) = omega arith
-  no_space_left (ForBlock cpu pages) = omega arith
-  no_space_left (ForChunk chunk bytes align) = omega arith
-
-  removed_left : (o : Option Area) → left_next c (after_remove o) < 11 + cpus c
-  removed_left None = omega arith
-  removed_left (Some area) = omega arith
-
-  went_on_left : (after : Then) → left_next c (go_on after) ≤ left_then c after
-  went_on_left (SearchAgain search aim) = omega arith
-  went_on_left (ReplyWith reply) = omega arith
-  went_on_left SpareAgain = omega arith
-
-  fragments_left : (gone : List ℕ) (extra : Option Span) (after : Then) → left c (after_fragments gone extra after) < 7 + left_then c after
-  fragments_left [] extra after = omega arith
-  fragments_left (start ∷ gone) extra after = omega arith
-
-  fragment_by : (cpu : ℕ) (gone : List ℕ) (extra : Option Span) (after : Then) (b : Bool) → nat_lt (suc cpu) (cpus c) ≡ b
-      → left_next c (if b then Go (PurgeFragmenting (suc cpu) gone extra after) else Go (after_fragments gone extra after)) < 7 + (cpus c - suc cpu) + left_then c after
-  fragment_by cpu gone extra after true e = let more : suc cpu < cpus c = grind (arith, nat_tests) in omega arith
-  fragment_by cpu gone extra after false e = omega (arith, fragments_left gone extra after)
-
-  dirty_by : (cpu : ℕ) (ranges : List Span) (hull : Option Span) (b : Bool) → nat_lt (suc cpu) (cpus c) ≡ b
-      → left_next c (if b then Go (LookingAtDirty (suc cpu) ranges) else Go (PurgeTaking hull (ReplyWith reply.Done))) < 9 + cpus c + (cpus c - suc cpu)
-  dirty_by cpu ranges hull true e = let more : suc cpu < cpus c = grind (arith, nat_tests) in omega arith
-  dirty_by cpu ranges hull false e = omega arith
-
-  collected_left : (waited : List Span) (o : Option Span) (after : Then) → left_next c (after_collecting waited o after) < 4 + left_then c after
-  collected_left waited None after = omega arith
-  collected_left waited (Some s) after = omega arith
-
-  flushed_left : (waited : List Span) (after : Then) → left_next c (after_flush waited after) < 3 + left_then c after
-  flushed_left [] after = omega arith
-  flushed_left (s ∷ waited) after = omega arith
-
-  cut_left : (cpu pages : ℕ) (o : Option PartAt) → left_next c (after_cut c cpu pages o) < 25 + 2 * cpus c
-  cut_left cpu pages None = omega arith
-  cut_left cpu pages (Some at) = omega arith
-
-  begun_left : (o : Option PartAt) → left_next c (after_begin o) < 13 + cpus c
-  begun_left None = omega arith
-  begun_left (Some at) = omega arith
-
-  placed_left : (bytes align n : ℕ) (o : Option (ObjectAt × List ℕ)) → left_next c (after_place bytes align n o) < 16 + cpus c + chunk_cost c
-  placed_left bytes align n None = omega arith
-  placed_left bytes align n (Some p) = omega arith
-
-  atomic_left : (o : Option (ObjectAt × List ℕ)) → left_next c (after_atomic o) < 3
-  atomic_left None = omega arith
-  atomic_left (Some p) = omega arith
-
   -- a new chunk is added, at the cost that was counted for it
   added_left : (chunk base bytes align : ℕ) (o : Option (ObjectAt × List ℕ)) (p : ObjectAt × List ℕ) → o ≡ Some p
       → left_next c (after_place bytes align 0 (placed (placing_new chunk base bytes align o))) + added c (placing_new chunk base bytes align o) < 4 + chunk_cost c
@@ -183,53 +115,16 @@ module _ (c : Setup) where
         let is : placing_new chunk base bytes align (placement c (plain_fit c bytes align) bytes (m.chunks ++ new_chunk c chunk base ∷ [])) ≡ s = cc in
         subst (λ (x : Section). left_next c (after_place bytes align 0 (placed x)) + added c x < 4 + chunk_cost c) is (added_left chunk base bytes align _ room.0 room.1)
 
+    fall_row : (s : Section) (p : Place) (n : Next) → PlaceRow c s p n → is_balancing p ≡ false → adds_chunk p ≡ false → given c m (ask c p) ≡ Some s → left_next c n < left c p
+    fall_row s _ _ Stays b a e = cc
+    fall_row s _ _ (FragmentedMore cpu gone extra after f) b a e = let more : suc cpu < cpus c = grind (arith, nat_tests) in omega arith
+    fall_row s _ _ (LookedMore cpu ranges f) b a e = let more : suc cpu < cpus c = grind (arith, nat_tests) in omega arith
+    fall_row s (AddingChunk base chunk bytes align) n row b a e = cc
+    fall_row s Sparing n row b a e = cc
+    fall_row s (NextFill filled) n row b a e = cc
+    fall_row s (Filling chunk base page filled) n row b a e = cc
+    fall_row s (NotingFilled chunk page filled) n row b a e = cc
+    fall_row s _ _ _ b a e = omega arith
+
     pub step_falls : (p : Place) (s : Section) → is_balancing p ≡ false → adds_chunk p ≡ false → IsProper c p → given c m (ask c p) ≡ Some s → left_next c (next c p s) < left c p
-    step_falls Over s n a is e = cc
-    step_falls (Refusing reply) s n a is e = omega arith
-    step_falls (Finding search aim) s n a is e = (found_left aim (carved s) (carved_base s) _ (10 + cpus c + left_aim c aim) (omega arith) (omega arith))
-    step_falls (FindingAgain search aim) s n a is e = (found_left aim (carved s) (carved_base s) _ (1 + left_aim c aim) (omega arith) (no_space_left aim))
-    step_falls (MappingArea place own) s n a is e = either_left c (had_frames s) _ _ 2 (omega arith) (omega arith)
-    step_falls (Dropping place) s n a is e = omega arith
-    step_falls (SettlingArea place own) s n a is e = omega arith
-    step_falls (Removing start serial) s n a is e = removed_left (removed s)
-    step_falls (UnmappingArea area) s n a is e = omega arith
-    step_falls (Waiting spans after) s n a is e = either_left c (nat_lt c.lazy (pages_waiting s)) _ _ (9 + cpus c + left_then c after) (omega arith) (omega (arith, went_on_left after))
-    step_falls (PurgeTaking extra after) s n a is e = omega arith
-    step_falls (PurgeFragmenting cpu gone extra after) s n a is e = fragment_by cpu (gone ++ blocks_gone s) extra after _ refl
-    step_falls (PurgeUnlinking gone extra after) s n a is e = omega arith
-    step_falls (PurgeWaiting gone extra after) s n a is e = omega arith
-    step_falls (PurgeCollecting extra after) s n a is e = collected_left (spans_taken s) _ after
-    step_falls (PurgeFlushing hull waited after) s n a is e = flushed_left waited after
-    step_falls (PurgeReturning waited after) s n a is e = omega arith
-    step_falls (PurgeGiving after) s n a is e = omega (arith, went_on_left after)
-    step_falls (CuttingPart cpu pages) s n a is e = cut_left cpu pages (part_told s)
-    step_falls (SettlingBlock place cpu pages) s n a is e = omega arith
-    step_falls (AddingBlock at) s n a is e = omega arith
-    step_falls (MappingPart at) s n a is e = either_left c (had_frames s) _ _ (12 + cpus c) (omega arith) (omega arith)
-    step_falls (SettlingPart at) s n a is e = omega arith
-    step_falls (BeginningUnmap cpu page serial) s n a is e = begun_left (part_told s)
-    step_falls (UnmappingPart at) s n a is e = omega arith
-    step_falls (Retiring at reply) s n a is e = either_left c (was_spent s) _ _ (11 + cpus c) (omega arith) (omega arith)
-    step_falls (UnlinkingBlock start reply) s n a is e = omega arith
-    step_falls (LookingAtDirty cpu ranges) s n a is e = dirty_by cpu _ _ _ refl
-    step_falls (TakingAlloc bytes align) s n a is e = omega arith
-    step_falls (Choosing bytes align) s n a is e = placed_left bytes align _ (placed s)
-    step_falls (SettlingGroups base chunk bytes align) s n a is e = omega arith
-    step_falls (AddingChunk base chunk bytes align) s n a is e = cc
-    step_falls (Populating at missing) s n a is e = either_left c (had_frames s) _ _ 3 (omega arith) (omega arith)
-    step_falls (SettlingObject at) s n a is e = omega arith
-    step_falls (Unplacing at) s n a is e = omega arith
-    step_falls (GivingAlloc reply made) s n a is e = omega arith
-    step_falls (ChoosingAtomic bytes align) s n a is e = atomic_left (placed s)
-    step_falls (Zeroing at) s n a is e = omega arith
-    step_falls (SettlingAtomic at) s n a is e = omega arith
-    step_falls (FreeingObject at serial) s n a is e = either_left c (was_live s) _ _ 1 (omega arith) (omega arith)
-    step_falls (Adding at serial cpu index amount) s n a is e = omega arith
-    step_falls (Summing at serial index) s n a is e = omega arith
-    step_falls TakingToBalance s n a is e = omega arith
-    step_falls Sparing s n a is e = cc
-    step_falls (Depopulating base populated) s n a is e = omega arith
-    step_falls (UnlinkingGroups base) s n a is e = omega arith
-    step_falls (NextFill filled) s n a is e = cc
-    step_falls (Filling chunk base page filled) s n a is e = cc
-    step_falls (NotingFilled chunk page filled) s n a is e = cc
+    step_falls p s n a is e = fall_row s p (next c p s) (place_row c s p) n a e

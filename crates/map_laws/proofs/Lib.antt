@@ -1,5 +1,7 @@
 pub mod OrTests
 pub mod Lists
+pub mod AskRows
+pub mod PlaceRows
 pub mod Puts
 pub mod Searched
 pub mod Frames

@@ -36,7 +36,7 @@ use Rattle.vm_model.proofs.RoundedPages.{rounded_some}
 use Rattle.map_laws.proofs.Searched.{find_some, flat_has, length_flat, length_map, sum_le}
 use Rattle.map_laws.proofs.Spans.{InSpans, Inside, Outside, covers_one, holds_from, holds_to, in_spans, times-cons}
 use Rattle.map_laws.proofs.TraceWorlds.{AreFull}
-use Rattle.map_laws.proofs.TurnPlaces.{taking_is}
+use Rattle.map_laws.proofs.GivenMeets.{taking_is}
 use Rattle.vm_model.specs.declared.areas.AreaKind.TheVariants as kind
 
 -- what a section needs of chunks and objects

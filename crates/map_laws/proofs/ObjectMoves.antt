@@ -6,15 +6,16 @@ use Rattle.vm_model.specs.Areas.{group_areas}
 use Rattle.vm_model.specs.Carried.{object_in_hand}
 use Rattle.vm_model.specs.Chunks.{ObjectAt, atomic_bits, atomic_fit, bit_list, chunks_numbered, is_live_object, new_chunk, object_bits, pages_of_object, plain_fit, unpopulated_pages, with_object}
 use Rattle.vm_model.specs.Effects.{effect_as}
-use Rattle.vm_model.specs.Events.{AddChunk, Depopulate, Enough, Fill, Filled, ForGroups, ForPages, FreeObject, NextPage, NoAtomic, NoFrames, NoPlace, NoSpare, ObjectNotLive, PlaceAtomic, PlaceObject, Populate, Search, Section, Settle, SettleObject, Spare, Unplace, Zero}
+use Rattle.vm_model.specs.Events.{AddChunk, Depopulate, Enough, Fill, Filled, FreeObject, NextPage, NoAtomic, NoFrames, NoPlace, NoSpare, ObjectNotLive, PlaceAtomic, PlaceObject, Populate, Section, Settle, SettleObject, Spare, Unplace, Zero}
 use Rattle.vm_model.specs.Legal.{IsLegalAs}
 use Rattle.vm_model.specs.LegalHistory.{Meets}
 use Rattle.vm_model.specs.Next.{Answer, Go, Next, next}
-use Rattle.vm_model.specs.Places.{AddingChunk, Ask, AskAdd, AskAddBlock, AskAddChunk, AskAtomic, AskBegin, AskDepopulate, AskDirty, AskDrop, AskFill, AskFilled, AskFlush, AskFragment, AskFree, AskGiveAlloc, AskGivePurge, AskMap, AskNextPage, AskNothing, AskPart, AskPlace, AskPopulate, AskRefuse, AskRemove, AskRetire, AskReturn, AskSearch, AskSettle, AskSettleObject, AskSettlePart, AskSpare, AskSum, AskTakeAlloc, AskTakePurge, AskTakeWaiting, AskUnlink, AskUnmap, AskUnplace, AskWait, AskZero, Choosing, ChoosingAtomic, Depopulating, Filling, FreeingObject, NextFill, NotingFilled, Place, Populating, SettlingAtomic, SettlingGroups, SettlingObject, Sparing, Unplacing, Zeroing, ask}
+use Rattle.vm_model.specs.Places.{AddingChunk, Ask, AskAddChunk, AskAtomic, AskFilled, AskFree, AskPlace, AskSettleObject, AskSpare, AskUnplace, Choosing, ChoosingAtomic, Depopulating, Filling, FreeingObject, NextFill, NotingFilled, Place, Populating, SettlingAtomic, SettlingGroups, SettlingObject, Sparing, Unplacing, Zeroing, ask}
 use Rattle.vm_model.specs.PlainMap.{Chunk, InHand, Life, Lives, Object, PlainMap, lives_as}
 use Rattle.vm_model.specs.Setup.{Setup, pages_in_units, unit_bits}
 use Rattle.vm_model.specs.Space.{covers, is_among, span, times}
 use Rattle.vm_model.specs.Told.{placed}
+use Rattle.map_laws.proofs.AskRows.{AskRow, Refused, ask_row}
 use Rattle.map_laws.proofs.Changed.{keyed_in}
 use Rattle.map_laws.proofs.Chosen.{IsIn, filter_has}
 use Rattle.map_laws.proofs.ChunkAtomic.{row_test}
@@ -97,62 +98,12 @@ asks_objecty (AskFilled chunk page) = true
 asks_objecty _ = false
 
 module _ (c : Setup) where
-  still_un : (s t : Section) → s ≡ t → is_objecty t ≡ false → is_objecty s ≡ false
-  still_un s t e h = ap is_objecty e ∙ h
-
-  searched_un : (search : Search) (s : Section) → Meets c (AskSearch search) s → is_objecty s ≡ false
-  searched_un (ForPages pages align) s (inl w) = still_un s _ w.1 refl
-  searched_un (ForPages pages align) s (inr w) = still_un s _ w refl
-  searched_un ForGroups s (inl w) = still_un s _ w.1 refl
-  searched_un ForGroups s (inr w) = still_un s _ w refl
+  unobjecty_row : (a : Ask) (s : Section) → AskRow c a s → asks_objecty a ≡ false → is_objecty s ≡ false
+  unobjecty_row _ _ Refused h = refl
+  unobjecty_row _ _ _ h = cc
 
   pub given_unobjecty : (a : Ask) (s : Section) → asks_objecty a ≡ false → Meets c a s → is_objecty s ≡ false
-  given_unobjecty AskNothing s h w = absurd w
-  given_unobjecty AskRefuse s h w = still_un s _ w refl
-  given_unobjecty AskTakePurge s h w = still_un s _ w refl
-  given_unobjecty AskGivePurge s h w = still_un s _ w refl
-  given_unobjecty AskTakeAlloc s h w = still_un s _ w refl
-  given_unobjecty AskGiveAlloc s h w = still_un s _ w refl
-  given_unobjecty (AskSearch search) s h w = searched_un search s w
-  given_unobjecty (AskDrop p) s h w = still_un s _ w refl
-  given_unobjecty (AskReturn spans) s h w = still_un s _ w refl
-  given_unobjecty (AskSettle areas) s h w = still_un s _ w.1 refl
-  given_unobjecty (AskRemove start serial) s h (inl w) = still_un s _ w.1 refl
-  given_unobjecty (AskRemove start serial) s h (inr w) = still_un s _ w refl
-  given_unobjecty (AskUnlink starts) s h w = still_un s _ w refl
-  given_unobjecty (AskWait spans) s h w = still_un s _ w.1 refl
-  given_unobjecty AskTakeWaiting s h w = still_un s _ w.1 refl
-  given_unobjecty (AskMap p) s h (inl w) = still_un s _ w refl
-  given_unobjecty (AskMap p) s h (inr w) = still_un s _ w refl
-  given_unobjecty (AskPopulate at missing) s h (inl w) = still_un s _ w refl
-  given_unobjecty (AskPopulate at missing) s h (inr w) = still_un s _ w refl
-  given_unobjecty (AskFill base page) s h (inl w) = still_un s _ w refl
-  given_unobjecty (AskFill base page) s h (inr w) = still_un s _ w refl
-  given_unobjecty (AskUnmap p) s h w = still_un s _ w refl
-  given_unobjecty (AskDepopulate base pages) s h w = still_un s _ w refl
-  given_unobjecty (AskFlush p) s h w = still_un s _ w refl
-  given_unobjecty (AskZero at) s h w = still_un s _ w refl
-  given_unobjecty (AskAdd at serial cpu index amount) s h w = still_un s _ w refl
-  given_unobjecty (AskSum at serial index) s h w = still_un s _ w.1 refl
-  given_unobjecty (AskPlace bytes align) s h w = cc
-  given_unobjecty (AskAddChunk chunk base bytes align) s h w = cc
-  given_unobjecty (AskAtomic bytes align) s h w = cc
-  given_unobjecty (AskSettleObject at) s h w = cc
-  given_unobjecty (AskUnplace at) s h w = cc
-  given_unobjecty (AskFree at serial) s h w = cc
-  given_unobjecty AskSpare s h w = cc
-  given_unobjecty AskNextPage s h (inl w) = still_un s _ w.3 refl
-  given_unobjecty AskNextPage s h (inr w) = still_un s _ w refl
-  given_unobjecty (AskFilled chunk page) s h w = cc
-  given_unobjecty (AskPart cpu pages) s h (inl w) = still_un s _ w.3 refl
-  given_unobjecty (AskPart cpu pages) s h (inr w) = still_un s _ w refl
-  given_unobjecty (AskAddBlock at) s h w = still_un s _ w refl
-  given_unobjecty (AskSettlePart at) s h w = still_un s _ w.1 refl
-  given_unobjecty (AskBegin cpu page serial) s h (inl w) = still_un s _ w.3 refl
-  given_unobjecty (AskBegin cpu page serial) s h (inr w) = still_un s _ w refl
-  given_unobjecty (AskRetire at) s h w = still_un s _ w.1 refl
-  given_unobjecty (AskFragment cpu) s h w = still_un s _ w.1 refl
-  given_unobjecty (AskDirty cpu) s h w = still_un s _ w.1 refl
+  given_unobjecty a s h w = unobjecty_row a s (ask_row c a s w) h
 
 -- bits that a search finds free are no object's
 plain_free : (c : Setup) (h : Chunk) (bit : ℕ) → slice_get (bit_list c h) bit ≡ Some false → times bit (map object_bits h.objects) ≡ 0

@@ -21,7 +21,7 @@ use Rattle.map_laws.proofs.ObjectChanges.{same_fine}
 use Rattle.map_laws.proofs.ObjectFacts.{AreChunksFine, IsBeingPlaced, IsObject, IsObjectAt, next_placed}
 use Rattle.map_laws.proofs.ObjectMoves.{IsObjectMoved, Kills, unhanded_at}
 use Rattle.map_laws.proofs.Others.{SomeOther, Someone, other_or, others_still, someone_joins}
-use Rattle.map_laws.proofs.Places.{HaveBeginnings, OnNext, answers_call, begins_with}
+use Rattle.map_laws.proofs.Places.{HaveBeginnings, AtOver, OnNext, answers_call, begins_with}
 use Rattle.map_laws.specs.Turns.{AreTurnsKept}
 
 abbrev pub SomeonePlaces : World → (number off : ℕ) → Type 0
@@ -37,21 +37,8 @@ abbrev pub IsUnnumbered : Place → Type 0
 IsUnnumbered p = chunk_number p ≡ None
 
 unnumbered_begins : (c : Setup) → HaveBeginnings IsUnnumbered c
-unnumbered_begins c = record {
-  over = refl;
-  refused = λ r. refl;
-  area = λ pages align k plain some. refl;
-  part = λ cpu pages e f. refl;
-  dirty = refl;
-  object = λ bytes align few. refl;
-  atomic = λ bytes align few. refl;
-  remove = λ start serial. refl;
-  unmap = λ cpu page serial. refl;
-  free = λ at serial. refl;
-  add = λ at serial cpu index amount. refl;
-  sum = λ at serial index. refl;
-  balance = refl;
-}
+unnumbered_begins c _ AtOver = refl
+unnumbered_begins c _ _ = refl
 
 -- another caller's object outlives a section
 hand_lives : (k j : ℕ) (s : Section) → j ≢ k → Kills k s (InHand j) → ⊥

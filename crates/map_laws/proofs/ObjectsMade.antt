@@ -28,7 +28,7 @@ use Rattle.map_laws.proofs.ObjectFacts.{AreChunksFine, IsObject, IsObjectAt, sam
 use Rattle.map_laws.proofs.ObjectMoves.{Kills}
 use Rattle.map_laws.proofs.OrTests.{one_if_le, or_assoc, or_false, or_none}
 use Rattle.map_laws.proofs.OutMoves.{sum_two}
-use Rattle.map_laws.proofs.Places.{HaveBeginnings, OnNext, answers_call, begins_with}
+use Rattle.map_laws.proofs.Places.{HaveBeginnings, AtOver, OnNext, answers_call, begins_with}
 use Rattle.vm_model.specs.declared.calls.Reply.TheVariants as reply
 
 abbrev pub is_made : ℕ → Made → ℕ
@@ -92,21 +92,8 @@ abbrev IsGrounded : Place → Type 0
 IsGrounded p = flight p ≡ MadeNothing
 
 grounded_begins : (c : Setup) → HaveBeginnings IsGrounded c
-grounded_begins c = record {
-  over = refl;
-  refused = λ r. refl;
-  area = λ pages align k plain some. refl;
-  part = λ cpu pages e f. refl;
-  dirty = refl;
-  object = λ bytes align few. refl;
-  atomic = λ bytes align few. refl;
-  remove = λ start serial. refl;
-  unmap = λ cpu page serial. refl;
-  free = λ at serial. refl;
-  add = λ at serial cpu index amount. refl;
-  sum = λ at serial index. refl;
-  balance = refl;
-}
+grounded_begins c _ AtOver = refl
+grounded_begins c _ _ = refl
 
 -- the serial that a section gives
 abbrev gives : ℕ → Section → ℕ

@@ -1,27 +1,25 @@
 -- What is proper of a caller's place whatever the map is: searches are for what fits them, and objects aren't too large.
-use Rattle.std.proofs.Common.{◌≡◌, ℕ, zero, suc, inl, inr, ◌+◌, ◌*◌, ◌%◌, ◌<◌, ◌≤◌, max, Bool, true, false, nat_lt, nat_le, if◌then◌else◌, List, [], ◌∷◌, ◌++◌, slice_get, length, Option, Some, None, refl, ap, sym, ◌∙◌, subst, arith, ℤ, ◌-◌}
+use Rattle.std.proofs.Common.{◌≡◌, ℕ, zero, suc, inl, inr, ◌+◌, ◌*◌, ◌%◌, ◌<◌, ◌≤◌, max, Bool, true, false, nat_le, if◌then◌else◌, List, [], ◌∷◌, slice_get, length, Option, Some, None, refl, ap, sym, ◌∙◌, subst, arith, ℤ, ◌-◌}
 use Rattle.std.proofs.lemmas.Bool.Decides.{nat_tests}
-use Rattle.vm_model.specs.declared.areas.Span.{Span}
-use Rattle.vm_model.specs.declared.areas.Area.{Area}
 use Rattle.vm_model.specs.declared.areas.AreaKind.{AreaKind}
 use Rattle.vm_model.specs.declared.areas.AreaKind.TheVariants as kind
 use Rattle.vm_model.specs.declared.calls.Call.{Call}
 use Rattle.vm_model.specs.declared.calls.Call.TheVariants.{Vmalloc, Vfree, MapRam, UnmapRam, UnmapAliases, AllocPercpu, AllocAtomic, FreePercpu, Add, Sum, Balance}
 use Rattle.vm_model.specs.declared.calls.Reply.{Reply}
 use Rattle.vm_model.specs.declared.calls.Reply.TheVariants as reply
-use Rattle.vm_model.specs.Setup.{Setup, cpus, highest}
+use Rattle.vm_model.specs.Setup.{Setup, highest}
 use Rattle.vm_model.specs.PlainMap.{PlainMap, taken}
-use Rattle.vm_model.specs.Blocks.{PartAt}
 use Rattle.vm_model.specs.Chunks.{ObjectAt}
 use Rattle.vm_model.specs.Events.{Section, Search, ForPages, ForGroups}
-use Rattle.vm_model.specs.Told.{carved, carved_base, had_frames, removed, pages_waiting, spans_taken, blocks_gone, part_told, was_spent, placed, was_live, spare_told, page_told}
-use Rattle.vm_model.specs.Places.{Place, Over, Refusing, Adding, Summing, TakingToBalance, Finding, FindingAgain, MappingArea, SettlingArea, Removing, Waiting, PurgeTaking, PurgeFragmenting, PurgeUnlinking, PurgeWaiting, PurgeCollecting, PurgeFlushing, PurgeReturning, PurgeGiving, CuttingPart, AddingBlock, MappingPart, BeginningUnmap, Retiring, LookingAtDirty, SettlingBlock, TakingAlloc, Choosing, SettlingGroups, AddingChunk, Populating, ChoosingAtomic, FreeingObject, Sparing, NextFill, Filling, Made, MadeNothing, MadeArea, MadePart, MadeObject, Aim, ForArea, ForBlock, ForChunk, Then, SearchAgain, ReplyWith, SpareAgain, AskSearch, ask}
-use Rattle.vm_model.specs.Next.{Next, Go, Answer, next, found, without_space, after_remove, go_on, after_fragments, after_collecting, after_flush, after_cut, after_begin, after_place, after_atomic, after_spare, after_page}
+use Rattle.vm_model.specs.Told.{carved, carved_base}
+use Rattle.vm_model.specs.Places.{Place, Over, Refusing, Adding, Summing, TakingToBalance, Finding, FindingAgain, MappingArea, SettlingArea, Removing, Waiting, PurgeTaking, PurgeFragmenting, PurgeUnlinking, PurgeWaiting, PurgeCollecting, PurgeFlushing, PurgeReturning, PurgeGiving, CuttingPart, AddingBlock, BeginningUnmap, LookingAtDirty, SettlingBlock, TakingAlloc, Choosing, SettlingGroups, AddingChunk, ChoosingAtomic, FreeingObject, Made, MadeNothing, MadeArea, MadePart, MadeObject, Aim, ForArea, ForBlock, ForChunk, Then, SearchAgain, ReplyWith, SpareAgain, AskSearch, ask}
+use Rattle.vm_model.specs.Next.{Next, Go, Answer, next, found, without_space}
 use Rattle.vm_model.specs.Calls.{pages_for, align_pages, Answered, begin, begin_call, begin_alloc, begin_free_area, begin_unmap_ram, begin_free_percpu, begin_add, begin_sum, target_of, was_freed, answers_in, words_for, is_bad_vmalloc_size, is_bad_vmalloc_align, is_bad_map_size, is_bad_object_size, is_bad_object_align}
 use Rattle.vm_model.specs.Given.{given, carving, carving_groups}
 use Rattle.vm_model.specs.History.{World, Local, started, answered, answered_of, moved_to, opening_world, opening_answers, callers_from}
 use Rattle.vm_model.specs.Space.{lowest}
 use Rattle.map_laws.proofs.Fits.{is_zero, lowest_fit, highest_fit}
+use Rattle.map_laws.proofs.PlaceRows.{PlaceRow, NotCut, SettledBlock, SettledGroups, Mapped, place_row}
 use Rattle.map_laws.proofs.Lists.{there, set_cases, append_cases}
 use Rattle.map_laws.proofs.Frames.{IsStep, IsLasting, not_over, has_call}
 
@@ -126,84 +124,18 @@ module _ (c : Setup) (m : PlainMap) where
   no_space_proper (ForBlock cpu asked) = tt
   no_space_proper (ForChunk chunk bytes to) = tt
 
-  removed_proper : (o : Option Area) → OnNext (IsProper c) (after_remove o)
-  removed_proper None = tt
-  removed_proper (Some area) = tt
-
-  went_on_proper : (after : Then) → IsFollowed c after → OnNext (IsProper c) (go_on after)
-  went_on_proper (SearchAgain search aim) is = is
-  went_on_proper (ReplyWith reply) is = tt
-  went_on_proper SpareAgain is = tt
-
-  fragments_proper : (gone : List ℕ) (extra : Option Span) (after : Then) → IsFollowed c after → IsProper c (after_fragments gone extra after)
-  fragments_proper [] extra after is = is
-  fragments_proper (start ∷ gone) extra after is = is
-
-  collected_proper : (waited : List Span) (o : Option Span) (after : Then) → IsFollowed c after → OnNext (IsProper c) (after_collecting waited o after)
-  collected_proper waited None after is = is
-  collected_proper waited (Some s) after is = is
-
-  flushed_proper : (waited : List Span) (after : Then) → IsFollowed c after → OnNext (IsProper c) (after_flush waited after)
-  flushed_proper [] after is = is
-  flushed_proper (s ∷ waited) after is = is
-
-  cut_proper : (cpu pages : ℕ) (o : Option PartAt) → 1 ≤ pages → pages ≤ c.part_limit → OnNext (IsProper c) (after_cut c cpu pages o)
-  cut_proper cpu pages None low high = (refl, refl, low, high)
-  cut_proper cpu pages (Some at) low high = tt
-
-  begun_proper : (o : Option PartAt) → OnNext (IsProper c) (after_begin o)
-  begun_proper None = tt
-  begun_proper (Some at) = tt
-
-  placed_proper : (bytes align n : ℕ) (o : Option (ObjectAt × List ℕ)) → IsObjectSize bytes → OnNext (IsProper c) (after_place bytes align n o)
-  placed_proper bytes align n None is = is
-  placed_proper bytes align n (Some p) is = tt
-
-  atomic_proper : (o : Option (ObjectAt × List ℕ)) → OnNext (IsProper c) (after_atomic o)
-  atomic_proper None = tt
-  atomic_proper (Some p) = tt
-
-  spared_proper : (o : Option (ℕ × List ℕ)) → OnNext (IsProper c) (after_spare o)
-  spared_proper None = tt
-  spared_proper (Some p) = tt
-
-  page_proper : (filled : ℕ) (o : Option (ℕ × ℕ × ℕ)) → OnNext (IsProper c) (after_page filled o)
-  page_proper filled None = tt
-  page_proper filled (Some p) = tt
-
   -- a section leads from a proper place to a proper one
+  proper_row : (s : Section) (p : Place) (n : Next) → PlaceRow c s p n → IsProper c p → given c m (ask c p) ≡ Some s → n ≡ next c p s → OnNext (IsProper c) n
+  proper_row s _ n (NotCut cpu pages) is e f = (refl, refl, is.0, is.1)
+  proper_row s _ n (SettledBlock place cpu pages) is e f = (refl, is.2, is.3)
+  proper_row s _ n (SettledGroups base chunk bytes align) is e f = is.0
+  proper_row s (Finding search aim) n row is e f = subst (OnNext (IsProper c)) (sym f) (found_proper search aim s _ is e is)
+  proper_row s (FindingAgain search aim) n row is e f = subst (OnNext (IsProper c)) (sym f) (found_proper search aim s _ is e (no_space_proper aim))
+  proper_row s _ n (Mapped place k had) is e f = is
+  proper_row s _ n _ is e f = search
+
   pub proper_next : (p : Place) (s : Section) → IsProper c p → given c m (ask c p) ≡ Some s → OnNext (IsProper c) (next c p s)
-  proper_next (Finding search aim) s is e = found_proper search aim s _ is e is
-  proper_next (FindingAgain search aim) s is e = found_proper search aim s _ is e (no_space_proper aim)
-  proper_next (MappingArea place k) s is e = either_next (IsProper c) (had_frames s) _ _ is tt
-  proper_next (Removing start serial) s is e = removed_proper (removed s)
-  proper_next (Waiting spans after) s is e = either_next (IsProper c) (nat_lt c.lazy (pages_waiting s)) _ _ is (went_on_proper after is)
-  proper_next (PurgeFragmenting cpu gone extra after) s is e =
-      either_next (IsProper c) (nat_lt (suc cpu) (cpus c)) _ _ is (fragments_proper (gone ++ blocks_gone s) extra after is)
-  proper_next (PurgeCollecting extra after) s is e = collected_proper (spans_taken s) _ after is
-  proper_next (PurgeFlushing hull waited after) s is e = flushed_proper waited after is
-  proper_next (PurgeGiving after) s is e = went_on_proper after is
-  proper_next (CuttingPart cpu pages) s is e = cut_proper cpu pages (part_told s) is.0 is.1
-  proper_next (SettlingBlock place cpu pages) s is e = (refl, is.2, is.3)
-  proper_next (MappingPart at) s is e = either_next (IsProper c) (had_frames s) _ _ tt tt
-  proper_next (BeginningUnmap cpu page serial) s is e = begun_proper (part_told s)
-  proper_next (Retiring at reply) s is e = either_next (IsProper c) (was_spent s) _ _ tt tt
-  proper_next (LookingAtDirty cpu ranges) s is e = either_next (IsProper c) (nat_lt (suc cpu) (cpus c)) _ _ tt tt
-  proper_next (Choosing bytes align) s is e = placed_proper bytes align _ (placed s) is
-  proper_next (AddingChunk base chunk bytes align) s is e = placed_proper bytes align 0 (placed s) is
-  proper_next (Populating at missing) s is e = either_next (IsProper c) (had_frames s) _ _ tt tt
-  proper_next (ChoosingAtomic bytes align) s is e = atomic_proper (placed s)
-  proper_next (FreeingObject at serial) s is e = either_next (IsProper c) (was_live s) _ _ tt tt
-  proper_next Sparing s is e = spared_proper (spare_told s)
-  proper_next (NextFill filled) s is e = page_proper filled (page_told s)
-  proper_next (Filling chunk base page filled) s is e = either_next (IsProper c) (had_frames s) _ _ tt tt
-  proper_next (PurgeTaking extra after) s is e = is
-  proper_next (PurgeUnlinking gone extra after) s is e = is
-  proper_next (PurgeWaiting gone extra after) s is e = is
-  proper_next (PurgeReturning waited after) s is e = is
-  proper_next (TakingAlloc bytes align) s is e = is
-  proper_next (SettlingGroups base chunk bytes align) s is e = is.0
-  proper_next _ s is e = tt
+  proper_next p s is e = proper_row s p (next c p s) (place_row c s p) is e refl
 
 -- Where a call begins.
 
@@ -215,92 +147,85 @@ accepted_size bytes h = let few : bytes ≤ 32768 = grind (arith, nat_tests) in 
 some_pages : (c : Setup) (pages : ℕ) → is_bad_map_size c pages ≡ false → 1 ≤ pages
 some_pages c pages h = grind (arith, nat_tests)
 
--- every place at which a call can begin has what these have
-pub record HaveBeginnings (P : Place → Type 0) (c : Setup) : Type 0 where
-  pub over : P Over
-  pub refused : (r : Reply) → P (Refusing r)
-  pub area : (pages align : ℕ) (k : AreaKind) → IsPlainKind k → 1 ≤ pages → P (Finding (ForPages pages align) (ForArea k))
-  pub part : (cpu pages : ℕ) → is_bad_map_size c pages ≡ false → nat_le pages c.part_limit ≡ true → P (CuttingPart cpu pages)
-  pub dirty : P (LookingAtDirty 0 [])
-  pub object : (bytes align : ℕ) → IsObjectSize bytes → P (TakingAlloc bytes align)
-  pub atomic : (bytes align : ℕ) → IsObjectSize bytes → P (ChoosingAtomic bytes align)
-  pub remove : (start serial : ℕ) → P (Removing start serial)
-  pub unmap : (cpu page serial : ℕ) → P (BeginningUnmap cpu page serial)
-  pub free : (at : ObjectAt) (serial : ℕ) → P (FreeingObject at serial)
-  pub add : (at : ObjectAt) (serial cpu index : ℕ) (amount : ℤ) → P (Adding at serial cpu index amount)
-  pub sum : (at : ObjectAt) (serial index : ℕ) → P (Summing at serial index)
-  pub balance : P TakingToBalance
+-- the places at which a call can begin, and a fact that each of them has
+pub data Opens (c : Setup) : Place → Type 0 where
+  AtOver : Opens c Over
+  AtRefusing : (r : Reply) → Opens c (Refusing r)
+  AtArea : (pages align : ℕ) (k : AreaKind) → IsPlainKind k → 1 ≤ pages → Opens c (Finding (ForPages pages align) (ForArea k))
+  AtPart : (cpu pages : ℕ) → is_bad_map_size c pages ≡ false → nat_le pages c.part_limit ≡ true → Opens c (CuttingPart cpu pages)
+  AtDirty : Opens c (LookingAtDirty 0 [])
+  AtObject : (bytes align : ℕ) → IsObjectSize bytes → Opens c (TakingAlloc bytes align)
+  AtAtomic : (bytes align : ℕ) → IsObjectSize bytes → Opens c (ChoosingAtomic bytes align)
+  AtRemove : (start serial : ℕ) → Opens c (Removing start serial)
+  AtUnmap : (cpu page serial : ℕ) → Opens c (BeginningUnmap cpu page serial)
+  AtFree : (at : ObjectAt) (serial : ℕ) → Opens c (FreeingObject at serial)
+  AtAdd : (at : ObjectAt) (serial cpu index : ℕ) (amount : ℤ) → Opens c (Adding at serial cpu index amount)
+  AtSum : (at : ObjectAt) (serial index : ℕ) → Opens c (Summing at serial index)
+  AtBalance : Opens c TakingToBalance
+
+abbrev pub HaveBeginnings : (Place → Type 0) → Setup → Type 0
+HaveBeginnings P c = (p : Place) → Opens c p → P p
 
 module _ (P : Place → Type 0) (c : Setup) (have : HaveBeginnings P c) where
   alloc_begins : (place : ℕ → ℕ → Place) (bytes align : ℕ) → ((n to : ℕ) → IsObjectSize n → P (place n to)) → P (begin_alloc place bytes align)
-  alloc_begins place bytes align h = either_place P (is_bad_object_size bytes) _ _ (λ e. have.refused reply.BadSize)
-      (λ e. either_place P (is_bad_object_align align) _ _ (λ f. have.refused reply.BadAlign) (λ f. h (4 * words_for bytes) (max align 4) (accepted_size bytes e)))
+  alloc_begins place bytes align h = either_place P (is_bad_object_size bytes) _ _ (λ e. have _ (AtRefusing reply.BadSize))
+      (λ e. either_place P (is_bad_object_align align) _ _ (λ f. have _ (AtRefusing reply.BadAlign)) (λ f. h (4 * words_for bytes) (max align 4) (accepted_size bytes e)))
 
   free_begins : (made : Made) → P (begin_free_area made)
-  free_begins MadeNothing = have.refused reply.Unbound
-  free_begins (MadeArea start serial) = have.remove start serial
-  free_begins (MadePart cpu page serial) = have.refused reply.Unbound
-  free_begins (MadeObject at serial) = have.refused reply.Unbound
+  free_begins MadeNothing = have _ (AtRefusing reply.Unbound)
+  free_begins (MadeArea start serial) = have _ (AtRemove start serial)
+  free_begins (MadePart cpu page serial) = have _ (AtRefusing reply.Unbound)
+  free_begins (MadeObject at serial) = have _ (AtRefusing reply.Unbound)
 
   unmap_begins : (made : Made) → P (begin_unmap_ram made)
-  unmap_begins MadeNothing = have.refused reply.Unbound
-  unmap_begins (MadeArea start serial) = have.remove start serial
-  unmap_begins (MadePart cpu page serial) = have.unmap cpu page serial
-  unmap_begins (MadeObject at serial) = have.refused reply.Unbound
+  unmap_begins MadeNothing = have _ (AtRefusing reply.Unbound)
+  unmap_begins (MadeArea start serial) = have _ (AtRemove start serial)
+  unmap_begins (MadePart cpu page serial) = have _ (AtUnmap cpu page serial)
+  unmap_begins (MadeObject at serial) = have _ (AtRefusing reply.Unbound)
 
   object_begins : (made : Made) → P (begin_free_percpu made)
-  object_begins MadeNothing = have.refused reply.Unbound
-  object_begins (MadeArea start serial) = have.refused reply.Unbound
-  object_begins (MadePart cpu page serial) = have.refused reply.Unbound
-  object_begins (MadeObject at serial) = have.free at serial
+  object_begins MadeNothing = have _ (AtRefusing reply.Unbound)
+  object_begins (MadeArea start serial) = have _ (AtRefusing reply.Unbound)
+  object_begins (MadePart cpu page serial) = have _ (AtRefusing reply.Unbound)
+  object_begins (MadeObject at serial) = have _ (AtFree at serial)
 
   add_begins : (freed : Bool) (cpu index : ℕ) (amount : ℤ) (made : Made) → P (begin_add freed cpu index amount made)
-  add_begins freed cpu index amount MadeNothing = have.refused reply.Unbound
-  add_begins freed cpu index amount (MadeArea start serial) = have.refused reply.Unbound
-  add_begins freed cpu index amount (MadePart own page serial) = have.refused reply.Unbound
-  add_begins freed cpu index amount (MadeObject at serial) = either_place P freed _ _ (λ e. have.refused reply.NotLive) (λ e. have.add at serial cpu index amount)
+  add_begins freed cpu index amount MadeNothing = have _ (AtRefusing reply.Unbound)
+  add_begins freed cpu index amount (MadeArea start serial) = have _ (AtRefusing reply.Unbound)
+  add_begins freed cpu index amount (MadePart own page serial) = have _ (AtRefusing reply.Unbound)
+  add_begins freed cpu index amount (MadeObject at serial) = either_place P freed _ _ (λ e. have _ (AtRefusing reply.NotLive)) (λ e. have _ (AtAdd at serial cpu index amount))
 
   sum_begins : (freed : Bool) (index : ℕ) (made : Made) → P (begin_sum freed index made)
-  sum_begins freed index MadeNothing = have.refused reply.Unbound
-  sum_begins freed index (MadeArea start serial) = have.refused reply.Unbound
-  sum_begins freed index (MadePart own page serial) = have.refused reply.Unbound
-  sum_begins freed index (MadeObject at serial) = either_place P freed _ _ (λ e. have.refused reply.NotLive) (λ e. have.sum at serial index)
+  sum_begins freed index MadeNothing = have _ (AtRefusing reply.Unbound)
+  sum_begins freed index (MadeArea start serial) = have _ (AtRefusing reply.Unbound)
+  sum_begins freed index (MadePart own page serial) = have _ (AtRefusing reply.Unbound)
+  sum_begins freed index (MadeObject at serial) = either_place P freed _ _ (λ e. have _ (AtRefusing reply.NotLive)) (λ e. have _ (AtSum at serial index))
 
   call_begins : (opening own : List Answered) (call : Call) → P (begin_call c opening own call)
-  call_begins opening own (Vmalloc bytes align) = either_place P (is_bad_vmalloc_size c bytes) _ _ (λ e. have.refused reply.BadSize)
-      (λ e. either_place P (is_bad_vmalloc_align align) _ _ (λ f. have.refused reply.BadAlign) (λ f. have.area (pages_for bytes + 1) (align_pages align) kind.Vmalloc tt (omega arith)))
+  call_begins opening own (Vmalloc bytes align) = either_place P (is_bad_vmalloc_size c bytes) _ _ (λ e. have _ (AtRefusing reply.BadSize))
+      (λ e. either_place P (is_bad_vmalloc_align align) _ _ (λ f. have _ (AtRefusing reply.BadAlign)) (λ f. have _ (AtArea (pages_for bytes + 1) (align_pages align) kind.Vmalloc tt (omega arith))))
   call_begins opening own (Vfree t) = free_begins (target_of opening own t)
-  call_begins opening own (MapRam cpu pages) = either_place P (is_bad_map_size c pages) _ _ (λ e. have.refused reply.BadSize)
-      (λ e. either_place P (nat_le pages c.part_limit) _ _ (λ f. have.part cpu pages e f) (λ f. have.area pages 1 kind.MapRam tt (some_pages c pages e)))
+  call_begins opening own (MapRam cpu pages) = either_place P (is_bad_map_size c pages) _ _ (λ e. have _ (AtRefusing reply.BadSize))
+      (λ e. either_place P (nat_le pages c.part_limit) _ _ (λ f. have _ (AtPart cpu pages e f)) (λ f. have _ (AtArea pages 1 kind.MapRam tt (some_pages c pages e))))
   call_begins opening own (UnmapRam t) = unmap_begins (target_of opening own t)
-  call_begins opening own UnmapAliases = have.dirty
-  call_begins opening own (AllocPercpu bytes align) = alloc_begins TakingAlloc bytes align have.object
-  call_begins opening own (AllocAtomic bytes align) = alloc_begins ChoosingAtomic bytes align have.atomic
+  call_begins opening own UnmapAliases = have _ AtDirty
+  call_begins opening own (AllocPercpu bytes align) = alloc_begins TakingAlloc bytes align (λ n to few. have _ (AtObject n to few))
+  call_begins opening own (AllocAtomic bytes align) = alloc_begins ChoosingAtomic bytes align (λ n to few. have _ (AtAtomic n to few))
   call_begins opening own (FreePercpu t) = object_begins (target_of opening own t)
   call_begins opening own (Add t cpu index amount) = add_begins (was_freed (answers_in opening own t) t.call) cpu index amount (target_of opening own t)
   call_begins opening own (Sum t index) = sum_begins (was_freed (answers_in opening own t) t.call) index (target_of opening own t)
-  call_begins opening own Balance = have.balance
+  call_begins opening own Balance = have _ AtBalance
 
   pub begins_with : (opening own : List Answered) (o : Option Call) → P (begin c opening own o)
-  begins_with opening own None = have.over
+  begins_with opening own None = have _ AtOver
   begins_with opening own (Some call) = call_begins opening own call
 
 pub proper_begins : (c : Setup) → HaveBeginnings (IsProper c) c
-proper_begins c = record {
-  over = tt;
-  refused = λ r. tt;
-  area = λ pages align k plain some. (plain, some);
-  part = λ cpu pages e f. ((some_pages c pages e), (let few : pages ≤ c.part_limit = grind (arith, nat_tests) in few));
-  dirty = tt;
-  object = λ bytes align few. few;
-  atomic = λ bytes align few. few;
-  remove = λ start serial. tt;
-  unmap = λ cpu page serial. tt;
-  free = λ at serial. tt;
-  add = λ at serial cpu index amount. tt;
-  sum = λ at serial index. tt;
-  balance = tt;
-}
+proper_begins c _ (AtArea pages align k plain some) = (plain, some)
+proper_begins c _ (AtPart cpu pages e f) = (some_pages c pages e, (let few : pages ≤ c.part_limit = grind (arith, nat_tests) in few))
+proper_begins c _ (AtObject bytes align few) = few
+proper_begins c _ (AtAtomic bytes align few) = few
+proper_begins c _ _ = tt
 
 -- Where a caller goes, by what holds of the place behind a section and of each beginning.
 

@@ -16,7 +16,7 @@ use Rattle.vm_model.specs.History.{World, Local, answered, moved_to, made_by}
 use Rattle.vm_model.specs.Carried.{IsTurnKept, has_alloc}
 use Rattle.map_laws.proofs.Lists.{set_same, set_other}
 use Rattle.map_laws.proofs.Frames.{IsFramed, IsStep, not_over, has_call}
-use Rattle.map_laws.proofs.Places.{IsProper, HaveBeginnings, begins_with, answers_call}
+use Rattle.map_laws.proofs.Places.{IsProper, HaveBeginnings, AtOver, begins_with, answers_call}
 use Rattle.map_laws.proofs.TurnMoves.{Change, Stays, Taken, Given}
 use Rattle.map_laws.proofs.TurnPlaces.{has_next, alloc_change}
 use Rattle.map_laws.proofs.TurnProofs.{AreTurnsProper}
@@ -45,38 +45,12 @@ potential c w = sum_by (weight c) w.locals + worth_of c w.map.chunks + credit_of
 -- The beginnings of calls.
 
 pub left_begins : (c : Setup) → HaveBeginnings (λ p. left c p ≤ per_call c) c
-left_begins c = record {
-  over = omega arith;
-  refused = λ r. omega arith;
-  area = λ pages align k plain some. omega arith;
-  part = λ cpu pages e f. omega arith;
-  dirty = omega arith;
-  object = λ bytes align few. omega arith;
-  atomic = λ bytes align few. omega arith;
-  remove = λ start serial. omega arith;
-  unmap = λ cpu page serial. omega arith;
-  free = λ at serial. omega arith;
-  add = λ at serial cpu index amount. omega arith;
-  sum = λ at serial index. omega arith;
-  balance = omega arith;
-}
+left_begins c _ AtOver = omega arith
+left_begins c _ _ = omega arith
 
 credit_begins : (chunks : List Chunk) (c : Setup) → HaveBeginnings (λ p. credit chunks p ≡ 0) c
-credit_begins chunks c = record {
-  over = refl;
-  refused = λ r. refl;
-  area = λ pages align k plain some. refl;
-  part = λ cpu pages e f. refl;
-  dirty = refl;
-  object = λ bytes align few. refl;
-  atomic = λ bytes align few. refl;
-  remove = λ start serial. refl;
-  unmap = λ cpu page serial. refl;
-  free = λ at serial. refl;
-  add = λ at serial cpu index amount. refl;
-  sum = λ at serial index. refl;
-  balance = refl;
-}
+credit_begins chunks c _ AtOver = refl
+credit_begins chunks c _ _ = refl
 
 credit_moved : (chunks : List Chunk) (l : Local) (n : Next) → length l.answers < length l.calls → credit chunks (moved_to l n).place ≡ credit_next chunks n
 credit_moved chunks l (Go p) h = refl

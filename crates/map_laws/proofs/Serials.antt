@@ -1,5 +1,5 @@
 -- What a call names as an area that it made is a plain one, as long as it lives.
-use Rattle.std.proofs.Common.{◌≡◌, ℕ, ℤ, zero, suc, ◌+◌, ◌-◌, ◌<◌, ◌≤◌, ◌⊎◌, inl, inr, Bool, true, false, ◌==◌, nat_lt, nat_le, if◌then◌else◌, List, [], ◌∷◌, ◌++◌, length, slice_get, Option, Some, None, refl, ap, sym, ◌∙◌, subst, arith}
+use Rattle.std.proofs.Common.{◌≡◌, ℕ, ℤ, zero, suc, ◌+◌, ◌-◌, ◌<◌, ◌≤◌, ◌⊎◌, inl, inr, Bool, true, false, ◌==◌, nat_le, if◌then◌else◌, List, [], ◌∷◌, ◌++◌, length, slice_get, Option, Some, None, refl, ap, sym, ◌∙◌, subst, arith}
 use Rattle.vm_model.specs.declared.areas.Span.{Span}
 use Rattle.vm_model.specs.declared.areas.Area.{Area}
 use Rattle.vm_model.specs.declared.areas.AreaKind.{AreaKind}
@@ -8,20 +8,19 @@ use Rattle.vm_model.specs.declared.calls.Target.{Target}
 use Rattle.vm_model.specs.declared.calls.Call.{Call}
 use Rattle.vm_model.specs.declared.calls.Call.TheVariants.{Vmalloc, Vfree, MapRam, UnmapRam, UnmapAliases, AllocPercpu, AllocAtomic, FreePercpu, Add, Sum, Balance}
 use Rattle.std.proofs.lemmas.Option.{slice_get_within}
-use Rattle.vm_model.specs.Blocks.{PartAt}
-use Rattle.vm_model.specs.Chunks.{ObjectAt}
-use Rattle.vm_model.specs.Setup.{Setup, cpus}
+use Rattle.vm_model.specs.Setup.{Setup}
 use Rattle.vm_model.specs.PlainMap.{PlainMap}
 use Rattle.vm_model.specs.Areas.{named_areas, is_area, areas_of}
 use Rattle.vm_model.specs.Legal.{IsLegalAs}
 use Rattle.vm_model.specs.Events.{Section, Settle, Remove, Unlink}
 use Rattle.vm_model.specs.Effects.{effect_as}
-use Rattle.vm_model.specs.Places.{Place, Made, MadeNothing, MadeArea, MadePart, MadeObject, UnlinkingGroups, Depopulating, TakingToBalance, Summing, Adding, SettlingAtomic, Zeroing, GivingAlloc, Unplacing, SettlingObject, SettlingGroups, TakingAlloc, UnlinkingBlock, UnmappingPart, SettlingPart, AddingBlock, SettlingBlock, PurgeReturning, PurgeWaiting, PurgeUnlinking, PurgeTaking, UnmappingArea, SettlingArea, Dropping, Refusing, Over, Finding, FindingAgain, MappingArea, Removing, Waiting, PurgeFragmenting, PurgeCollecting, PurgeFlushing, PurgeGiving, CuttingPart, MappingPart, BeginningUnmap, Retiring, LookingAtDirty, Choosing, AddingChunk, Populating, ChoosingAtomic, FreeingObject, Sparing, NextFill, Filling, NotingFilled, Aim, ForArea, ForBlock, ForChunk, Then, SearchAgain, ReplyWith, SpareAgain, ask}
-use Rattle.vm_model.specs.Next.{Next, Go, Answer, next, found, without_space, after_remove, go_on, after_fragments, after_collecting, after_flush, after_cut, after_begin, after_place, after_atomic, after_spare, after_page}
-use Rattle.vm_model.specs.Told.{carved, carved_base, had_frames, removed, pages_waiting, spans_taken, blocks_gone, part_told, was_spent, placed, was_live, spare_told, page_told, serial_given}
+use Rattle.vm_model.specs.Places.{Place, Made, MadeNothing, MadeArea, MadePart, MadeObject, GivingAlloc, SettlingArea, Removing, ask}
+use Rattle.vm_model.specs.Next.{Next, Go, Answer, next}
+use Rattle.vm_model.specs.Told.{serial_given}
 use Rattle.vm_model.specs.Calls.{Answered, begin, begin_call, begin_free_area, begin_unmap_ram, begin_free_percpu, begin_add, begin_sum, target_of, made_in, was_freed, answers_in, is_bad_vmalloc_size, is_bad_vmalloc_align, is_bad_map_size, is_bad_object_size, is_bad_object_align}
 use Rattle.vm_model.specs.History.{World, Local, started, moved_to, made_by, opening_world, opening_answers, callers_from, with_callers}
 use Rattle.vm_model.specs.LegalHistory.{Meets}
+use Rattle.map_laws.proofs.PlaceRows.{PlaceRow, Stays, place_row}
 use Rattle.map_laws.proofs.Lists.{set_cases, append_cases}
 use Rattle.map_laws.proofs.Chosen.{IsIn, filter_has}
 use Rattle.map_laws.proofs.Fits.{and_both}
@@ -130,126 +129,19 @@ abbrev pub IsPlainNext : PlainMap → Next → Type 0
 IsPlainNext m (Go p) = IsPlainPlace m p
 IsPlainNext m (Answer r made) = IsPlainMade m made
 
-either_plain : (m : PlainMap) (b : Bool) (x y : Next) → IsPlainNext m x → IsPlainNext m y → IsPlainNext m (if b then x else y)
-either_plain m true x y p q = p
-either_plain m false x y p q = q
-
 abbrev pub makes_area : Place → Bool
 makes_area (SettlingArea s k) = true
 makes_area (GivingAlloc r made) = true
 makes_area _ = false
 
 module _ (c : Setup) (m : PlainMap) where
-  found_pl : (aim : Aim) (o : Option Span) (base : Option ℕ) (otherwise : Next) → IsPlainNext m otherwise → IsPlainNext m (found aim o base otherwise)
-  found_pl (ForArea k) (Some place) base otherwise h = tt
-  found_pl (ForBlock cpu pages) (Some place) base otherwise h = tt
-  found_pl (ForChunk chunk bytes align) (Some place) base otherwise h = tt
-  found_pl (ForArea k) None (Some base) otherwise h = tt
-  found_pl (ForBlock cpu pages) None (Some base) otherwise h = tt
-  found_pl (ForChunk chunk bytes align) None (Some base) otherwise h = tt
-  found_pl aim None None otherwise h = h
-
-  no_space_pl : (aim : Aim) → IsPlainNext m (without_space aim)
-  no_space_pl (ForArea k) = tt
-  no_space_pl (ForBlock cpu pages) = tt
-  no_space_pl (ForChunk chunk bytes align) = tt
-
-  removed_pl : (o : Option Area) → IsPlainNext m (after_remove o)
-  removed_pl None = tt
-  removed_pl (Some area) = tt
-
-  went_on_pl : (after : Then) → IsPlainNext m (go_on after)
-  went_on_pl (SearchAgain search aim) = tt
-  went_on_pl (ReplyWith reply) = tt
-  went_on_pl SpareAgain = tt
-
-  fragments_pl : (gone : List ℕ) (extra : Option Span) (after : Then) → IsPlainPlace m (after_fragments gone extra after)
-  fragments_pl [] extra after = tt
-  fragments_pl (start ∷ gone) extra after = tt
-
-  collected_pl : (waited : List Span) (o : Option Span) (after : Then) → IsPlainNext m (after_collecting waited o after)
-  collected_pl waited None after = tt
-  collected_pl waited (Some s) after = tt
-
-  flushed_pl : (waited : List Span) (after : Then) → IsPlainNext m (after_flush waited after)
-  flushed_pl [] after = tt
-  flushed_pl (s ∷ waited) after = tt
-
-  cut_pl : (cpu pages : ℕ) (o : Option PartAt) → IsPlainNext m (after_cut c cpu pages o)
-  cut_pl cpu pages None = tt
-  cut_pl cpu pages (Some at) = tt
-
-  begun_pl : (o : Option PartAt) → IsPlainNext m (after_begin o)
-  begun_pl None = tt
-  begun_pl (Some at) = tt
-
-  placed_pl : (bytes align n : ℕ) (o : Option (ObjectAt × List ℕ)) → IsPlainNext m (after_place bytes align n o)
-  placed_pl bytes align n None = tt
-  placed_pl bytes align n (Some p) = tt
-
-  atomic_pl : (o : Option (ObjectAt × List ℕ)) → IsPlainNext m (after_atomic o)
-  atomic_pl None = tt
-  atomic_pl (Some p) = tt
-
-  spared_plain : (o : Option (ℕ × List ℕ)) → IsPlainNext m (after_spare o)
-  spared_plain None = tt
-  spared_plain (Some p) = tt
-
-  page_plain : (filled : ℕ) (o : Option (ℕ × ℕ × ℕ)) → IsPlainNext m (after_page filled o)
-  page_plain filled None = tt
-  page_plain filled (Some p) = tt
-
   -- no other section leads to an area's serial
+  plain_row : (s : Section) (p : Place) (n : Next) → PlaceRow c s p n → makes_area p ≡ false → IsPlainNext m n
+  plain_row s _ _ Stays h = tt
+  plain_row s _ _ _ h = cc
+
   pub plain_next : (p : Place) (s : Section) → makes_area p ≡ false → IsPlainNext m (next c p s)
-  plain_next (Finding search aim) s h = found_pl aim (carved s) (carved_base s) _ tt
-  plain_next (FindingAgain search aim) s h = found_pl aim (carved s) (carved_base s) _ (no_space_pl aim)
-  plain_next (MappingArea place k) s h = either_plain m (had_frames s) _ _ tt tt
-  plain_next (Removing start serial) s h = removed_pl (removed s)
-  plain_next (Waiting spans after) s h = either_plain m (nat_lt c.lazy (pages_waiting s)) _ _ tt (went_on_pl after)
-  plain_next (PurgeFragmenting cpu gone extra after) s h = either_plain m (nat_lt (suc cpu) (cpus c)) _ _ tt (fragments_pl (gone ++ blocks_gone s) extra after)
-  plain_next (PurgeCollecting extra after) s h = collected_pl (spans_taken s) _ after
-  plain_next (PurgeFlushing hull waited after) s h = flushed_pl waited after
-  plain_next (PurgeGiving after) s h = went_on_pl after
-  plain_next (CuttingPart cpu pages) s h = cut_pl cpu pages (part_told s)
-  plain_next (MappingPart at) s h = either_plain m (had_frames s) _ _ tt tt
-  plain_next (BeginningUnmap cpu page serial) s h = begun_pl (part_told s)
-  plain_next (Retiring at reply) s h = either_plain m (was_spent s) _ _ tt tt
-  plain_next (LookingAtDirty cpu ranges) s h = either_plain m (nat_lt (suc cpu) (cpus c)) _ _ tt tt
-  plain_next (Choosing bytes align) s h = placed_pl bytes align _ (placed s)
-  plain_next (AddingChunk base chunk bytes align) s h = placed_pl bytes align 0 (placed s)
-  plain_next (Populating at missing) s h = either_plain m (had_frames s) _ _ tt tt
-  plain_next (ChoosingAtomic bytes align) s h = atomic_pl (placed s)
-  plain_next (FreeingObject at serial) s h = either_plain m (was_live s) _ _ tt tt
-  plain_next Sparing s h = spared_plain (spare_told s)
-  plain_next (NextFill filled) s h = page_plain filled (page_told s)
-  plain_next (Filling chunk base page filled) s h = either_plain m (had_frames s) _ _ tt tt
-  plain_next (NotingFilled chunk page filled) s h = tt
-  plain_next Over s h = tt
-  plain_next (Refusing reply) s h = tt
-  plain_next (Dropping place) s h = tt
-  plain_next (SettlingArea place own) s h = cc
-  plain_next (UnmappingArea area) s h = tt
-  plain_next (PurgeTaking extra after) s h = tt
-  plain_next (PurgeUnlinking gone extra after) s h = tt
-  plain_next (PurgeWaiting gone extra after) s h = tt
-  plain_next (PurgeReturning waited after) s h = tt
-  plain_next (SettlingBlock place cpu pages) s h = tt
-  plain_next (AddingBlock at) s h = tt
-  plain_next (SettlingPart at) s h = tt
-  plain_next (UnmappingPart at) s h = tt
-  plain_next (UnlinkingBlock start reply) s h = tt
-  plain_next (TakingAlloc bytes align) s h = tt
-  plain_next (SettlingGroups base chunk bytes align) s h = tt
-  plain_next (SettlingObject at) s h = tt
-  plain_next (Unplacing at) s h = tt
-  plain_next (GivingAlloc reply made) s h = cc
-  plain_next (Zeroing at) s h = tt
-  plain_next (SettlingAtomic at) s h = tt
-  plain_next (Adding at serial cpu index amount) s h = tt
-  plain_next (Summing at serial index) s h = tt
-  plain_next TakingToBalance s h = tt
-  plain_next (Depopulating base populated) s h = tt
-  plain_next (UnlinkingGroups base) s h = tt
+  plain_next p s h = plain_row s p (next c p s) (place_row c s p) h
 
 module _ (c : Setup) (m : PlainMap) (k : ℕ) where
   next_by : (p : Place) (s : Section) (b : Bool) → makes_area p ≡ b → IsProper c p → AreGiven m → IsPlainPlace m p → Meets c (ask c p) s → IsLegalAs c m k s → IsPlainNext (effect_as c m k s) (next c p s)

@@ -1,16 +1,15 @@
 -- An object has the bytes of the call that makes it.
-use Rattle.std.proofs.Common.{◌≡◌, ℕ, suc, ◌*◌, max, inl, inr, Bool, true, false, nat_lt, if◌then◌else◌, List, [], ◌∷◌, ◌++◌, Option, Some, None, refl, sym, ◌∙◌, subst}
-use Rattle.vm_model.specs.declared.areas.Span.{Span}
+use Rattle.std.proofs.Common.{◌≡◌, ℕ, ◌*◌, max, inl, inr, Bool, true, false, if◌then◌else◌, List, Option, Some, None, refl, sym, ◌∙◌, subst}
 use Rattle.vm_model.specs.declared.calls.Call.{Call}
 use Rattle.vm_model.specs.declared.calls.Call.TheVariants.{AllocPercpu, AllocAtomic}
 use Rattle.std.proofs.lemmas.Option.{same_Some}
 use Rattle.vm_model.specs.declared.calls.Reply.TheVariants as reply
-use Rattle.vm_model.specs.Setup.{Setup, cpus}
+use Rattle.vm_model.specs.Setup.{Setup}
 use Rattle.vm_model.specs.Events.{Section}
-use Rattle.vm_model.specs.Told.{carved, carved_base, had_frames, spans_taken, blocks_gone}
-use Rattle.vm_model.specs.Places.{Made, MadeObject, Aim, ForArea, ForBlock, ForChunk, Then, SearchAgain, ReplyWith, SpareAgain, Place, Refusing, Finding, FindingAgain, PurgeTaking, PurgeFragmenting, PurgeUnlinking, PurgeWaiting, PurgeCollecting, PurgeFlushing, PurgeReturning, PurgeGiving, TakingAlloc, Choosing, SettlingGroups, AddingChunk, Populating, SettlingObject, Unplacing, GivingAlloc, ChoosingAtomic, Zeroing, SettlingAtomic, ask}
-use Rattle.vm_model.specs.Next.{Next, Go, Answer, next, found, without_space, go_on, after_fragments, after_collecting, after_flush}
+use Rattle.vm_model.specs.Places.{Made, MadeObject, Aim, ForChunk, Then, SearchAgain, Place, Refusing, Finding, FindingAgain, PurgeTaking, PurgeFragmenting, PurgeUnlinking, PurgeWaiting, PurgeCollecting, PurgeFlushing, PurgeReturning, PurgeGiving, TakingAlloc, Choosing, SettlingGroups, AddingChunk, Populating, SettlingObject, Unplacing, GivingAlloc, ChoosingAtomic, Zeroing, SettlingAtomic, ask}
+use Rattle.vm_model.specs.Next.{Next, Go, Answer, next}
 use Rattle.vm_model.specs.Calls.{Answered, words_for, is_bad_object_size, is_bad_object_align, begin_call}
+use Rattle.map_laws.proofs.PlaceRows.{PlaceRow, Refused, place_row}
 use Rattle.vm_model.specs.LegalHistory.{Meets}
 
 abbrev pub IsAimSized : ℕ → Aim → Type 0
@@ -55,40 +54,7 @@ abbrev pub IsNextSized : ℕ → Next → Type 0
 IsNextSized bytes (Go p) = IsSizedAt bytes p
 IsNextSized bytes (Answer r made) = IsMadeSized bytes made
 
-either_sized : (bytes : ℕ) (b : Bool) (x y : Next) → IsNextSized bytes x → IsNextSized bytes y → IsNextSized bytes (if b then x else y)
-either_sized bytes true x y p q = p
-either_sized bytes false x y p q = q
-
 module _ (c : Setup) (bytes : ℕ) where
-  found_sized : (aim : Aim) (o : Option Span) (base : Option ℕ) (otherwise : Next) → IsAimSized bytes aim → IsNextSized bytes otherwise → IsNextSized bytes (found aim o base otherwise)
-  found_sized (ForArea kd) o base otherwise is q = absurd is
-  found_sized (ForBlock cpu pages) o base otherwise is q = absurd is
-  found_sized (ForChunk chunk own align) (Some place) base otherwise is q = tt
-  found_sized (ForChunk chunk own align) None (Some base) otherwise is q = is
-  found_sized (ForChunk chunk own align) None None otherwise is q = q
-
-  no_space_sized : (aim : Aim) → IsAimSized bytes aim → IsNextSized bytes (without_space aim)
-  no_space_sized (ForArea kd) is = absurd is
-  no_space_sized (ForBlock cpu pages) is = absurd is
-  no_space_sized (ForChunk chunk own align) is = tt
-
-  went_on_sized : (after : Then) → IsThenSized bytes after → IsNextSized bytes (go_on after)
-  went_on_sized (SearchAgain search aim) is = is
-  went_on_sized (ReplyWith r) is = absurd is
-  went_on_sized SpareAgain is = absurd is
-
-  fragments_sized : (gone : List ℕ) (extra : Option Span) (after : Then) → IsThenSized bytes after → IsSizedAt bytes (after_fragments gone extra after)
-  fragments_sized [] extra after is = is
-  fragments_sized (start ∷ gone) extra after is = is
-
-  collected_sized : (waited : List Span) (o : Option Span) (after : Then) → IsThenSized bytes after → IsNextSized bytes (after_collecting waited o after)
-  collected_sized waited None after is = is
-  collected_sized waited (Some s) after is = is
-
-  flushed_sized : (waited : List Span) (after : Then) → IsThenSized bytes after → IsNextSized bytes (after_flush waited after)
-  flushed_sized [] after is = is
-  flushed_sized (s ∷ waited) after is = is
-
   chosen_sized : (own align : ℕ) (s : Section) → own ≡ bytes → Meets c (ask c (Choosing own align)) s → IsNextSized bytes (next c (Choosing own align) s)
   chosen_sized own align s is (inl w) = subst (λ x. IsNextSized bytes (next c (Choosing own align) x)) (sym w.3) (w.2 ∙ is)
   chosen_sized own align s is (inr w) = subst (λ x. IsNextSized bytes (next c (Choosing own align) x)) (sym w.1) is
@@ -100,30 +66,15 @@ module _ (c : Setup) (bytes : ℕ) where
   atomic_sized own align s is (inl w) = subst (λ x. IsNextSized bytes (next c (ChoosingAtomic own align) x)) (sym w.2) (w.1 ∙ is)
   atomic_sized own align s is (inr w) = subst (λ x. IsNextSized bytes (next c (ChoosingAtomic own align) x)) (sym w) tt
 
+  sized_row : (s : Section) (p : Place) (n : Next) → PlaceRow c s p n → IsSizedAt bytes p → Meets c (ask c p) s → n ≡ next c p s → IsNextSized bytes n
+  sized_row s (Choosing own align) n row is w f = subst (IsNextSized bytes) (sym f) (chosen_sized own align s is w)
+  sized_row s (AddingChunk base chunk own align) n row is w f = subst (IsNextSized bytes) (sym f) (added_sized base chunk own align s is w)
+  sized_row s (ChoosingAtomic own align) n row is w f = subst (IsNextSized bytes) (sym f) (atomic_sized own align s is w)
+  sized_row s _ n (Refused r) is w f = tt
+  sized_row s _ n _ is w f = search
+
   pub sized_next : (p : Place) (s : Section) → IsSizedAt bytes p → Meets c (ask c p) s → IsNextSized bytes (next c p s)
-  sized_next (Refusing r) s is w = tt
-  sized_next (TakingAlloc own align) s is w = is
-  sized_next (Choosing own align) s is w = chosen_sized own align s is w
-  sized_next (Finding search aim) s is w = found_sized aim (carved s) (carved_base s) _ is is
-  sized_next (FindingAgain search aim) s is w = found_sized aim (carved s) (carved_base s) _ is (no_space_sized aim is)
-  sized_next (PurgeTaking extra after) s is w = is
-  sized_next (PurgeFragmenting cpu gone extra after) s is w = either_sized bytes (nat_lt (suc cpu) (cpus c)) _ _ is (fragments_sized (gone ++ blocks_gone s) extra after is)
-  sized_next (PurgeUnlinking gone extra after) s is w = is
-  sized_next (PurgeWaiting gone extra after) s is w = is
-  sized_next (PurgeCollecting extra after) s is w = collected_sized (spans_taken s) _ after is
-  sized_next (PurgeFlushing h waited after) s is w = flushed_sized waited after is
-  sized_next (PurgeReturning waited after) s is w = is
-  sized_next (PurgeGiving after) s is w = went_on_sized after is
-  sized_next (SettlingGroups base chunk own align) s is w = is
-  sized_next (AddingChunk base chunk own align) s is w = added_sized base chunk own align s is w
-  sized_next (Populating at missing) s is w = either_sized bytes (had_frames s) _ _ is tt
-  sized_next (SettlingObject at) s is w = is
-  sized_next (Unplacing at) s is w = tt
-  sized_next (GivingAlloc r made) s is w = is
-  sized_next (ChoosingAtomic own align) s is w = atomic_sized own align s is w
-  sized_next (Zeroing at) s is w = is
-  sized_next (SettlingAtomic at) s is w = is
-  sized_next _ s is w = absurd is
+  sized_next p s is w = sized_row s p (next c p s) (place_row c s p) is w refl
 
   -- where such a call begins
   alloc_by : (place : ℕ → ℕ → Place) (asked to : ℕ) → IsSizedAt bytes (place bytes to) → bytes ≡ 4 * words_for asked → (b d : Bool) → IsSizedAt bytes (if b then Refusing reply.BadSize else (if d then Refusing reply.BadAlign else place (4 * words_for asked) to))

@@ -19,7 +19,7 @@ use Rattle.vm_model.specs.Rules.{IsSetup, IsTrace}
 use Rattle.vm_model.specs.Laws.{SumsAreTheAdds, object_at}
 use Rattle.map_laws.proofs.Lists.{append_cases}
 use Rattle.map_laws.proofs.Frames.{IsFramed, framed_step, not_over, has_call}
-use Rattle.map_laws.proofs.Places.{OnNext, HaveBeginnings, begins_with, moved_has}
+use Rattle.map_laws.proofs.Places.{OnNext, HaveBeginnings, AtOver, begins_with, moved_has}
 use Rattle.map_laws.proofs.AreaWorlds.{IsLegalStep, IsLegallyLasting, legally_lasts, event_legal}
 use Rattle.map_laws.proofs.ChunkFacts.{IsChunkAt, unit_page}
 use Rattle.map_laws.proofs.ObjectFacts.{IsObject, IsObjectAt}
@@ -79,21 +79,8 @@ pub record IsSumWorld (c : Setup) (opening : List Call) (calls : List (List Call
   pub summed : IsSummed c w
 
 just_begins : (P : Place → Type 0) (c : Setup) → ((p : Place) → ((at : ObjectAt) → IsZeroedAt p at → ⊥) → P p) → HaveBeginnings P c
-just_begins P c have = record {
-  over = have _ (λ at is. is);
-  refused = λ r. have _ (λ at is. is);
-  area = λ pages align k plain some. have _ (λ at is. is);
-  part = λ cpu pages e f. have _ (λ at is. is);
-  dirty = have _ (λ at is. is);
-  object = λ bytes align few. have _ (λ at is. is);
-  atomic = λ bytes align few. have _ (λ at is. is);
-  remove = λ start serial. have _ (λ at is. is);
-  unmap = λ cpu page serial. have _ (λ at is. is);
-  free = λ at serial. have _ (λ at is. is);
-  add = λ at serial cpu index amount. have _ (λ at is. is);
-  sum = λ at serial index. have _ (λ at is. is);
-  balance = have _ (λ at is. is);
-}
+just_begins P c have _ AtOver = have _ (λ at is. is)
+just_begins P c have _ _ = have _ (λ at is. is)
 
 -- a beginning settles nothing
 abbrev IsUnsettling : Place → Type 0

@@ -15,43 +15,17 @@ use Rattle.vm_model.specs.Laws.{ThePurgeTurnIsTakenLast}
 use Rattle.map_laws.specs.Turns.{AreTurnsKept, TheTurnsAreKept}
 use Rattle.map_laws.proofs.Lists.{append_cases, append_first}
 use Rattle.map_laws.proofs.Frames.{IsFramed, IsStep, IsLasting, lasts, not_over, has_call}
-use Rattle.map_laws.proofs.Places.{IsProper, AllStand, HaveBeginnings, begins_with, answers_call, proper_begins, proper_lasts, stand_first}
+use Rattle.map_laws.proofs.Places.{IsProper, AllStand, HaveBeginnings, AtOver, begins_with, answers_call, proper_begins, proper_lasts, stand_first}
 use Rattle.map_laws.proofs.TurnMoves.{Change, turn_moves}
 use Rattle.map_laws.proofs.TurnPlaces.{Has, has_next, purge_change, alloc_change}
 
 no_purge_begins : (c : Setup) → HaveBeginnings (Has has_purge false) c
-no_purge_begins c = record {
-  over = refl;
-  refused = λ r. refl;
-  area = λ pages align k plain some. refl;
-  part = λ cpu pages e f. refl;
-  dirty = refl;
-  object = λ bytes align few. refl;
-  atomic = λ bytes align few. refl;
-  remove = λ start serial. refl;
-  unmap = λ cpu page serial. refl;
-  free = λ at serial. refl;
-  add = λ at serial cpu index amount. refl;
-  sum = λ at serial index. refl;
-  balance = refl;
-}
+no_purge_begins c _ AtOver = refl
+no_purge_begins c _ _ = refl
 
 no_alloc_begins : (c : Setup) → HaveBeginnings (Has has_alloc false) c
-no_alloc_begins c = record {
-  over = refl;
-  refused = λ r. refl;
-  area = λ pages align k plain some. refl;
-  part = λ cpu pages e f. refl;
-  dirty = refl;
-  object = λ bytes align few. refl;
-  atomic = λ bytes align few. refl;
-  remove = λ start serial. refl;
-  unmap = λ cpu page serial. refl;
-  free = λ at serial. refl;
-  add = λ at serial cpu index amount. refl;
-  sum = λ at serial index. refl;
-  balance = refl;
-}
+no_alloc_begins c _ AtOver = refl
+no_alloc_begins c _ _ = refl
 
 module _ (has : Place → Bool) (none : (c : Setup) → HaveBeginnings (Has has false) c) where
   has_moved : (l : Local) → length l.answers < length l.calls → (n : Next) → has (moved_to l n).place ≡ has_next has n

@@ -1,20 +1,20 @@
 -- A vmalloc call makes an area at a multiple of its alignment.
-use Rattle.std.proofs.Common.{◌≡◌, ℕ, zero, suc, ◌%◌, ◌<◌, inl, inr, Bool, true, false, nat_lt, if◌then◌else◌, List, [], ◌∷◌, ◌++◌, length, slice_get, Option, Some, None, refl, ap, sym, ◌∙◌, subst, arith, length-append}
-use Rattle.vm_model.specs.declared.areas.Span.{Span}
+use Rattle.std.proofs.Common.{◌≡◌, ℕ, zero, suc, ◌%◌, ◌<◌, inl, inr, List, [], ◌∷◌, ◌++◌, length, slice_get, Option, Some, None, refl, ap, sym, ◌∙◌, subst, arith, length-append}
 use Rattle.vm_model.specs.declared.areas.AreaKind.{AreaKind}
 use Rattle.vm_model.specs.declared.calls.Call.{Call}
-use Rattle.vm_model.specs.declared.calls.Call.TheVariants.{Vmalloc, Vfree, MapRam, UnmapRam, UnmapAliases, AllocPercpu, AllocAtomic, FreePercpu, Add, Sum, Balance}
-use Rattle.vm_model.specs.Space.{hull, lowest}
-use Rattle.vm_model.specs.Setup.{Setup, cpus}
+use Rattle.vm_model.specs.declared.calls.Call.TheVariants.{Vmalloc}
+use Rattle.vm_model.specs.Space.{lowest}
+use Rattle.vm_model.specs.Setup.{Setup}
 use Rattle.vm_model.specs.PlainMap.{PlainMap, taken}
 use Rattle.vm_model.specs.Events.{Section, Search, ForPages, ForGroups}
-use Rattle.vm_model.specs.Told.{carved, carved_base, had_frames, spans_taken, blocks_gone}
-use Rattle.vm_model.specs.Places.{Place, Refusing, Finding, FindingAgain, MappingArea, Dropping, SettlingArea, PurgeTaking, PurgeFragmenting, PurgeUnlinking, PurgeWaiting, PurgeCollecting, PurgeFlushing, PurgeReturning, PurgeGiving, Made, MadeNothing, MadeArea, MadePart, MadeObject, Aim, ForArea, ForBlock, ForChunk, Then, SearchAgain, ReplyWith, SpareAgain, AskSearch, ask}
-use Rattle.vm_model.specs.Next.{Next, Go, Answer, next, found, without_space, go_on, after_fragments, after_collecting, after_flush}
+use Rattle.vm_model.specs.Told.{carved, carved_base}
+use Rattle.vm_model.specs.Places.{Place, Refusing, Finding, FindingAgain, MappingArea, Dropping, SettlingArea, PurgeTaking, PurgeFragmenting, PurgeUnlinking, PurgeWaiting, PurgeCollecting, PurgeFlushing, PurgeReturning, PurgeGiving, Made, MadeNothing, MadeArea, MadePart, MadeObject, Aim, ForArea, ForBlock, ForChunk, Then, SearchAgain, AskSearch, ask}
+use Rattle.vm_model.specs.Next.{Next, Go, Answer, next, found, without_space}
 use Rattle.vm_model.specs.Calls.{Answered, begin, begin_call, align_pages, is_bad_vmalloc_size, is_bad_vmalloc_align}
 use Rattle.vm_model.specs.Given.{given, carving}
 use Rattle.vm_model.specs.History.{World, Local, started, answered, moved_to, opening_world, opening_answers, callers_from}
 use Rattle.vm_model.specs.Laws.{IsMadeAligned}
+use Rattle.map_laws.proofs.PlaceRows.{PlaceRow, Refused, place_row}
 use Rattle.map_laws.proofs.Lists.{set_cases, append_cases}
 use Rattle.map_laws.proofs.Fits.{is_zero, lowest_fit}
 use Rattle.map_laws.proofs.Frames.{IsLasting, not_over, has_call}
@@ -55,10 +55,6 @@ abbrev pub IsNextAt : ℕ → Next → Type 0
 IsNextAt k (Go p) = IsVmallocAt k p
 IsNextAt k (Answer r made) = IsMadeAt k made
 
-either_at : (k : ℕ) (b : Bool) (x y : Next) → IsNextAt k x → IsNextAt k y → IsNextAt k (if b then x else y)
-either_at k true x y p q = p
-either_at k false x y p q = q
-
 module _ (c : Setup) (m : PlainMap) (k : ℕ) where
   found_at : (pages align : ℕ) (kd : AreaKind) (otherwise : Next) (o : Option ℕ) → lowest (taken m) pages align ≡ o → align ≡ k → IsNextAt k otherwise
       → IsNextAt k (found (ForArea kd) (carved (carving pages align o)) (carved_base (carving pages align o)) otherwise)
@@ -79,39 +75,14 @@ module _ (c : Setup) (m : PlainMap) (k : ℕ) where
   no_space_at (ForPages pages align) (ForChunk chunk bytes to) is = absurd is
   no_space_at ForGroups aim is = absurd is
 
-  fragments_at : (gone : List ℕ) (extra : Option Span) (after : Then) → IsThenAt k after → IsVmallocAt k (after_fragments gone extra after)
-  fragments_at [] extra after is = is
-  fragments_at (start ∷ gone) extra after is = is
-
-  collected_at : (waited : List Span) (o : Option Span) (after : Then) → IsThenAt k after → IsNextAt k (after_collecting waited o after)
-  collected_at waited None after is = is
-  collected_at waited (Some s) after is = is
-
-  flushed_at : (waited : List Span) (after : Then) → IsThenAt k after → IsNextAt k (after_flush waited after)
-  flushed_at [] after is = is
-  flushed_at (s ∷ waited) after is = is
-
-  went_on_at : (after : Then) → IsThenAt k after → IsNextAt k (go_on after)
-  went_on_at (SearchAgain search aim) is = is
-  went_on_at (ReplyWith r) is = absurd is
-  went_on_at SpareAgain is = absurd is
+  at_row : (s : Section) (p : Place) (n : Next) → PlaceRow c s p n → IsVmallocAt k p → given c m (ask c p) ≡ Some s → n ≡ next c p s → IsNextAt k n
+  at_row s (Finding search aim) n row is e f = subst (IsNextAt k) (sym f) (search_at search aim _ s is is e)
+  at_row s (FindingAgain search aim) n row is e f = subst (IsNextAt k) (sym f) (search_at search aim _ s is (no_space_at search aim is) e)
+  at_row s _ n (Refused r) is e f = tt
+  at_row s _ n _ is e f = search
 
   pub next_at : (p : Place) (s : Section) → IsVmallocAt k p → given c m (ask c p) ≡ Some s → IsNextAt k (next c p s)
-  next_at (Refusing r) s is e = tt
-  next_at (Finding search aim) s is e = search_at search aim _ s is is e
-  next_at (FindingAgain search aim) s is e = search_at search aim _ s is (no_space_at search aim is) e
-  next_at (MappingArea place kd) s is e = either_at k (had_frames s) _ _ is tt
-  next_at (Dropping place) s is e = tt
-  next_at (SettlingArea place kd) s is e = is
-  next_at (PurgeTaking extra after) s is e = is
-  next_at (PurgeFragmenting cpu gone extra after) s is e = either_at k (nat_lt (suc cpu) (cpus c)) _ _ is (fragments_at (gone ++ blocks_gone s) extra after is)
-  next_at (PurgeUnlinking gone extra after) s is e = is
-  next_at (PurgeWaiting gone extra after) s is e = is
-  next_at (PurgeCollecting extra after) s is e = collected_at (spans_taken s) _ after is
-  next_at (PurgeFlushing hull waited after) s is e = flushed_at waited after is
-  next_at (PurgeReturning waited after) s is e = is
-  next_at (PurgeGiving after) s is e = went_on_at after is
-  next_at _ s is e = absurd is
+  next_at p s is e = at_row s p (next c p s) (place_row c s p) is e refl
 
 -- of a caller: its answers, and its call at hand
 pub record IsLocalAligned (l : Local) : Type 0 where
@@ -132,16 +103,7 @@ made_at (Vmalloc bytes align) MadeNothing h = tt
 made_at (Vmalloc bytes align) (MadeArea start serial) h = h bytes align refl
 made_at (Vmalloc bytes align) (MadePart cpu page serial) h = tt
 made_at (Vmalloc bytes align) (MadeObject at serial) h = tt
-made_at (Vfree t) made h = tt
-made_at (MapRam cpu pages) made h = tt
-made_at (UnmapRam t) made h = tt
-made_at UnmapAliases made h = tt
-made_at (AllocPercpu bytes align) made h = tt
-made_at (AllocAtomic bytes align) made h = tt
-made_at (FreePercpu t) made h = tt
-made_at (Add t cpu index amount) made h = tt
-made_at (Sum t index) made h = tt
-made_at Balance made h = tt
+made_at _ made h = tt
 
 answered_aligned : (l : Local) (a : Answered) → IsLocalAligned l → IsMadeAligned a.call a.made → IsLocalAligned (answered l a)
 answered_aligned l a is made = record {

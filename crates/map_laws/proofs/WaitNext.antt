@@ -1,7 +1,6 @@
 -- Where a caller goes with pages that it carved, took or flushed.
-use Rattle.std.proofs.Common.{◌≡◌, ℕ, ◌<◌, inl, inr, true, false, List, [], ◌∷◌, ◌++◌, length, Option, Some, None, refl, ap, sym, ◌∙◌, subst, arith, option_to_list}
+use Rattle.std.proofs.Common.{◌≡◌, ℕ, ◌<◌, inl, inr, Bool, true, false, List, [], ◌∷◌, ◌++◌, length, Option, Some, None, refl, ap, sym, ◌∙◌, subst, arith, option_to_list}
 use Rattle.vm_model.specs.declared.areas.Span.{Span}
-use Rattle.vm_model.specs.declared.areas.Area.{Area}
 use Rattle.vm_model.specs.declared.areas.AreaKind.{AreaKind}
 use Rattle.vm_model.specs.Space.{span, holds, covers}
 use Rattle.vm_model.specs.Setup.{Setup}
@@ -10,15 +9,14 @@ use Rattle.vm_model.specs.Areas.{mapped_part}
 use Rattle.vm_model.specs.Events.{Section, Event, Search, ForPages, ForGroups, Carve, CarveGroups, NoHole, TakeWaiting, Flush, Return, NoFrames}
 use Rattle.vm_model.specs.Legal.{IsMarked, IsUnmapped, IsBare, IsLegalAs}
 use Rattle.vm_model.specs.Effects.{effect_as}
-use Rattle.vm_model.specs.Told.{removed, carved, carved_base, had_frames, spans_taken}
+use Rattle.vm_model.specs.Told.{spans_taken}
 use Rattle.vm_model.specs.Carried.{flushed}
-use Rattle.vm_model.specs.Places.{Place, Finding, FindingAgain, MappingArea, Dropping, Removing, UnmappingArea, PurgeUnlinking, PurgeCollecting, PurgeFlushing, PurgeReturning, UnlinkingBlock, UnlinkingGroups, Aim, ForArea, ForBlock, ForChunk, Then, ask}
-use Rattle.vm_model.specs.Next.{Next, Go, Answer, next, found, with_span, with_base, without_space, after_remove, after_collecting, after_flush}
+use Rattle.vm_model.specs.Places.{Place, Finding, FindingAgain, MappingArea, PurgeCollecting, PurgeFlushing, PurgeReturning, Aim, ForArea, ForBlock, ForChunk, Then, ask}
+use Rattle.vm_model.specs.Next.{Next, Go, Answer, next, with_span, with_base, without_space, after_collecting, after_flush}
 use Rattle.vm_model.specs.LegalHistory.{Meets}
 use Rattle.vm_model.specs.Laws.{map_after}
-use Rattle.map_laws.proofs.Places.{OnNext, either_next}
-use Rattle.map_laws.proofs.AreaFacts.{IsUnbearing, nothing_flushed}
-use Rattle.map_laws.proofs.Quiet.{unbearing_next}
+use Rattle.map_laws.proofs.PlaceRows.{PlaceRow, Stays, place_row}
+use Rattle.map_laws.proofs.Places.{OnNext}
 use Rattle.map_laws.proofs.Spans.{hull_is, covers_append}
 use Rattle.map_laws.proofs.Touched.{painted}
 use Rattle.map_laws.proofs.OrTests.{or_left}
@@ -27,14 +25,16 @@ use Rattle.map_laws.proofs.Stories.{map_at-more, map_at-end, event_last, event_l
 use Rattle.map_laws.proofs.WaitStories.{IsTakenSince, IsBehind, IsCarvedBy, IsStoried, taken_more, carved_more}
 
 -- nothing was carved for a place that holds nothing
-unbearing_storied : (c : Setup) (m : PlainMap) (events : List Event) (k : ℕ) (p : Place) → IsUnbearing p → IsStoried c m events k p
-unbearing_storied c m events k (MappingArea s kd) h = cc
-unbearing_storied c m events k (Dropping s) h = cc
-unbearing_storied c m events k _ h = tt
+-- sections at which a span is carved, or gets no frames
+abbrev is_carving : Place → Bool
+is_carving (Finding search aim) = true
+is_carving (FindingAgain search aim) = true
+is_carving (MappingArea s kd) = true
+is_carving _ = false
 
-unbearing_next_storied : (c : Setup) (m : PlainMap) (events : List Event) (k : ℕ) (n : Next) → OnNext IsUnbearing n → OnNext (IsStoried c m events k) n
-unbearing_next_storied c m events k (Go p) h = unbearing_storied c m events k p h
-unbearing_next_storied c m events k (Answer reply made) h = tt
+other_row : (c : Setup) (first : PlainMap) (es : List Event) (k : ℕ) (s : Section) (p : Place) (n : Next) → PlaceRow c s p n → is_carving p ≡ false → OnNext (IsStoried c first es k) n
+other_row c first es k s _ _ Stays h = tt
+other_row c first es k s _ _ _ h = cc
 
 -- over a map to which the events so far led, and in which free pages are bare
 module _ (c : Setup) (first m : PlainMap) (events : List Event) (story : m ≡ map_after c first events) (clean : (page : ℕ) → IsMarked m Free page → IsBare m page) (k : ℕ) where
@@ -98,30 +98,11 @@ module _ (c : Setup) (first m : PlainMap) (events : List Event) (story : m ≡ m
   map_storied place kd s (inr w) is = subst (λ x. OnNext (IsStoried c first (more x) k) (next c (MappingArea place kd) x)) (sym w)
       (carved_more c first events (record { caller = k; section = NoFrames (mapped_part kd place).pages }) k place (λ page on. subst (λ x. IsUnmapped x page) story (still_unmapped place is page on)) is)
 
-  removed_storied : (o : Option Area) (es : List Event) → OnNext (IsStoried c first es k) (after_remove o)
-  removed_storied None es = tt
-  removed_storied (Some area) es = tt
-
-  collected_storied : (waited : List Span) (o : Option Span) (after : Then) (es : List Event) → OnNext (IsStoried c first es k) (after_collecting waited o after)
-  collected_storied waited None after es = tt
-  collected_storied waited (Some h) after es = tt
-
-  flushed_storied : (waited : List Span) (after : Then) (es : List Event) → OnNext (IsStoried c first es k) (after_flush waited after)
-  flushed_storied [] after es = tt
-  flushed_storied (x ∷ waited) after es = tt
-
   pub storied_next : (p : Place) (s : Section) → Meets c (ask c p) s → IsLegalAs c m k s → IsStoried c first events k p → OnNext (IsStoried c first (more s) k) (next c p s)
   storied_next (Finding search aim) s meets legal is = find_storied search aim s meets legal
   storied_next (FindingAgain search aim) s meets legal is = again_storied search aim s meets legal
   storied_next (MappingArea place kd) s meets legal is = map_storied place kd s meets is
-  storied_next (Removing start serial) s meets legal is = removed_storied (removed s) (more s)
-  storied_next (UnmappingArea area) s meets legal is = tt
-  storied_next (PurgeUnlinking gone extra after) s meets legal is = tt
-  storied_next (UnlinkingBlock start reply) s meets legal is = tt
-  storied_next (UnlinkingGroups base) s meets legal is = tt
-  storied_next (PurgeCollecting extra after) s meets legal is = collected_storied (spans_taken s) _ after (more s)
-  storied_next (PurgeFlushing h waited after) s meets legal is = flushed_storied waited after (more s)
-  storied_next p s meets legal is = unbearing_next_storied c first (more s) k (next c p s) (unbearing_next c p s refl)
+  storied_next p s meets legal is = other_row c first (more s) k s p (next c p s) (place_row c s p) refl
 
 -- Where pages go that were taken.
 
@@ -180,9 +161,14 @@ module _ (c : Setup) (m : PlainMap) (events : List Event) (k i page : ℕ) where
 
 -- Which pages a caller flushes behind a section: those that it took, or flushed before.
 
-unbearing_flushed : (page : ℕ) (n : Next) → OnNext IsUnbearing n → OnNext (λ p. covers (flushed p) page ≡ false) n
-unbearing_flushed page (Go p) h = ap (λ l. covers l page) (nothing_flushed p h)
-unbearing_flushed page (Answer reply made) h = tt
+abbrev is_flushing : Place → Bool
+is_flushing (PurgeCollecting extra after) = true
+is_flushing (PurgeFlushing h waited after) = true
+is_flushing _ = false
+
+flushless_row : (c : Setup) (page : ℕ) (s : Section) (p : Place) (n : Next) → PlaceRow c s p n → is_flushing p ≡ false → OnNext (λ q. covers (flushed q) page ≡ false) n
+flushless_row c page s _ _ Stays h = refl
+flushless_row c page s _ _ _ h = cc
 
 module _ (c : Setup) (m : PlainMap) (k page : ℕ) (Q : Type 0) (of_waiting : covers m.waiting page ≡ true → Q) where
   abbrev IsFlushed : Next → Type 0
@@ -191,30 +177,6 @@ module _ (c : Setup) (m : PlainMap) (k page : ℕ) (Q : Type 0) (of_waiting : co
   none_flushed : (n : Next) → OnNext (λ p. covers (flushed p) page ≡ false) n → IsFlushed n
   none_flushed (Go p) h = λ e. cc
   none_flushed (Answer reply made) h = tt
-
-  span_flushed : (aim : Aim) (s : Span) → IsFlushed (with_span aim s)
-  span_flushed (ForArea kd) s = λ e. cc
-  span_flushed (ForBlock cpu asked) s = λ e. cc
-  span_flushed (ForChunk chunk bytes to) s = tt
-
-  base_flushed : (aim : Aim) (base : ℕ) → IsFlushed (with_base aim base)
-  base_flushed (ForArea kd) base = tt
-  base_flushed (ForBlock cpu asked) base = tt
-  base_flushed (ForChunk chunk bytes to) base = λ e. cc
-
-  found_flushed : (aim : Aim) (o : Option Span) (base : Option ℕ) (otherwise : Next) → IsFlushed otherwise → IsFlushed (found aim o base otherwise)
-  found_flushed aim (Some s) base otherwise h = span_flushed aim s
-  found_flushed aim None (Some base) otherwise h = base_flushed aim base
-  found_flushed aim None None otherwise h = h
-
-  no_space_flushed : (aim : Aim) → IsFlushed (without_space aim)
-  no_space_flushed (ForArea kd) = tt
-  no_space_flushed (ForBlock cpu asked) = tt
-  no_space_flushed (ForChunk chunk bytes to) = λ e. cc
-
-  removed_flushed : (o : Option Area) → IsFlushed (after_remove o)
-  removed_flushed None = tt
-  removed_flushed (Some area) = λ e. cc
 
   collected_flushed : (waited : List Span) (o : Option Span) (after : Then) → (covers waited page ≡ true → Q) → IsFlushed (after_collecting waited o after)
   collected_flushed waited None after h = λ e. cc
@@ -228,14 +190,6 @@ module _ (c : Setup) (m : PlainMap) (k page : ℕ) (Q : Type 0) (of_waiting : co
   collect_told all s e legal on = let legal' = subst (IsLegalAs c m k) e legal in of_waiting (ap (λ l. covers l page) (sym legal') ∙ ap (λ x. covers (spans_taken x) page) (sym e) ∙ on)
 
   pub flushed_next : (p : Place) (s : Section) → Meets c (ask c p) s → IsLegalAs c m k s → (covers (flushed p) page ≡ true → Q) → IsFlushed (next c p s)
-  flushed_next (Finding search aim) s meets legal was = found_flushed aim (carved s) (carved_base s) _ (λ e. cc)
-  flushed_next (FindingAgain search aim) s meets legal was = found_flushed aim (carved s) (carved_base s) _ (no_space_flushed aim)
-  flushed_next (MappingArea place kd) s meets legal was = either_next (λ p. covers (flushed p) page ≡ true → Q) (had_frames s) _ _ (λ e. cc) (λ e. cc)
-  flushed_next (Removing start serial) s meets legal was = removed_flushed (removed s)
-  flushed_next (UnmappingArea area) s meets legal was = λ e. cc
-  flushed_next (PurgeUnlinking gone extra after) s meets legal was = λ e. cc
-  flushed_next (UnlinkingBlock start reply) s meets legal was = λ e. cc
-  flushed_next (UnlinkingGroups base) s meets legal was = λ e. cc
   flushed_next (PurgeCollecting extra after) s meets legal was = collected_flushed (spans_taken s) _ after (collect_told meets.0 s meets.1 legal)
   flushed_next (PurgeFlushing h waited after) s meets legal was = after_flush_flushed waited after was
-  flushed_next p s meets legal was = none_flushed (next c p s) (unbearing_flushed page (next c p s) (unbearing_next c p s refl))
+  flushed_next p s meets legal was = none_flushed (next c p s) (flushless_row c page s p (next c p s) (place_row c s p) refl)

@@ -18,29 +18,19 @@ use Rattle.vm_model.specs.Laws.{IsFreedAt, PagesWaitBeforeReuse}
 use Rattle.map_laws.specs.Waits.{FreedPagesHaveWaited}
 use Rattle.map_laws.proofs.Lists.{append_cases, append_first}
 use Rattle.map_laws.proofs.Frames.{IsFramed, not_over, has_call}
-use Rattle.map_laws.proofs.Places.{OnNext, HaveBeginnings, begins_with, moved_has}
+use Rattle.map_laws.proofs.Places.{OnNext, HaveBeginnings, Opens, AtOver, begins_with, moved_has}
 use Rattle.map_laws.proofs.AreaWorlds.{IsAreaWorld, IsLegalStep, IsLegallyLasting, legally_lasts}
 use Rattle.map_laws.proofs.TraceWorlds.{IsTraceWorld, trace_lasts, trace_first}
 use Rattle.map_laws.proofs.Stories.{map_at-end}
 use Rattle.map_laws.proofs.WaitStories.{IsStoried}
 use Rattle.map_laws.proofs.WaitWorlds.{Follows, Waiting, Taken, IsWaiting, IsWaitWorld, is_idle, idle_storied, idle_flushed, wait_section}
 
+idle_opens : (c : Setup) (p : Place) → Opens c p → is_idle p ≡ true
+idle_opens c _ AtOver = refl
+idle_opens c _ _ = refl
+
 idle_begins : (P : Place → Type 0) (c : Setup) → ((p : Place) → is_idle p ≡ true → P p) → HaveBeginnings P c
-idle_begins P c have = record {
-  over = have _ refl;
-  refused = λ r. have _ refl;
-  area = λ pages align k plain some. have _ refl;
-  part = λ cpu pages e f. have _ refl;
-  dirty = have _ refl;
-  object = λ bytes align few. have _ refl;
-  atomic = λ bytes align few. have _ refl;
-  remove = λ start serial. have _ refl;
-  unmap = λ cpu page serial. have _ refl;
-  free = λ at serial. have _ refl;
-  add = λ at serial cpu index amount. have _ refl;
-  sum = λ at serial index. have _ refl;
-  balance = have _ refl;
-}
+idle_begins P c have p opens = have p (idle_opens c p opens)
 
 pub record IsWaitedWorld (c : Setup) (first : PlainMap) (w : World) : Type 0 where
   pub traced : IsTraceWorld c w
@@ -116,7 +106,7 @@ module _ (c : Setup) (opening : List Call) (calls : List (List Call)) (trace : I
       freed = kept.freed;
     }
 
-  wait_lasts : IsLegallyLasting c calls (IsWaitedWorld c first)
+  pub wait_lasts : IsLegallyLasting c calls (IsWaitedWorld c first)
   wait_lasts = record {
     steps = wait_step;
     joins = λ w framed one kept over. record { traced = (trace_lasts c opening calls trace).joins w framed one kept.traced over; waits = wait_joins w kept.waits };
@@ -135,7 +125,7 @@ module _ (c : Setup) (opening : List Call) (calls : List (List Call)) (trace : I
   none_freed : (page k : ℕ) → IsFreedAt c at_start [] page k → ⊥
   none_freed page k at = at.0 (subst (λ x. IsMarked x Free page) (map_at-end c at_start [] (suc k) (omega arith) ∙ sym (map_at-end c at_start [] k (omega arith))) at.1)
 
-  wait_first : IsWaitedWorld c at_start (opening_world c opening calls)
+  pub wait_first : IsWaitedWorld c at_start (opening_world c opening calls)
   wait_first = record {
     traced = trace_first c opening calls trace;
     waits = record {

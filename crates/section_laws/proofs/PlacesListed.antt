@@ -1,26 +1,26 @@
 -- What a place carries of its own: an alignment that the desk accepted, pages that each stand once, and spans that have pages.
-use Rattle.std.proofs.Common.{◌≡◌, ℕ, zero, suc, ◌+◌, ◌-◌, ◌*◌, ◌/◌, ◌^◌, ◌<◌, ◌≤◌, ◌==◌, max, nat_lt, nat_le, cond, ℤ, inl, inr, Bool, true, false, not, List, [], ◌∷◌, ◌++◌, length, filter, slice_get, Option, Some, None, refl, ap, sym, subst, arith}
+use Rattle.std.proofs.Common.{◌≡◌, ℕ, zero, suc, ◌+◌, ◌-◌, ◌*◌, ◌/◌, ◌^◌, ◌<◌, ◌≤◌, ◌==◌, max, nat_le, cond, ℤ, inl, inr, Bool, true, false, not, List, [], ◌∷◌, ◌++◌, length, filter, slice_get, Option, Some, None, refl, ap, sym, subst, arith}
 use Rattle.std.specs.List.{list_any}
 use Rattle.vm_model.specs.declared.areas.Span.{Span}
 use Rattle.vm_model.specs.declared.areas.Area.{Area}
 use Rattle.vm_model.specs.declared.calls.Call.{Call}
 use Rattle.vm_model.specs.declared.calls.Call.TheVariants.{Vmalloc, Vfree, MapRam, UnmapRam, UnmapAliases, AllocPercpu, AllocAtomic, FreePercpu, Add, Sum, Balance}
 use Rattle.vm_model.specs.Space.{span, count_from}
-use Rattle.vm_model.specs.Setup.{Setup, cpus, groups_at}
+use Rattle.vm_model.specs.Setup.{Setup, groups_at}
 use Rattle.vm_model.specs.PlainMap.{PlainMap, Chunk}
 use Rattle.vm_model.specs.Carried.{count_of}
-use Rattle.vm_model.specs.Blocks.{PartAt}
 use Rattle.vm_model.specs.Chunks.{ObjectAt, placement, plain_fit, new_chunk, spare_chunk, is_populated, pages_of_object}
 use Rattle.vm_model.specs.Events.{Section}
-use Rattle.vm_model.specs.Told.{carved, carved_base, had_frames, removed, pages_waiting, spans_taken, blocks_gone, part_told, was_spent, placed, next_number, was_live, spare_told, page_told}
+use Rattle.vm_model.specs.Told.{removed, placed, next_number, spare_told}
 use Rattle.vm_model.specs.Given.{given, removal, placing, placing_new, sparing}
-use Rattle.vm_model.specs.Places.{Made, MadeNothing, MadeArea, MadePart, MadeObject, Aim, ForArea, ForBlock, ForChunk, Then, SearchAgain, ReplyWith, SpareAgain, Place, Finding, FindingAgain, MappingArea, Removing, UnmappingArea, Waiting, PurgeTaking, PurgeFragmenting, PurgeUnlinking, PurgeWaiting, PurgeCollecting, PurgeFlushing, PurgeReturning, PurgeGiving, CuttingPart, MappingPart, BeginningUnmap, Retiring, UnlinkingBlock, LookingAtDirty, TakingAlloc, Choosing, SettlingGroups, AddingChunk, Populating, ChoosingAtomic, FreeingObject, Sparing, Depopulating, UnlinkingGroups, NextFill, Filling, ask}
-use Rattle.vm_model.specs.Next.{Next, Go, Answer, next, found, without_space, after_remove, go_on, after_fragments, after_collecting, after_flush, after_cut, after_begin, after_place, after_atomic, after_spare, after_page}
+use Rattle.vm_model.specs.Places.{Made, MadeNothing, MadeArea, MadePart, MadeObject, Aim, ForArea, ForBlock, ForChunk, Then, SearchAgain, ReplyWith, SpareAgain, Place, Finding, FindingAgain, Removing, UnmappingArea, Waiting, PurgeTaking, PurgeFragmenting, PurgeUnlinking, PurgeWaiting, PurgeCollecting, PurgeFlushing, PurgeReturning, PurgeGiving, TakingAlloc, Choosing, SettlingGroups, AddingChunk, Populating, ChoosingAtomic, Sparing, Depopulating, ask}
+use Rattle.vm_model.specs.Next.{Next, Go, Answer, next, after_remove, after_place, after_spare}
 use Rattle.vm_model.specs.Calls.{Answered, begin, begin_call, begin_alloc, begin_free_area, begin_unmap_ram, begin_free_percpu, begin_add, begin_sum, target_of, was_freed, answers_in, words_for, is_bad_object_size, is_bad_object_align, is_bad_vmalloc_size, is_bad_vmalloc_align, is_bad_map_size, is_power_to}
 use Rattle.vm_model.specs.History.{World, Local, started, moved_to, opening_world, opening_answers, callers_from}
 use Rattle.vm_model.specs.LegalHistory.{IsReached}
 use Rattle.vm_model.specs.Areas.{is_area, named_areas}
 use Rattle.vm_model.specs.Rules.{IsPower, IsTrace, AreGroups}
+use Rattle.map_laws.proofs.PlaceRows.{PlaceRow, UnmappedArea, UnlinkedBlock, UnlinkedGroups, WaitedTooMuch, WaitedSearch, place_row}
 use Rattle.map_laws.proofs.AreaWorlds.{IsLegalStep, IsLegallyLasting, legally_lasts}
 use Rattle.map_laws.proofs.Frames.{IsFramed, not_over, has_call}
 use Rattle.map_laws.proofs.Sizes.{mapped_at}
@@ -30,7 +30,7 @@ use Rattle.map_laws.proofs.BlockFacts.{to_same}
 use Rattle.map_laws.proofs.Chosen.{filter_has, sum_by-filter-le}
 use Rattle.map_laws.proofs.ChunkPlaced.{placement_is}
 use Rattle.map_laws.proofs.OrTests.{or_either}
-use Rattle.map_laws.proofs.Places.{OnNext, either_next, either_place, answers_call}
+use Rattle.map_laws.proofs.Places.{OnNext, either_place, answers_call}
 use Rattle.std.proofs.lemmas.Option.{same_Some}
 use Rattle.std.proofs.Math.Nat.{pow-le-pow_right}
 use Rattle.section_laws.proofs.UnitPages.{row_once}
@@ -160,20 +160,6 @@ module _ (c : Setup) (opening own : List Answered) where
 once_kept : (p : ℕ → Bool) (pages : List ℕ) → AreOnce pages → AreOnce (filter p pages)
 once_kept p pages once page = let few = once page in omega (arith, sum_by-filter-le (λ other. cond (other == page) 1 0) p pages)
 
-found_listed : (aim : Aim) (s : Option Span) (base : Option ℕ) (otherwise : Next) → IsListedAim aim → OnNext IsListed otherwise → OnNext IsListed (found aim s base otherwise)
-found_listed (ForArea k) (Some s) base otherwise is q = tt
-found_listed (ForBlock cpu pages) (Some s) base otherwise is q = tt
-found_listed (ForChunk chunk bytes align) (Some s) base otherwise is q = tt
-found_listed (ForArea k) None (Some base) otherwise is q = tt
-found_listed (ForBlock cpu pages) None (Some base) otherwise is q = tt
-found_listed (ForChunk chunk bytes align) None (Some base) otherwise is q = is
-found_listed aim None None otherwise is q = q
-
-no_space_listed : (aim : Aim) → OnNext IsListed (without_space aim)
-no_space_listed (ForArea k) = tt
-no_space_listed (ForBlock cpu asked) = tt
-no_space_listed (ForChunk chunk bytes to) = tt
-
 removed_listed : (m : PlainMap) (full : AreFull m) (start serial : ℕ) (list : List Area) → named_areas start serial m.areas ≡ list → OnNext IsListed (after_remove (removed (removal start serial list)))
 removed_listed m full start serial [] e = tt
 removed_listed m full start serial (area ∷ list) e = full.each area (filter_has (is_area start serial) m.areas 0 area (ap (λ l. slice_get l 0) e)).there
@@ -184,39 +170,6 @@ one_full s some (suc i) x e = cc
 
 pub groups_full : (c : Setup) → AreGroups c → (base : ℕ) → AreFullSpans (groups_at c base)
 groups_full c groups base i s e = let g = mapped_at (λ (g : Span). span (base + g.start) g.pages) c.groups i s e in subst (λ (x : Span). 1 ≤ x.pages) g.2 (groups.pages i g.0 g.1)
-
-went_on_listed : (after : Then) → IsListedThen after → OnNext IsListed (go_on after)
-went_on_listed (SearchAgain search aim) is = is
-went_on_listed (ReplyWith reply) is = tt
-went_on_listed SpareAgain is = tt
-
-fragments_listed : (gone : List ℕ) (extra : Option Span) (after : Then) → IsListedThen after → IsListed (after_fragments gone extra after)
-fragments_listed [] extra after is = is
-fragments_listed (start ∷ gone) extra after is = is
-
-collected_listed : (waited : List Span) (o : Option Span) (after : Then) → IsListedThen after → OnNext IsListed (after_collecting waited o after)
-collected_listed waited None after is = is
-collected_listed waited (Some s) after is = is
-
-flushed_listed : (waited : List Span) (after : Then) → IsListedThen after → OnNext IsListed (after_flush waited after)
-flushed_listed [] after is = is
-flushed_listed (s ∷ waited) after is = is
-
-cut_listed : (c : Setup) (cpu pages : ℕ) (o : Option PartAt) → OnNext IsListed (after_cut c cpu pages o)
-cut_listed c cpu pages None = tt
-cut_listed c cpu pages (Some at) = tt
-
-begun_listed : (o : Option PartAt) → OnNext IsListed (after_begin o)
-begun_listed None = tt
-begun_listed (Some at) = tt
-
-atomic_listed : (o : Option (ObjectAt × List ℕ)) → OnNext IsListed (after_atomic o)
-atomic_listed None = tt
-atomic_listed (Some p) = tt
-
-page_listed : (filled : ℕ) (o : Option (ℕ × ℕ × ℕ)) → OnNext IsListed (after_page filled o)
-page_listed filled None = tt
-page_listed filled (Some p) = tt
 
 -- the missing pages of a placement stand once each
 missing_once : (c : Setup) (fit : Chunk → Option ℕ) (bytes : ℕ) (chunks : List Chunk) (at : ObjectAt) (missing : List ℕ) → placement c fit bytes chunks ≡ Some (at, missing) → AreOnce missing
@@ -238,41 +191,26 @@ spared_listed c None = tt
 spared_listed c (Some h) = once_kept (is_populated h) (count_from c.unit_pages 0) (λ page. row_once c.unit_pages 0 page)
 
 module _ (c : Setup) (some : 1 ≤ c.block_pages) (groups : AreGroups c) (m : PlainMap) (full : AreFull m) where
+  listed_row : (s : Section) (p : Place) (n : Next) → PlaceRow c s p n → IsListed p → given c m (ask c p) ≡ Some s → n ≡ next c p s → OnNext IsListed n
+  listed_row s (Removing start serial) n row is e f = subst (OnNext IsListed) (sym f)
+      (subst (λ x. OnNext IsListed (after_remove (removed x))) (same_Some _ _ e) (removed_listed m full start serial (named_areas start serial m.areas) refl))
+  listed_row s (Choosing bytes align) n row is e f = subst (OnNext IsListed) (sym f)
+      (subst (λ x. OnNext IsListed (next c (Choosing bytes align) x)) (same_Some _ _ e)
+      (placed_listed c bytes align is (plain_fit c bytes align) bytes m.chunks (next_number (placing bytes align m.next_chunk (placement c (plain_fit c bytes align) bytes m.chunks))) m.next_chunk (placement c (plain_fit c bytes align) bytes m.chunks) refl))
+  listed_row s (AddingChunk base chunk bytes align) n row is e f = subst (OnNext IsListed) (sym f)
+      (subst (λ x. OnNext IsListed (next c (AddingChunk base chunk bytes align) x)) (same_Some _ _ e)
+      (new_listed c bytes align is (plain_fit c bytes align) bytes (m.chunks ++ new_chunk c chunk base ∷ []) 0 chunk base (placement c (plain_fit c bytes align) bytes (m.chunks ++ new_chunk c chunk base ∷ [])) refl))
+  listed_row s Sparing n row is e f = subst (OnNext IsListed) (sym f)
+      (subst (λ x. OnNext IsListed (next c Sparing x)) (same_Some _ _ e) (spared_listed c (spare_chunk m.chunks)))
+  listed_row s _ n (UnmappedArea area) is e f = (one_full area.span is, tt)
+  listed_row s _ n (UnlinkedBlock start r) is e f = (one_full (span start c.block_pages) some, tt)
+  listed_row s _ n (UnlinkedGroups base) is e f = (groups_full c groups base, tt)
+  listed_row s _ n (WaitedTooMuch spans after) is e f = is.1
+  listed_row s _ n (WaitedSearch spans search aim) is e f = is.1
+  listed_row s _ n _ is e f = search
+
   listed_next : (p : Place) (s : Section) → IsListed p → given c m (ask c p) ≡ Some s → OnNext IsListed (next c p s)
-  listed_next (Finding search aim) s is e = found_listed aim (carved s) (carved_base s) _ is is
-  listed_next (FindingAgain search aim) s is e = found_listed aim (carved s) (carved_base s) _ is (no_space_listed aim)
-  listed_next (MappingArea place k) s is e = either_next IsListed (had_frames s) _ _ tt tt
-  listed_next (Removing start serial) s is e = subst (λ x. OnNext IsListed (after_remove (removed x))) (same_Some _ _ e) (removed_listed m full start serial (named_areas start serial m.areas) refl)
-  listed_next (UnmappingArea area) s is e = (one_full area.span is, tt)
-  listed_next (UnlinkingBlock start r) s is e = (one_full (span start c.block_pages) some, tt)
-  listed_next (UnlinkingGroups base) s is e = (groups_full c groups base, tt)
-  listed_next (Waiting spans after) s is e = either_next IsListed (nat_lt c.lazy (pages_waiting s)) _ _ is.1 (went_on_listed after is.1)
-  listed_next (PurgeTaking extra after) s is e = is
-  listed_next (PurgeFragmenting cpu gone extra after) s is e = either_next IsListed (nat_lt (suc cpu) (cpus c)) _ _ is (fragments_listed (gone ++ blocks_gone s) extra after is)
-  listed_next (PurgeUnlinking gone extra after) s is e = is
-  listed_next (PurgeWaiting gone extra after) s is e = is
-  listed_next (PurgeCollecting extra after) s is e = collected_listed (spans_taken s) _ after is
-  listed_next (PurgeFlushing hull waited after) s is e = flushed_listed waited after is
-  listed_next (PurgeReturning waited after) s is e = is
-  listed_next (PurgeGiving after) s is e = went_on_listed after is
-  listed_next (CuttingPart cpu pages) s is e = cut_listed c cpu pages (part_told s)
-  listed_next (MappingPart at) s is e = either_next IsListed (had_frames s) _ _ tt tt
-  listed_next (BeginningUnmap cpu page serial) s is e = begun_listed (part_told s)
-  listed_next (Retiring at reply) s is e = either_next IsListed (was_spent s) _ _ tt tt
-  listed_next (LookingAtDirty cpu ranges) s is e = either_next IsListed (nat_lt (suc cpu) (cpus c)) _ _ tt tt
-  listed_next (TakingAlloc bytes align) s is e = is
-  listed_next (Choosing bytes align) s is e = subst (λ x. OnNext IsListed (next c (Choosing bytes align) x)) (same_Some _ _ e)
-      (placed_listed c bytes align is (plain_fit c bytes align) bytes m.chunks (next_number (placing bytes align m.next_chunk (placement c (plain_fit c bytes align) bytes m.chunks))) m.next_chunk (placement c (plain_fit c bytes align) bytes m.chunks) refl)
-  listed_next (SettlingGroups base chunk bytes align) s is e = is
-  listed_next (AddingChunk base chunk bytes align) s is e = subst (λ x. OnNext IsListed (next c (AddingChunk base chunk bytes align) x)) (same_Some _ _ e)
-      (new_listed c bytes align is (plain_fit c bytes align) bytes (m.chunks ++ new_chunk c chunk base ∷ []) 0 chunk base (placement c (plain_fit c bytes align) bytes (m.chunks ++ new_chunk c chunk base ∷ [])) refl)
-  listed_next (Populating at missing) s is e = either_next IsListed (had_frames s) _ _ tt tt
-  listed_next (ChoosingAtomic bytes align) s is e = atomic_listed (placed s)
-  listed_next (FreeingObject at serial) s is e = either_next IsListed (was_live s) _ _ tt tt
-  listed_next Sparing s is e = subst (λ x. OnNext IsListed (next c Sparing x)) (same_Some _ _ e) (spared_listed c (spare_chunk m.chunks))
-  listed_next (NextFill filled) s is e = page_listed filled (page_told s)
-  listed_next (Filling chunk base page filled) s is e = either_next IsListed (had_frames s) _ _ tt tt
-  listed_next _ s is e = tt
+  listed_next p s is e = listed_row s p (next c p s) (place_row c s p) is e refl
 
 -- In every world.
 

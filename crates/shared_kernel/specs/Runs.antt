@@ -1,29 +1,18 @@
--- Where a kernel stands in a run: after some picks from its start, each of which moved.
-use Rattle.std.specs.Prelude.{◌≡◌, ◌≢◌, ℕ, ◌+◌, Bool, true, false, ◌&&◌, List, [], ◌∷◌, ◌++◌, length, slice_get, Option, Some, None}
+-- A kernel under a lock, and the turns over it.
+use Rattle.std.specs.Prelude.{◌≡◌, ◌≢◌, ℕ, ◌+◌, Bool, List, [], ◌∷◌, length, slice_get, Option, Some, None}
 use Rattle.vm_model.specs.declared.calls.Call.{Call}
 use Rattle.vm_model.specs.Setup.{Setup}
-use Rattle.vm_model.specs.History.{World, Local, step, pick_all, moves_in}
-use Rattle.vm_model.specs.LegalHistory.{AllOver}
+use Rattle.vm_model.specs.History.{World, Local, step}
 use Rattle.section_core.specs.declared.region.Stepped.{Stepped}
 use Rattle.section_core.specs.declared.region.Stepped.TheVariants.{Moved, Stays, Ended}
-use Rattle.section_laws.specs.Lawful.{IsRunning}
 use Rattle.shared_kernel.specs.declared.locked.Turn.{Turn}
-use Rattle.kernel_steps.specs.Kernels.{KernelState, IsStanding, IsSteppedAs, movers, start_of, opening_of, callers_of}
+use Rattle.kernel_steps.specs.Kernels.{KernelState, IsStanding, IsSteppedAs, opening_of, callers_of}
+use Rattle.kernel_steps.specs.Runs.{HasRun}
 
 abbrev pub no_setup : Setup
 no_setup = record { space = 0; frames = 0; lazy = 0; block_pages = 0; part_limit = 0; unit_pages = 0; atom = 0; groups = []; units = [] }
 
--- each of these callers moves, after those before it
-abbrev pub all_move : World → List ℕ → Bool
-all_move w [] = true
-all_move w (k ∷ picks) = moves_in w (slice_get w.locals k) && all_move (step w k) picks
-
--- the kernel stands where these picks lead from its start, and each of them moved
-pub record HasRun (c : Setup) (sections : List (List Call)) (picks : List ℕ) (k : KernelState) : Type 0 where
-  pub started : IsRunning c (opening_of sections) (callers_of sections) (start_of c sections)
-  pub moving : all_move (start_of c sections) picks ≡ true
-  pub stands : IsStanding c (opening_of sections) (callers_of sections) (pick_all (start_of c sections) picks) k
-
+-- after some picks from its start
 abbrev pub IsInRun : Setup → List (List Call) → KernelState → Type 0
 IsInRun c sections k = (picks : List ℕ) × HasRun c sections picks k
 
@@ -35,12 +24,6 @@ pub record LockedState : Type 0 where
 pub record IsLockedFor (c : Setup) (sections : List (List Call)) (k : KernelState) : Type 0 where
   pub run : IsInRun c sections k
   pub callers : length k.locals ≡ 1 + length (callers_of sections)
-
--- and all callers have ended
-pub record HasEnded (c : Setup) (sections : List (List Call)) (picks : List ℕ) (k : KernelState) : Type 0 where
-  pub run : HasRun c sections picks k
-  pub moved : k.moved ≡ movers (start_of c sections).events ++ picks
-  pub over : AllOver (pick_all (start_of c sections) picks).locals
 
 -- a caller's turn makes its step and counts its answers, or finds that all are to halt
 abbrev pub IsTurnOf : Setup → List (List Call) → (caller : ℕ) → (old new : KernelState) → Option Turn → Type 0

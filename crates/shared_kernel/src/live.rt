@@ -2,7 +2,7 @@
 ghost use Rattle.std.specs.Prelude.{◌≡◌, ◌<◌, ◌≤◌, ℕ, List, IfOk, drop, length};
 ghost use Rattle.unit_layout.specs.Config.{setup_of};
 ghost use Rattle.kernel_steps.specs.Kernels.{CanStart, callers_of};
-ghost use Rattle.shared_kernel.specs.Runs.{HasEnded};
+ghost use Rattle.kernel_steps.specs.Runs.{HasEnded};
 
 use crate::locked::{Locked, work};
 use crate::started::Started;

@@ -2,7 +2,8 @@
 ghost use Rattle.std.specs.Prelude.{◌≡◌, ◌<◌, ◌+◌, ℕ, List, Option, length, None, IfNone, IfOk, MatchBool, true, false};
 ghost use Rattle.shared_kernel.specs.declared.locked.Turn.{Turn};
 ghost use Rattle.kernel_steps.specs.Kernels.{callers_of};
-ghost use Rattle.shared_kernel.specs.Runs.{IsInRun, HasEnded, IsTurnOf, GoesOn, IsLastTurn, MakesTurns};
+ghost use Rattle.kernel_steps.specs.Runs.{HasEnded};
+ghost use Rattle.shared_kernel.specs.Runs.{IsInRun, IsTurnOf, GoesOn, IsLastTurn, MakesTurns};
 
 use crate::started::Started;
 use kernel_steps::Kernel;

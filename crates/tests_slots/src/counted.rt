@@ -26,6 +26,7 @@ impl Model for Counted {
 }
 
 impl Counted {
+    /// No chunk yet, and room for so many objects. An error comes for want of memory only.
     pub fn new(alloc: Global, unit_pages: u32, objects: u32) -> Result<Counted, AllocError>
         requires least { 8 ≤ unit_pages }
         requires most { unit_pages ≤ 64 }
@@ -34,6 +35,7 @@ impl Counted {
         Ok(Counted { side, next: 1 })
     }
 
+    /// The chunks, to be looked at.
     pub fn side(&self) -> &PcpuSide {
         &self.side
     }

@@ -56,6 +56,7 @@ fn slot_for(bytes: u32) -> u32 {
 }
 
 impl PlainChunk {
+    /// A chunk with no object and no populated page. An error comes for want of memory only.
     pub fn new(alloc: Global, number: u32, base: u32, pages: u32) -> Result<PlainChunk, AllocError>
         requires { pages ≤ 64 }
     {
@@ -74,6 +75,7 @@ impl PlainChunk {
         plain_longest(&self.words)
     }
 
+    /// The slot of its longest run, from a scan: slot 0 where no word is free, and the last one but one for an empty chunk.
     pub fn slot(&self, rt: &impl Abort) -> u32 {
         let (_, run) = self.longest(rt);
         if run == 0 {

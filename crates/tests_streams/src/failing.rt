@@ -8,7 +8,7 @@ use trace_replay::StreamSource;
 
 /// What calls do in place of moving bytes.
 #[derive(Clone, Copy)]
-enum Fault {
+pub enum Fault {
     /// They fail.
     Error(ErrorKind),
     /// They move nothing.
@@ -17,14 +17,14 @@ enum Fault {
 
 /// The calls from the first to the last, which are counted from 1, have a fault.
 #[derive(Clone, Copy)]
-struct Faults {
+pub struct Faults {
     first: u32,
     last: u32,
     fault: Fault,
 }
 
 /// One call with an error.
-fn fails_at(call: u32) -> Faults {
+pub fn fails_at(call: u32) -> Faults {
     times(Fault::Error(ErrorKind::Other), call, 1)
 }
 
@@ -36,15 +36,15 @@ fn times(fault: Fault, first: u32, count: u32) -> Faults {
 
 /// A reader or a writer that moves at most a piece a call.
 #[derive(Drop)]
-struct Faulty<T> {
-    inner: T,
+pub struct Faulty<T> {
+    pub inner: T,
     piece: usize,
     calls: u32,
     faults: Faults,
 }
 
 impl<T> Faulty<T> {
-    fn new(inner: T, piece: usize, faults: Faults) -> Faulty<T> {
+    pub fn new(inner: T, piece: usize, faults: Faults) -> Faulty<T> {
         Faulty {
             inner,
             piece,

@@ -12,3 +12,5 @@ mod lengths;
 mod memory;
 #[cfg(test)]
 mod replayed;
+#[cfg(test)]
+mod two_areas;

@@ -7,3 +7,4 @@ pub mod OneCommand
 pub mod ReplayTexts
 pub mod Counted
 pub mod LiveReported
+pub mod MadeOf

@@ -1,16 +1,19 @@
 -- What a kernel tells that ran the opening, the picks and the rest of a trace is its history.
-use Rattle.std.proofs.Common.{All, ◌≡◌, ℕ, ◌+◌, ◌<◌, List, length, sym, ap, ◌∙◌, subst, arith}
+use Rattle.std.proofs.Common.{All, ◌≡◌, ℕ, ◌+◌, ◌<◌, Bool, true, false, List, length, refl, sym, ap, ◌∙◌, subst, arith}
 use Rattle.vm_model.specs.declared.calls.Call.{Call}
 use Rattle.unit_layout.specs.declared.config.Config.{Config}
 use Rattle.vm_model.specs.declared.tables.Tables.{Tables}
 use Rattle.unit_layout.specs.Config.{setup_of}
-use Rattle.vm_model.specs.History.{finish, most_events, pick_all, history_of}
+use Rattle.vm_model.specs.Setup.{Setup}
+use Rattle.vm_model.specs.declared.rows.CounterRow.{CounterRow}
+use Rattle.report_text.specs.Report.{report}
+use Rattle.vm_model.specs.History.{World, finish, most_events, pick_all, history_of}
 use Rattle.vm_model.specs.Tables.{tables_of}
 use Rattle.trace_text.specs.Reading.{Reading, calls_of}
 use Rattle.trace_text.specs.Told.{config_of, all_calls}
 use Rattle.std.proofs.lemmas.List.FromFn.{length-map-range_with_len}
 use Rattle.kernel_steps.proofs.CallersThere.{all_there}
-use Rattle.kernel_steps.specs.Kernels.{KernelState, IsStanding, CanStart, start_of, opening_of, callers_of}
+use Rattle.kernel_steps.specs.Kernels.{KernelState, IsStanding, CanStart, start_of, opening_of, callers_of, tables_for}
 use Rattle.trace_rules.specs.RuledTraces.{IsRuledTrace}
 use Rattle.trace_rules.proofs.TracesRuled.{sections_small}
 use Rattle.trace_replay.specs.Headline.{setup, history_of_trace}
@@ -28,11 +31,16 @@ picks_within config sections picks k r is all same st =
     subst (All (λ pick. pick < length k.locals)) (sym same) (λ i d low. (let high = (is.picks i d low).high in omega arith))
 
 -- the tables of where the kernel stands at the end are those of the history
-pub tables_told : (config : Config) (sections : List (List Call)) (picks : List ℕ) (r : Reading) (t : Tables) → config ≡ config_of r.header → sections ≡ all_calls r → picks ≡ r.picks
-    → t ≡ tables_of (setup_of config) (finish most_events (pick_all (start_of (setup_of config) sections) picks)) → t ≡ tables_of (setup r) (history_of_trace r)
+pub tables_told : (audit : Bool) (config : Config) (sections : List (List Call)) (picks : List ℕ) (r : Reading) (t : Tables) → config ≡ config_of r.header → sections ≡ all_calls r → picks ≡ r.picks
+    → t ≡ tables_for audit (setup_of config) (finish most_events (pick_all (start_of (setup_of config) sections) picks)) → t ≡ tables_for audit (setup r) (history_of_trace r)
 unfolding history_of
-tables_told config sections picks r t same all picked is =
+tables_told audit config sections picks r t same all picked is =
     is
-    ∙ ap (λ (c : Config). tables_of (setup_of c) (finish most_events (pick_all (start_of (setup_of c) sections) picks))) same
-    ∙ ap (λ s. tables_of (setup r) (finish most_events (pick_all (start_of (setup r) s) picks))) all
-    ∙ ap (λ ps. tables_of (setup r) (finish most_events (pick_all (start_of (setup r) (all_calls r)) ps))) picked
+    ∙ ap (λ (c : Config). tables_for audit (setup_of c) (finish most_events (pick_all (start_of (setup_of c) sections) picks))) same
+    ∙ ap (λ s. tables_for audit (setup r) (finish most_events (pick_all (start_of (setup r) s) picks))) all
+    ∙ ap (λ ps. tables_for audit (setup r) (finish most_events (pick_all (start_of (setup r) (all_calls r)) ps))) picked
+
+-- a report is the same without the rows that it does not write
+pub same_report : (audit : Bool) (c : Setup) (w : World) (rows : List CounterRow) → report (tables_for audit c w) rows audit ≡ report (tables_of c w) rows audit
+same_report true c w rows = refl
+same_report false c w rows = refl

@@ -10,7 +10,8 @@ use Rattle.trace_replay.specs.Streams.{RoseByOne}
 use Rattle.trace_replay.specs.declared.answer.Outcome.{Outcome}
 use Rattle.trace_replay.specs.declared.status.Status.{Status}
 use Rattle.trace_replay.specs.declared.status.Status.TheVariants.{Done, BadTrace, BadLayout, Usage, OutOfMemory, ReadFault, WriteFault, TooLong}
-use Rattle.trace_replay.specs.Headline.{HasLayout, Shows, Writes, IsWritten, IsRead, Answers, HasRoomFor, IsTold, IsSilent, most_bytes}
+use Rattle.trace_replay.specs.Headline.{HasLayout, Shows, Writes, IsWritten, IsRead, Answers, HasRoomFor, IsTold, EndsAs, IsSilent, most_bytes}
+use Rattle.trace_replay.specs.Commands.{IsSaid, IsMadeOf, Replays, TellsFaults}
 
 -- a source that gave too many bytes
 
@@ -19,14 +20,6 @@ too_long_writes shows bytes o e text long = subst (λ s. Writes shows bytes s o.
 
 pub too_long_reads : (bytes : List ℕ) (o : Outcome) (left : Option (List ℕ)) → o.status ≡ TooLong → IsRead bytes o.status left
 too_long_reads bytes o left e = subst (λ s. IsRead bytes s left) (sym e) tt
-
--- a status that goes with a text
-
-pub record IsSaid (status : Status) : Type 0 where
-  pub read : status ≢ ReadFault
-  pub write : status ≢ WriteFault
-  pub memory : status ≢ OutOfMemory
-  pub usage : status ≢ Usage
 
 pub room_for : (shows : Shows) (left : Option (List ℕ)) (room : Option ℕ) (status : Status) (text : List ℕ) → HasRoomFor shows left room → ((bytes : List ℕ) → left ≡ Some bytes → Writes shows bytes status text) → (x : ℕ) → room ≡ Some x → length text ≤ x
 room_for shows left None status text h w x e = cc
@@ -112,3 +105,37 @@ complete shows bytes r TooLong says short trace stands read write = let (text, w
 complete shows bytes r Usage says short trace stands read write = absurd says
 complete shows bytes r ReadFault says short trace stands read write = absurd (read refl)
 complete shows bytes r WriteFault says short trace stands read write = absurd (write refl)
+
+-- once what was made of a source was told to a sink, the command has done what it promises
+pub commanded : (shows : Shows) (source left : Option (List ℕ)) (status : Status) (text : List ℕ) (answer : Status) (first after : Option (List ℕ)) (b n : ℕ) → IsMadeOf shows source left status text → IsTold status text answer first after b n
+    → Replays shows source left first after answer
+commanded shows source left status text answer first after b n made told = record {
+  written = λ bytes before is taken. written shows bytes before status text answer first after b n (made.writes bytes is) told taken;
+  answers = λ bytes is. answers shows bytes status text answer first after b n (made.writes bytes is) told;
+  read = λ bytes is. reads bytes left status text answer first after b n (made.read bytes is) told;
+  complete = λ bytes r is short trace stands. complete shows bytes r answer (answers shows bytes status text answer first after b n (made.writes bytes is) told) short trace stands;
+}
+
+-- its faults are those of the sink, since no read failed
+pub faults_told : (status : Status) (text : List ℕ) (answer : Status) (first after : Option (List ℕ)) (b n reads reads_after : ℕ) → IsSaid status → IsTold status text answer first after b n → reads_after ≡ reads → (answer ≢ WriteFault → n ≡ b)
+    → TellsFaults answer reads reads_after b n
+faults_told status text answer first after b n reads reads_after said told same unwritten = record {
+  read_fault = λ e. absurd (no_read_fault status text answer first after b n said.read told e);
+  write_fault = write_fault status text answer first after b n said.write told;
+  failed_read = λ _. same;
+  failed_write = unwritten;
+}
+
+-- those of a command that reads nothing
+pub faults_sent : (own status : Status) (reads b n : ℕ) → own ≢ ReadFault → EndsAs own status → (status ≡ WriteFault → RoseByOne b n) → (status ≢ WriteFault → n ≡ b) → TellsFaults status reads reads b n
+faults_sent own status reads b n no_read ends failed unwritten = record {
+  read_fault = λ e. absurd (never ends e);
+  write_fault = failed;
+  failed_read = λ _. refl;
+  failed_write = unwritten;
+}
+  where
+    never : EndsAs own status → status ≡ ReadFault → ⊥
+    never (inl done) e = no_read (sym done ∙ e)
+    never (inr (inl memory)) e = cc
+    never (inr (inr write)) e = cc

@@ -7,3 +7,4 @@ pub mod Words
 pub mod Headline
 pub mod WorkedReplays
 pub mod LiveReports
+pub mod Commands

@@ -1,5 +1,5 @@
 -- The words of the commands, and which command they name.
-use Rattle.std.specs.Prelude.{◌≡◌, ◌<◌, ◌≤◌, ◌^◌, ℕ, List, [], ◌∷◌, Bool, true, false, codes, decimal}
+use Rattle.std.specs.Prelude.{◌≡◌, ◌<◌, ◌≤◌, ◌^◌, ℕ, List, [], ◌∷◌, Bool, true, false, codes, decimal, map, String, string_bytes}
 use Rattle.trace_replay.specs.declared.words.Mode.{Mode}
 use Rattle.trace_replay.specs.declared.words.Mode.TheVariants.{Replay, Audit}
 use Rattle.trace_replay.specs.declared.words.Command.{Command}
@@ -23,3 +23,14 @@ Name (command.Make start calls) words = (words ≡ codes "make" ∷ decimal star
 
 abbrev pub NameNone : List (List ℕ) → Type 0
 NameNone words = (c : Command) → ¬ Name c words
+
+-- the words of a command line name this command, or none
+abbrev pub Names : {Z : Type 0} → List (String Z) → Command → Type 0
+Names words c = Name c (map string_bytes words)
+
+abbrev pub NamesNone : {Z : Type 0} → List (String Z) → Type 0
+NamesNone words = NameNone (map string_bytes words)
+
+-- they name no command that reads a trace
+abbrev pub ReadsNothing : {Z : Type 0} → List (String Z) → Type 0
+ReadsNothing words = ((mode : Mode) → ¬ Names words (command.Replay mode)) × (¬ Names words command.Live)

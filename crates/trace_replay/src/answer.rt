@@ -1,6 +1,6 @@
 //! What is written for the bytes of a trace.
 ghost use Rattle.std.specs.Prelude.{◌≡◌, ◌≤◌, ◌<◌, ℕ, List, IfOk, OnOk, length};
-ghost use Rattle.vm_model.specs.Tables.{tables_of};
+ghost use Rattle.kernel_steps.specs.Kernels.{tables_for};
 ghost use Rattle.trace_text.specs.Reading.{Reading};
 ghost use Rattle.report_text.specs.Report.{fault_line};
 ghost use Rattle.trace_text.specs.Told.{Tells};
@@ -23,10 +23,10 @@ pub struct Outcome {
     pub text: Text,
 }
 
-/// The replies and tables of a trace.
-fn tables_of_trace(alloc: Global, trace: Trace) -> Result<Tables, AllocError>
+/// The replies and tables of a trace, in which the rows that an audit alone reads stand with one only.
+fn tables_of_trace(alloc: Global, trace: Trace, audit: bool) -> Result<Tables, AllocError>
     requires { (reading : Reading) × IsRuledTrace reading × Tells trace reading }
-    ensures { IfOk result (λ tables. (reading : Reading) → IsRuledTrace reading → Tells trace reading → tables ≡ tables_of (setup reading) (history_of_trace reading)) }
+    ensures { IfOk result (λ tables. (reading : Reading) → IsRuledTrace reading → Tells trace reading → tables ≡ tables_for audit (setup reading) (history_of_trace reading)) }
 {
     let Trace {
         config,
@@ -37,7 +37,7 @@ fn tables_of_trace(alloc: Global, trace: Trace) -> Result<Tables, AllocError>
     let mut kernel = Kernel::start(alloc, config, calls)?;
     kernel.run(picks.as_slice())?;
     kernel.finish()?;
-    kernel.tables()
+    kernel.tables(audit)
 }
 
 /// The report of a trace.
@@ -46,8 +46,9 @@ fn report(alloc: Global, mode: Mode, trace: Trace) -> Result<Outcome, AllocError
     ensures { IfOk result (λ outcome. (reading : Reading) → IsRuledTrace reading → Tells trace reading → Reports (IsReport mode) reading outcome.status outcome.text) }
 {
     let counters = counters_of_trace(alloc, &trace)?;
-    let tables = tables_of_trace(alloc, trace)?;
-    let text = write_report(alloc, &tables, &counters, mode.audits())?;
+    let audit = mode.audits();
+    let tables = tables_of_trace(alloc, trace, audit)?;
+    let text = write_report(alloc, &tables, &counters, audit)?;
     Ok(Outcome {
         status: Status::Done,
         text,

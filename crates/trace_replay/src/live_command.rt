@@ -1,11 +1,11 @@
 //! A trace whose callers run on threads of their own.
-ghost use Rattle.std.specs.Prelude.{◌≡◌, ◌≢◌, ◌≤◌, ◌⊎◌, ℕ, List, Some, Err, IfOk, length};
+ghost use Rattle.std.specs.Prelude.{◌≡◌, ◌≢◌, ◌≤◌, Err, IfOk, length};
 ghost use Rattle.trace_text.specs.Reading.{Reading};
-ghost use Rattle.trace_text.specs.Grammar.{IsTraceOf};
 ghost use Rattle.trace_text.specs.Told.{Tells};
 ghost use Rattle.trace_rules.specs.RuledTraces.{IsRuledTrace};
-ghost use Rattle.trace_replay.specs.Streams.{RoseByOne, IsReadInPart};
-ghost use Rattle.trace_replay.specs.Headline.{Writes, IsWritten, IsRead, Answers, HasRoomFor, HasLayout, Reports, IsSilent, most_bytes};
+ghost use Rattle.trace_replay.specs.Streams.{RoseByOne};
+ghost use Rattle.trace_replay.specs.Headline.{Writes, HasRoomFor, Reports, IsSilent, most_bytes};
+ghost use Rattle.trace_replay.specs.Commands.{IsMadeOf, IsCutShort, Replays, TellsFaults};
 ghost use Rattle.trace_replay.specs.LiveReports.{IsLiveReport};
 
 use crate::answer::{Outcome, fault, too_long};
@@ -36,7 +36,7 @@ fn live_report<G: Gate + Sync, R: Threads + Wait + Sync>(
     let counters = counters_of_trace(alloc, &trace)?;
     let Trace { config, calls, .. } = trace;
     let lived = live_kernel(rt, alloc, config, calls, gate)?;
-    let tables = lived.kernel.tables()?;
+    let tables = lived.kernel.tables(false)?;
     let schedule = write_schedule(alloc, &lived.kernel.moved()[lived.opening..])?;
     let report = write_report(alloc, &tables, &counters, false)?;
     let mut bytes = schedule.into_vec();
@@ -76,11 +76,9 @@ fn live_outcome<S: Source, G: Gate + Sync, R: Threads + Wait + Sync>(
     source: &mut S,
     gate: &G,
 ) -> Result<Outcome, Cut>
-    ensures writes { IfOk result (λ outcome. (bytes : List ℕ) → S.left source.old ≡ Some bytes → Writes IsLiveReport bytes outcome.status outcome.text) }
-    ensures read { IfOk result (λ outcome. (bytes : List ℕ) → S.left source.old ≡ Some bytes → IsRead bytes outcome.status (S.left source.new)) }
-    ensures says { IfOk result (λ outcome. (outcome.status ≢ Status.ReadFault) × (outcome.status ≢ Status.WriteFault) × (outcome.status ≢ Status.OutOfMemory) × (outcome.status ≢ Status.Usage)) }
+    ensures made { IfOk result (λ o. IsMadeOf IsLiveReport (S.left source.old) (S.left source.new) o.status o.text) }
     ensures failed { result ≡ Err Cut.Failed → RoseByOne (S.faults source.old) (S.faults source.new) }
-    ensures in_part { result ≡ Err Cut.Failed → (bytes : List ℕ) → S.left source.old ≡ Some bytes → IsReadInPart most_bytes bytes (S.left source.new) }
+    ensures cut_short { result ≡ Err Cut.Failed → IsCutShort (S.left source.old) (S.left source.new) }
     ensures not_cut { result ≢ Err Cut.TooLong }
     ensures no_fault { result ≢ Err Cut.Failed → S.faults source.new ≡ S.faults source.old }
 {
@@ -103,21 +101,10 @@ pub fn live<S: Source, K: Sink, G: Gate + Sync, R: Threads + Wait + Sync>(
     gate: &G,
 ) -> Status
     requires { HasRoomFor IsLiveReport (S.left source.old) (K.room sink.old) }
-    ensures written { (bytes before : List ℕ) → S.left source.old ≡ Some bytes → K.taken sink.old ≡ Some before → IsWritten IsLiveReport bytes result before (K.taken sink.new) }
-    ensures answers { (bytes : List ℕ) → S.left source.old ≡ Some bytes → Answers IsLiveReport bytes result }
-    ensures read { (bytes : List ℕ) → S.left source.old ≡ Some bytes → IsRead bytes result (S.left source.new) }
-    ensures read_fault { result ≡ Status.ReadFault → RoseByOne (S.faults source.old) (S.faults source.new) }
-    ensures write_fault { result ≡ Status.WriteFault → RoseByOne (K.faults sink.old) (K.faults sink.new) }
-
-    // A read or a write that fails ends the command.
-    ensures failed_read { result ≢ Status.ReadFault → S.faults source.new ≡ S.faults source.old }
-    ensures failed_write { result ≢ Status.WriteFault → K.faults sink.new ≡ K.faults sink.old }
+    ensures replays { Replays IsLiveReport (S.left source.old) (S.left source.new) (K.taken sink.old) (K.taken sink.new) result }
+    ensures faults { TellsFaults result (S.faults source.old) (S.faults source.new) (K.faults sink.old) (K.faults sink.new) }
     ensures silent { IsSilent result → K.taken sink.new ≡ K.taken sink.old }
     ensures usage { result ≢ Status.Usage }
-
-    // A trace that is short enough, whose layout stands, and no fault.
-    ensures complete { (bytes : List ℕ) (reading : Reading) → S.left source.old ≡ Some bytes → length bytes ≤ most_bytes → IsTraceOf bytes reading → HasLayout reading
-        → ¬ RoseByOne (S.faults source.old) (S.faults source.new) → ¬ RoseByOne (K.faults sink.old) (K.faults sink.new) → (result ≡ Status.Done) ⊎ (result ≡ Status.OutOfMemory) }
 {
     match live_outcome(rt, alloc, source, gate) {
         Ok(outcome) => tell(sink, outcome),

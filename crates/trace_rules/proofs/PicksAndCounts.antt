@@ -1,17 +1,17 @@
--- Picks are callers of the header, and count lines give small amounts to its counters by its processors; there is room for all lines of calls and counts.
-use Rattle.std.proofs.Common.{All, ◌≡◌, ℕ, ◌+◌, ◌<◌, ◌≤◌, true, not, ◌&&◌, nat_lt, List, [], ◌∷◌, ◌++◌, length, refl, sym, subst, arith, length-append}
+-- Picks are callers of the header, and count lines of these and of the opening give small amounts to its counters by its processors; there is room for all lines of calls and counts.
+use Rattle.std.proofs.Common.{All, ◌≡◌, ℕ, ◌+◌, ◌<◌, ◌≤◌, true, not, ◌&&◌, nat_lt, nat_le, List, [], ◌∷◌, ◌++◌, length, refl, sym, subst, arith, length-append}
 use Rattle.std.specs.Prelude.{ℤ}
 use Rattle.std.specs.List.{list_all}
-use Rattle.std.proofs.lemmas.Bool.{and_parts, ltb-true}
+use Rattle.std.proofs.lemmas.Bool.{and_parts, ltb-true, leb-true}
 use Rattle.std.proofs.lemmas.List.Elements.{All-nil, All-cons, All-append}
 use Rattle.std.proofs.lemmas.List.Sums.{AllPass-from_list_all}
 use Rattle.vm_model.specs.declared.calls.CountLine.{CountLine}
 use Rattle.vm_model.specs.Words.{within, is_number, is_amount}
-use Rattle.trace_text.specs.Lines.{Line, GroupOf, Callers, Counters, Vmalloc, Vfree, MapRam, UnmapRam, UnmapAliases, AllocPercpu, AllocAtomic, FreePercpu, Add, Sum, Balance, Count, Order}
+use Rattle.trace_text.specs.Lines.{Line, GroupOf, Callers, Counters, Caller, Vmalloc, Vfree, MapRam, UnmapRam, UnmapAliases, AllocPercpu, AllocAtomic, FreePercpu, Add, Sum, Balance, Count, Order}
 use Rattle.trace_text.specs.Reading.{Reading, Made, calls_before, cpus_of, unread}
 use Rattle.trace_text.specs.Grammar.{may_stand, read, is_new, is_cpu, has_room, aims, is_vmalloc, is_map_ram, is_object, has_word}
 use Rattle.trace_text.proofs.HeaderLines.{in_range}
-use Rattle.trace_rules.specs.RuledTraces.{IsPick, IsCount}
+use Rattle.trace_rules.specs.RuledTraces.{IsPick, IsCount, IsCountOf}
 use Rattle.trace_rules.proofs.TraceLines.{place, spelling, rule}
 
 -- the room for lines of calls and counts
@@ -106,3 +106,29 @@ counts_kept r (Count counter cpu amount) h is = record {
   counts = All-append (IsCount r.header.counters (cpus_of r.header)) r.counts (line_of_count r counter cpu amount ∷ []) is.counts (All-cons (IsCount r.header.counters (cpus_of r.header)) _ [] (is_count r counter cpu amount h) (All-nil _));
 }
 counts_kept r l h is = record { uncounted = λ early. is.uncounted (let at = place r l h in omega arith); counters = is.counters; batch_low = is.batch_low; batch_high = is.batch_high; counts = is.counts }
+
+-- the open section and those of the count lines are the opening's or a caller's; before the lines of calls and counts there is none but the opening's
+pub record AreOfCallers (r : Reading) : Type 0 where
+  pub unopened : r.rank < 10 → (r.counts ≡ []) × (r.caller ≡ 0)
+  pub section : r.caller ≤ r.header.callers
+  pub counting : All (IsCountOf r.header.callers) r.counts
+
+none_of : (callers : ℕ) (counts : List CountLine) → counts ≡ [] → All (IsCountOf callers) counts
+none_of callers counts none = subst (All (IsCountOf callers)) (sym none) (All-nil (IsCountOf callers))
+
+pub of_callers_first : AreOfCallers unread
+of_callers_first = record { unopened = λ early. (refl, refl); section = omega arith; counting = none_of 1 [] refl }
+
+pub of_callers_kept : (r : Reading) (l : Line) → may_stand r l ≡ true → AreOfCallers r → AreOfCallers (read r l)
+of_callers_kept r (Callers callers) h is =
+    let none = is.unopened (let at = place r (Callers callers) h in omega arith) in
+    record { unopened = λ early. none; section = (let first = none.1 in omega arith); counting = none_of callers r.counts none.0 }
+of_callers_kept r (Caller caller) h is =
+    let within = and_parts (nat_lt r.caller caller) (nat_le caller r.header.callers) (rule r (Caller caller) h) in
+    record { unopened = λ early. absurd (omega arith); section = leb-true caller r.header.callers within.1; counting = is.counting }
+of_callers_kept r (Count counter cpu amount) h is = record {
+  unopened = λ early. absurd (omega arith);
+  section = is.section;
+  counting = All-append (IsCountOf r.header.callers) r.counts (line_of_count r counter cpu amount ∷ []) is.counting (All-cons (IsCountOf r.header.callers) _ [] is.section (All-nil _));
+}
+of_callers_kept r l h is = record { unopened = λ early. is.unopened (let at = place r l h in omega arith); section = is.section; counting = is.counting }

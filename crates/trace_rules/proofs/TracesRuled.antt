@@ -19,7 +19,7 @@ use Rattle.trace_rules.proofs.SmallCalls.{all_small}
 use Rattle.trace_rules.proofs.AllSections.{AreAllRuled}
 use Rattle.trace_rules.proofs.RuledLines.{IsRuledSoFar, ruled_first, line_ruled}
 use Rattle.trace_rules.proofs.SectionSizes.{sections_length, section_at}
-use Rattle.trace_rules.proofs.PicksAndCounts.{HasFewLines, few_kept, ArePicked, picked_first, picks_kept, AreCounted, counted_first, counts_kept}
+use Rattle.trace_rules.proofs.PicksAndCounts.{HasFewLines, few_kept, ArePicked, picked_first, picks_kept, AreCounted, counted_first, counts_kept, AreOfCallers, of_callers_first, of_callers_kept}
 
 -- the machine of a trace, which has the processors of its header
 abbrev setup : Reading → Setup
@@ -46,6 +46,7 @@ traces_keep_the_rules bytes r trace laid =
     let few = of_trace HasFewLines (omega arith) few_kept bytes r trace in
     let picked = of_trace ArePicked picked_first picks_kept bytes r trace in
     let counted = of_trace AreCounted counted_first counts_kept bytes r trace in
+    let sections = of_trace AreOfCallers of_callers_first of_callers_kept bytes r trace in
     let many = length-map-range_with_len (λ k. calls_of k r.calls) 1 r.header.callers in
     record {
       trace = record {
@@ -65,6 +66,7 @@ traces_keep_the_rules bytes r trace laid =
       batch_low = counted.batch_low;
       batch_high = counted.batch_high;
       counts = counted.counts;
+      counting = sections.counting;
     }
 
 -- the amounts of all its sections are small

@@ -22,6 +22,10 @@ pub record IsCount (counters cpus : ℕ) (line : CountLine) : Type 0 where
   pub cpu : line.cpu < cpus
   pub amount : IsTrue (is_amount line.amount)
 
+-- a count line of the opening or of one of so many callers
+abbrev pub IsCountOf : (callers : ℕ) → CountLine → Type 0
+IsCountOf callers line = line.caller ≤ callers
+
 -- its numbers are a machine's, on which the calls of its sections may stand; amounts are small; picks and counts are of the header
 pub record IsRuledTrace (r : Reading) : Type 0 where
   pub trace : IsTrace (setup_of (config_of r.header)) (calls_of 0 r.calls) (map (λ k. calls_of k r.calls) (range_with_len 1 r.header.callers))
@@ -34,6 +38,7 @@ pub record IsRuledTrace (r : Reading) : Type 0 where
   pub batch_low : 1 ≤ r.header.batch
   pub batch_high : r.header.batch ≤ 1000000
   pub counts : All (IsCount r.header.counters (cpus_of r.header)) r.counts
+  pub counting : All (IsCountOf r.header.callers) r.counts
 
 -- a text that is a trace and whose layout is not refused keeps the rules
 abbrev pub TracesKeepTheRules : Type 0

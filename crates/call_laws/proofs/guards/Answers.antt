@@ -1,4 +1,4 @@
-use Rattle.call_laws.proofs.GuardsBare.{guards_stay_bare}
+use Rattle.call_laws.proofs.GuardsUntilFree.{guards_stay_bare}
 use Rattle.call_laws.proofs.guards.Goals as goal
 
 pub returns : goal.returns

@@ -7,6 +7,7 @@ use Rattle.report_text.specs.CounterTotals.{counter_rows}
 use Rattle.trace_text.specs.Reading.{cpus_of}
 use Rattle.trace_replay.specs.Headline.{setup, history_of_trace}
 use Rattle.trace_replay.proofs.LegalHistories.{legal_history}
+use Rattle.trace_replay.proofs.Replays.{same_report}
 use Rattle.trace_replay.proofs.answer.report.Goals as goal
 
 pub returns : goal.returns
@@ -16,6 +17,7 @@ returns c = λ reading ruled tells. (
     legal_history reading ruled,
     c.in_ok-text.ensures
         ∙ ap (λ (t : Tables). report t c.in_ok-counters.counters c.audits.result) (c.in_ok-tables.ensures reading ruled tells)
+        ∙ same_report c.audits.result (setup reading) (history_of_trace reading) c.in_ok-counters.counters
         ∙ ap (λ (rows : List CounterRow). report (tables_of (setup reading) (history_of_trace reading)) rows c.audits.result) (c.in_ok-counters.ensures reading ruled tells)
         ∙ ap (λ (audit : Bool). report (tables_of (setup reading) (history_of_trace reading)) (counter_rows reading.header.counters (cpus_of reading.header) reading.header.batch reading.counts) audit) c.audits.ensures,
   ),

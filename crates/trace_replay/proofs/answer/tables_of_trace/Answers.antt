@@ -5,10 +5,9 @@ use Rattle.unit_layout.specs.declared.config.Config.{Config}
 use Rattle.vm_model.specs.declared.tables.Tables.{Tables}
 use Rattle.unit_layout.specs.Config.{setup_of}
 use Rattle.vm_model.specs.History.{World, pick_all, finish, most_events}
-use Rattle.vm_model.specs.Tables.{tables_of}
 use Rattle.trace_text.specs.Reading.{Reading}
 use Rattle.trace_text.specs.Told.{Tells}
-use Rattle.kernel_steps.specs.Kernels.{IsStanding, start_of, opening_of, callers_of}
+use Rattle.kernel_steps.specs.Kernels.{IsStanding, start_of, opening_of, callers_of, tables_for}
 use Rattle.trace_rules.specs.RuledTraces.{IsRuledTrace}
 use Rattle.trace_replay.specs.Headline.{setup, history_of_trace}
 use Rattle.trace_replay.proofs.Replays.{starts_on, picks_within, tables_told}
@@ -31,7 +30,7 @@ returns c =
     let ran = c.in_ok-run.ensures.ok (setup_of config) (opening_of sections) (callers_of sections) started c.in_ok-kernel.ensures in
     let over = c.in_ok-finish.ensures.ok (setup_of config) (opening_of sections) (callers_of sections) picked ran in
     IfOk-weaker c.tables.result
-    (λ (t : Tables). (config : Config) (opening : List Call) (calls : List (List Call)) (w : World) → IsStanding (setup_of config) opening calls w c.finish.new.self → t ≡ tables_of (setup_of config) w)
-    (λ (t : Tables). (r : Reading) → IsRuledTrace r → Tells c.args.trace r → t ≡ tables_of (setup r) (history_of_trace r))
-    (λ t told r ruled tells. tables_told config sections c.as_slice.result.now r t tells.config tells.calls (c.as_slice.ensures ∙ tells.picks) (told config (opening_of sections) (callers_of sections) (finish most_events picked) over))
+    (λ (t : Tables). (config : Config) (opening : List Call) (calls : List (List Call)) (w : World) → IsStanding (setup_of config) opening calls w c.finish.new.self → t ≡ tables_for c.args.audit (setup_of config) w)
+    (λ (t : Tables). (r : Reading) → IsRuledTrace r → Tells c.args.trace r → t ≡ tables_for c.args.audit (setup r) (history_of_trace r))
+    (λ t told r ruled tells. tables_told c.args.audit config sections c.as_slice.result.now r t tells.config tells.calls (c.as_slice.ensures ∙ tells.picks) (told config (opening_of sections) (callers_of sections) (finish most_events picked) over))
     c.tables.ensures

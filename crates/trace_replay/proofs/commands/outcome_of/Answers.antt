@@ -1,8 +1,9 @@
-use Rattle.trace_replay.proofs.Told.{too_long_reads}
+use Rattle.std.proofs.Common.{◌≡◌, ap, Err}
+use Rattle.trace_replay.specs.Headline.{IsReport}
+use Rattle.trace_replay.proofs.MadeOf.{made_of_too_many}
 use Rattle.trace_replay.proofs.commands.outcome_of.Goals as goal
 
-pub returns-in_ok-too_long-in-Err-TooLong-clause-read : goal.returns-in_ok-too_long-in-Err-TooLong-clause-read
-returns-in_ok-too_long-in-Err-TooLong-clause-read g c = λ bytes told. too_long_reads bytes c.in_ok-too_long-in-Err-TooLong.field-0 _ c.in_ok-too_long-in-Err-TooLong.ensures.0
-
-pub returns-in_ok-too_long-in-Err-TooLong-clause-says : goal.returns-in_ok-too_long-in-Err-TooLong-clause-says
-returns-in_ok-too_long-in-Err-TooLong-clause-says g c = let is = c.in_ok-too_long-in-Err-TooLong.ensures.0 in ((λ e. cc), (λ e. cc), (λ e. cc), (λ e. cc))
+pub returns-in_ok-too_long-in-Err-TooLong-clause-made : goal.returns-in_ok-too_long-in-Err-TooLong-clause-made
+returns-in_ok-too_long-in-Err-TooLong-clause-made g c =
+    let told = c.in_ok-too_long-in-Err-TooLong.ensures in
+    made_of_too_many (IsReport c.args.mode) (g.S.Source.left c.args.source.now) (g.S.Source.left c.gather.new.source) c.in_ok-too_long-in-Err-TooLong.field-0 told.0 told.1 (c.in-Err-TooLong.ensures.too_long (ap Err c.in-Err-TooLong.field-0-is))

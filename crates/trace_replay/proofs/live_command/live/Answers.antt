@@ -1,9 +1,9 @@
 use Rattle.trace_replay.specs.LiveReports.{IsLiveReport}
-use Rattle.trace_replay.proofs.Told.{room_for, written, answers, reads, no_read_fault, write_fault, no_usage, not_silent, complete}
+use Rattle.trace_replay.proofs.Told.{room_for, commanded, faults_told, no_usage, not_silent}
 use Rattle.trace_replay.proofs.live_command.live.Goals as goal
 
 pub tell-requires : goal.tell-requires
-tell-requires g c = room_for IsLiveReport (g.S.Source.left c.args.source.now) (g.K.Sink.room c.args.sink.now) c.in-Ok.outcome.status c.in-Ok.outcome.text c.requires c.in-Ok.ensures.writes
+tell-requires g c = room_for IsLiveReport (g.S.Source.left c.args.source.now) (g.K.Sink.room c.args.sink.now) c.in-Ok.outcome.status c.in-Ok.outcome.text c.requires c.in-Ok.ensures.made.writes
 
 pub returns-in-Ok : goal.returns-in-Ok
 returns-in-Ok g c =
@@ -11,19 +11,13 @@ returns-in-Ok g c =
     let after = g.K.Sink.taken c.tell.new.sink in
     let before = g.K.Sink.faults c.args.sink.now in
     let now = g.K.Sink.faults c.tell.new.sink in
-    let says = c.in-Ok.ensures.says in
+    let left = g.S.Source.left c.live_outcome.new.source in
+    let made = c.in-Ok.ensures.made in
+    let status = c.in-Ok.outcome.status in
+    let text = c.in-Ok.outcome.text in
     record {
-      written = λ bytes taken told is. written IsLiveReport bytes taken c.in-Ok.outcome.status c.in-Ok.outcome.text c.tell.result first after before now (c.in-Ok.ensures.writes bytes told) c.tell.ensures.told is;
-      answers = λ bytes told. answers IsLiveReport bytes c.in-Ok.outcome.status c.in-Ok.outcome.text c.tell.result first after before now (c.in-Ok.ensures.writes bytes told) c.tell.ensures.told;
-      read = λ bytes told. reads bytes (g.S.Source.left c.live_outcome.new.source) c.in-Ok.outcome.status c.in-Ok.outcome.text c.tell.result first after before now (c.in-Ok.ensures.read bytes told) c.tell.ensures.told;
-      read_fault = λ e. absurd (no_read_fault c.in-Ok.outcome.status c.in-Ok.outcome.text c.tell.result first after before now says.0 c.tell.ensures.told e);
-      write_fault = write_fault c.in-Ok.outcome.status c.in-Ok.outcome.text c.tell.result first after before now says.1 c.tell.ensures.told;
-      silent = λ silent. absurd (not_silent c.in-Ok.outcome.status c.in-Ok.outcome.text c.tell.result first after before now says.0 says.2 c.tell.ensures.told silent);
-      complete = λ bytes reading told short trace stands unread unwritten.
-          complete IsLiveReport bytes reading c.tell.result (answers IsLiveReport bytes c.in-Ok.outcome.status c.in-Ok.outcome.text c.tell.result first after before now (c.in-Ok.ensures.writes bytes told) c.tell.ensures.told) short trace stands
-          (no_read_fault c.in-Ok.outcome.status c.in-Ok.outcome.text c.tell.result first after before now says.0 c.tell.ensures.told)
-          (λ e. unwritten (write_fault c.in-Ok.outcome.status c.in-Ok.outcome.text c.tell.result first after before now says.1 c.tell.ensures.told e));
-      failed_read = λ _. c.live_outcome.ensures.no_fault (λ e. cc);
-      failed_write = c.tell.ensures.no_fault;
-      usage = no_usage c.in-Ok.outcome.status c.in-Ok.outcome.text c.tell.result first after before now says.3 c.tell.ensures.told;
+      replays = commanded IsLiveReport (g.S.Source.left c.args.source.now) left status text c.tell.result first after before now made c.tell.ensures.told;
+      faults = faults_told status text c.tell.result first after before now (g.S.Source.faults c.args.source.now) (g.S.Source.faults c.live_outcome.new.source) made.said c.tell.ensures.told (c.live_outcome.ensures.no_fault (λ e. cc)) c.tell.ensures.no_fault;
+      silent = λ silent. absurd (not_silent status text c.tell.result first after before now made.said.read made.said.memory c.tell.ensures.told silent);
+      usage = no_usage status text c.tell.result first after before now made.said.usage c.tell.ensures.told;
     }

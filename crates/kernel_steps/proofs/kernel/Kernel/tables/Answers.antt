@@ -1,16 +1,19 @@
-use Rattle.std.proofs.Common.{◌∙◌, ◌-◌, List, length, map, flat_map, take, drop, ap, sym, subst, arith, count_by, is_some}
+use Rattle.std.proofs.Common.{◌∙◌, ◌-◌, Bool, if◌then◌else◌, [], List, length, map, flat_map, take, drop, ap, sym, subst, arith, count_by, is_some}
 use Rattle.vm_model.specs.declared.areas.Span.{Span}
 use Rattle.vm_model.specs.Space.{longest_of, sort_by}
 use Rattle.vm_model.specs.Setup.{Setup}
 use Rattle.unit_layout.specs.Config.{setup_of}
 use Rattle.page_pool.specs.Pages as pool
 use Rattle.vm_model.specs.Parts.{Region, regions_of}
-use Rattle.vm_model.specs.Tables.{chunk_row, object_rows, chunk_audit, hint_rows, tables_of}
+use Rattle.vm_model.specs.Tables.{chunk_row, object_rows, chunk_audit, hint_rows}
 use Rattle.chunk_slots.specs.ChunkRegion.{AreOfUnits}
 use Rattle.chunk_slots.proofs.UnitPages.{rows_of_machine, audits_of_machine, hints_of_machine}
-use Rattle.kernel_steps.specs.Kernels.{KernelState}
+use Rattle.kernel_steps.specs.Kernels.{KernelState, tables_for}
 use Rattle.kernel_steps.proofs.TablesTold.{same_tables, chunks_are, world_units, region_at, all_regions, free_is, pages_are, areas_are, waiting_is, free_count, length-movers, behind, blocks_behind}
 use Rattle.kernel_steps.proofs.kernel.Kernel.tables.Goals as goal
+
+abbrev told : {A : Type 0} → Bool → List A → List A
+told audit rows = if audit then rows else []
 
 pub returns : goal.returns
 returns c = λ config opening calls w st.
@@ -30,7 +33,7 @@ returns c = λ config opening calls w st.
     let waiting = waiting_is machine w.map c.index-5.result.now c.lazy.result.now fifth c.lazy.ensures in
     let own = c.unit_pages-units.ensures.chunks in
     let units = subst (AreOfUnits machine.unit_pages) (sym chunks) (world_units machine opening calls w st.running) in
-    same_tables _ (tables_of machine w)
+    same_tables _ (tables_for c.args.audit machine w)
     (c.of.ensures ∙ c.in_ok-entries.ensures machine opening calls w st)
     (c.len.ensures ∙ c.self.inside.moved.ok.0 ∙ ap length (ap (λ (k : KernelState). k.moved) c.self.view_is ∙ st.moved) ∙ length-movers w.events)
     (c.free_frames.ensures.count ∙ ap (λ (p : pool.Pages). length (pool.free_of p)) pages ∙ free_count machine opening calls w st.running)
@@ -46,8 +49,8 @@ returns c = λ config opening calls w st.
     (c.len-2.ensures.count ∙ ap length free)
     (c.largest.ensures ∙ ap (λ runs. (longest_of runs).pages) free)
     (c.plain_largest-largest.ensures ∙ ap (λ blocks. (longest_of blocks).pages) (c.deref.ensures.value ∙ c.in_ok-blocks.ensures ∙ free))
-    (c.of-8.ensures ∙ c.in_ok-chunk_audits.ensures ∙ audits_of_machine machine side own units ∙ ap (map (chunk_audit machine)) chunks)
-    (c.of-9.ensures ∙ c.in_ok-hint_rows.ensures ∙ hints_of_machine machine side own units ∙ ap (flat_map (hint_rows machine)) chunks)
+    (c.of-8.ensures ∙ c.in_ok-chunk_audits.ensures ∙ ap (told c.args.audit) (audits_of_machine machine side own units ∙ ap (map (chunk_audit machine)) chunks))
+    (c.of-9.ensures ∙ c.in_ok-hint_rows.ensures ∙ ap (told c.args.audit) (hints_of_machine machine side own units ∙ ap (flat_map (hint_rows machine)) chunks))
 
 pub block_rows-requires : goal.block_rows-requires
 block_rows-requires c =

@@ -1,0 +1,5 @@
+use Rattle.count_lines.proofs.Shared.{each_line_is_shared, sharing_keeps_the_totals}
+use Rattle.count_lines.proofs.laws.sharing.Goals as goal
+
+pub returns : goal.returns
+returns c = record { each = each_line_is_shared; totals = sharing_keeps_the_totals }
