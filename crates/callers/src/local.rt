@@ -189,6 +189,7 @@ impl Local {
     }
 
     /// The number of the region that its next section wants, or none where all its calls are answered.
+    #[inline]
     pub fn wants(&self) -> Option<u16>
         ensures { result ≡ wants self.now }
     {

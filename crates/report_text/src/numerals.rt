@@ -3,16 +3,15 @@ ghost use Rattle.std.specs.Prelude.{◌≡◌, ◌<◌, false};
 ghost use Rattle.std.specs.Fmt.{digits, digit_glyph};
 ghost use Rattle.report_text.specs.Numerals.{padded};
 
+/// The hexadecimal digits.
+static DIGITS: [u8; 16] = *b"0123456789abcdef";
+
 /// The hexadecimal digit of a number below 16.
 fn hex_digit(n: u64) -> u8
     requires { n < 16 }
     ensures { result ≡ digit_glyph false n }
 {
-    if n < 10 {
-        b'0' + n as u8
-    } else {
-        b'a' + (n as u8 - 10)
-    }
+    DIGITS[n as usize]
 }
 
 /// All 16 hexadecimal digits of a number.

@@ -57,6 +57,7 @@ pub fn section(local: &mut Local, region: &mut Region) -> Result<Stepped, AllocE
 }
 
 /// Whether the caller's next section would move over this region.
+#[inline]
 pub fn moves(local: &Local, region: &Region) -> bool
     ensures { result ≡ moves local.now region.now }
 {

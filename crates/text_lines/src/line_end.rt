@@ -19,6 +19,10 @@ fn write_word(word: &[u8], bytes: &mut [u8], end: usize) -> Option<usize>
         return None;
     }
     let start = end - word.len();
+    if word.len() == 1 {
+        bytes[start] = word[0];
+        return Some(start);
+    }
     bytes[start..end].copy_from_slice(word);
     Some(start)
 }
