@@ -45,6 +45,7 @@ impl<S: Started> Model for Locked<S> {
 }
 
 impl<S: Started> Locked<S> {
+    /// Puts a kernel whose opening has ended under the lock. Nobody is to halt yet.
     pub fn new(kernel: Kernel) -> Locked<S>
         requires run { IsInRun S.setup S.sections kernel }
         requires callers { length kernel.locals ≡ 1 + length (callers_of S.sections) }

@@ -44,6 +44,7 @@ pub struct Faulty<T> {
 }
 
 impl<T> Faulty<T> {
+    /// A stream of which each call moves at most a piece, and some calls fail.
     pub fn new(inner: T, piece: usize, faults: Faults) -> Faulty<T> {
         Faulty {
             inner,
