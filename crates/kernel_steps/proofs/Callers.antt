@@ -24,10 +24,10 @@ many_reached c opening calls w reached =
     (λ v k l s h step. length-set v.locals l.caller (moved_to l (next l.setup l.place s)) ∙ h) w reached
 
 few_reached : (c : Setup) (opening : List Call) (calls : List (List Call)) (w : World) → IsReached c opening calls w → length w.locals ≤ 1 + length calls
-few_reached c opening calls w reached = elim (many_reached c opening calls w reached) [ | inl e ↦ omega arith | inr e ↦ omega arith ]
+few_reached c opening calls w reached = elim (many_reached c opening calls w reached) [ inl e ↦ omega arith | inr e ↦ omega arith ]
 
 some_reached : (c : Setup) (opening : List Call) (calls : List (List Call)) (w : World) → IsReached c opening calls w → 0 < length w.locals
-some_reached c opening calls w reached = elim (many_reached c opening calls w reached) [ | inl e ↦ omega arith | inr e ↦ omega arith ]
+some_reached c opening calls w reached = elim (many_reached c opening calls w reached) [ inl e ↦ omega arith | inr e ↦ omega arith ]
 
 pub some_callers : (k : KernelState) → IsSomewhere k → 0 < length k.locals
 some_callers k is = let some = some_reached is.0 is.1 is.2 is.3 is.4.running.reached in let same = ap length is.4.locals in omega arith
