@@ -16,9 +16,9 @@ returns c = λ reading ruled tells. (
   (
     legal_history reading ruled,
     c.in_ok-text.ensures
-        ∙ ap (λ (t : Tables). report t c.in_ok-counters.counters c.audits.result) (c.in_ok-tables.ensures reading ruled tells)
-        ∙ same_report c.audits.result (setup reading) (history_of_trace reading) c.in_ok-counters.counters
-        ∙ ap (λ (rows : List CounterRow). report (tables_of (setup reading) (history_of_trace reading)) rows c.audits.result) (c.in_ok-counters.ensures reading ruled tells)
-        ∙ ap (λ (audit : Bool). report (tables_of (setup reading) (history_of_trace reading)) (counter_rows reading.header.counters (cpus_of reading.header) reading.header.batch reading.counts) audit) c.audits.ensures,
+        ∙ ap (λ (t : Tables). report t c.in_ok-counters.counters c.audits-audit.result) (c.in_ok-tables.ensures reading ruled tells)
+        ∙ same_report c.audits-audit.result (setup reading) (history_of_trace reading) c.in_ok-counters.counters
+        ∙ ap (λ (rows : List CounterRow). report (tables_of (setup reading) (history_of_trace reading)) rows c.audits-audit.result) (c.in_ok-counters.ensures reading ruled tells)
+        ∙ ap (λ (audit : Bool). report (tables_of (setup reading) (history_of_trace reading)) (counter_rows reading.header.counters (cpus_of reading.header) reading.header.batch reading.counts) audit) c.audits-audit.ensures,
   ),
 )
