@@ -1,0 +1,10 @@
+pub mod Lists
+pub mod Stamps
+pub mod Sections
+pub mod OneView
+pub mod Turns
+pub mod Halts
+pub mod Draws
+pub mod Splits
+pub mod Joins
+pub mod Ends
