@@ -19,7 +19,7 @@ use Rattle.section_table.specs.Rule.{IsViewOf, IsKept, IsRegionOf, IsRuled, HasH
 use Rattle.section_table.specs.Steps.{drawn, Draws}
 use Rattle.section_table.proofs.Lists.{or_else, some_is, set_there, got_set, each_set, same_there}
 use Rattle.section_table.proofs.Stamps.{more_here, more_else, at_most, below_more, below_append}
-use Rattle.section_table.proofs.Sections.{moved, run_more, all_more, all_below}
+use Rattle.section_table.proofs.LogMoves.{moved, run_more, all_more, all_below}
 
 module _ {R L : Type 0} (m : Meanings R L) (regions : List R) (locals : List L) where
   abbrev V : Type 0
@@ -200,8 +200,10 @@ module _ {R L : Type 0} (m : Meanings R L) (regions : List R) (locals : List L) 
         keeps,
         tt,
         subst (λ (x : ℕ). Rule record { words = set t.words 0 x; homes = t.homes; views = set t.views id new }) (sym no_wrap) (keeps_drawn t now id v c h k r at has holds wants may law room),
-        refl,
-        (λ c' h' has'. below_more v.floor n h'.stamps (let f = own.floor in let e = now.next in omega arith) (own.stamps c' h' has')),
-        (λ h2 k2 r2 has2 holds2. subst (λ (z : Held L × (ℕ × R)). new ≡ drawn m v c z.0 z.1.0 z.1.1 n)
-            (λ i. (or_else h (or_else (Some h) ((sym has ∙ has2) i)), or_else {A = ℕ × R} (k, r) ((sym holds ∙ holds2) i))) refl),
+        (
+          refl,
+          (λ c' h' has'. below_more v.floor n h'.stamps (let f = own.floor in let e = now.next in omega arith) (own.stamps c' h' has')),
+          (λ h2 k2 r2 has2 holds2. subst (λ (z : Held L × (ℕ × R)). new ≡ drawn m v c z.0 z.1.0 z.1.1 n)
+              (λ i. (or_else h (or_else (Some h) ((sym has ∙ has2) i)), or_else {A = ℕ × R} (k, r) ((sym holds ∙ holds2) i))) refl),
+        ),
       )

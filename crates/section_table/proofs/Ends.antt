@@ -16,7 +16,7 @@ use Rattle.section_table.specs.Places.{places, AreBelow}
 use Rattle.section_table.specs.Views.{Has, HasCaller, HasAll, newcomer, starting}
 use Rattle.section_table.specs.Rule.{IsViewOf, IsKept, IsRegionOf, IsRuled}
 use Rattle.section_table.proofs.Lists.{or_else, some_is, none≢some, within, map_got, got_map, same_there}
-use Rattle.section_table.proofs.Sections.{all_lengths}
+use Rattle.section_table.proofs.LogMoves.{all_lengths}
 use Rattle.section_table.proofs.Stamps.{below_more}
 
 module _ {A : Type 0} where

@@ -63,6 +63,5 @@ module _ {R L : Type 0} (m : Meanings R L) (regions : List R) (locals : List L) 
         keeps,
         tt,
         keeps_rule m regions locals t now id me.0 _ 1 n t.homes now.holder (flags t now id me.0 at n (eqb n 1) me.0.made_halt now.halted (λ e. e) (is_one n) own.made (λ e. e) (λ e. inl e)),
-        own.saw,
-        refl,
+        (own.saw, refl),
       )

@@ -1,6 +1,6 @@
 pub mod Lists
 pub mod Stamps
-pub mod Sections
+pub mod LogMoves
 pub mod OneView
 pub mod Turns
 pub mod Halts
@@ -8,3 +8,4 @@ pub mod Draws
 pub mod Splits
 pub mod Joins
 pub mod Ends
+pub mod Tries

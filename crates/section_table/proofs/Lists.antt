@@ -9,6 +9,10 @@ abbrev pub or_else : {A : Type 0} → A → Option A → A
 or_else d (Some x) = x
 or_else d None = d
 
+abbrev pub head_or : {A : Type 0} → A → List A → A
+head_or d [] = d
+head_or d (x ∷ xs) = x
+
 pub some_is : {A : Type 0} (x y : A) → Some x ≡ Some y → x ≡ y
 some_is x y e = ap (or_else x) e
 

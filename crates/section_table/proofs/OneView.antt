@@ -23,7 +23,7 @@ module _ {R L : Type 0} (m : Meanings R L) (regions : List R) (locals : List L) 
   abbrev Rule : State R V → Type 0
   Rule = IsRuled m regions locals
 
-  abbrev left_by : List ℕ → List R × List L
+  abbrev pub left_by : List ℕ → List R × List L
   left_by log = state_after m.wanted m.moves m.after (regions, locals) log
 
   -- the seat's view v becomes w, and the word i becomes x

@@ -95,10 +95,9 @@ module _ {R L : Type 0} (m : Meanings R L) (regions : List R) (locals : List L) 
         takes k r.0,
         r.1,
         keeps_rule m regions locals t now id v _ (k + 2) 1 _ _ (taken t now id v k at has rests below free),
-        (λ found. absurd (found free)),
-        (λ _. (r.0, refl, λ caller h has'. ((left_by m regions locals now.log).0, (left_by m regions locals now.log).1, now.law, ((now.each_view id v at).callers caller h has').1, r.2))),
+        ((λ found. absurd (found free)), (λ _. (r.0, refl, λ caller h has'. ((left_by m regions locals now.log).0, (left_by m regions locals now.log).1, now.law, ((now.each_view id v at).callers caller h has').1, r.2)))),
       ))
-      (λ busy. (v, keeps, tt, unmoved t now (k + 2) id v carried at, (λ _. refl), (λ z. absurd (busy z))))
+      (λ busy. (v, keeps, tt, unmoved t now (k + 2) id v carried at, ((λ _. refl), (λ z. absurd (busy z)))))
 
   pub takes_turn : (slots id : ℕ) (me : Me R V) (i : ℕ) → ((caller : ℕ) × HasCaller caller me.0) → me.0.hand ≡ None → i < slots
       → Allows Rule slots id me (i + 2) (λ n. either (eqb n 0) 1 n) (λ n me'. (k : ℕ) → i + 2 ≡ k + 2 → Takes m k me n me')
