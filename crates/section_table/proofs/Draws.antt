@@ -107,13 +107,13 @@ module _ {R L : Type 0} (m : Meanings R L) (regions : List R) (locals : List L) 
     self_callers c' u e = ⊎_elim
         (λ (x : (c' ≡ c) × (Some h' ≡ Some u)). subst (λ (z : ℕ × Held L). (now.owner z.0 ≡ id) × (slice_get s'.1 z.0 ≡ Some z.1.local) × (z.1.stamps ≡ places z.0 log')) (λ i. (sym x.0 i, some_is h' u x.1 i)) own')
         (λ (x : (c' ≢ c) × (slice_get v.held c' ≡ Some (Some u))). let y = mine.callers c' u x.1 in
-            (y.0, slice_get-set_other s.1 c c' (m.after h.local r).0 (λ i. x.0 (sym i)) ∙ y.1, y.2 ∙ sym (more_else c' c now.log (λ i. x.0 (sym i)))))
+        (y.0, slice_get-set_other s.1 c c' (m.after h.local r).0 (λ i. x.0 (sym i)) ∙ y.1, y.2 ∙ sym (more_else c' c now.log (λ i. x.0 (sym i)))))
         (got_set v.held c c' (Some h') (Some u) e)
 
     self_stamps : (c' : ℕ) (u : Held L) → Has w c' u → AreBelow (n + 1) u.stamps
     self_stamps c' u e = ⊎_elim
         (λ (x : (c' ≡ c) × (Some h' ≡ Some u)). subst (λ (z : Held L). AreBelow (n + 1) z.stamps) (some_is h' u x.1)
-            (below_append (n + 1) h.stamps (n ∷ []) (below_more v.floor (n + 1) h.stamps (let p = past_floor in omega arith) (mine.stamps c h has)) (omega arith, tt)))
+        (below_append (n + 1) h.stamps (n ∷ []) (below_more v.floor (n + 1) h.stamps (let p = past_floor in omega arith) (mine.stamps c h has)) (omega arith, tt)))
         (λ (x : (c' ≢ c) × (slice_get v.held c' ≡ Some (Some u))). below_more v.floor (n + 1) u.stamps (let p = past_floor in omega arith) (mine.stamps c' u x.1))
         (got_set v.held c c' (Some h') (Some u) e)
 
@@ -146,7 +146,7 @@ module _ {R L : Type 0} (m : Meanings R L) (regions : List R) (locals : List L) 
       away = λ z. let x = o.away (sym e ∙ z) in dite (ℕ_discrete j k)
           (λ i. (w, r', here_as (now.holder j) (ap now.holder i ∙ gripped.0), ap (λ (y : ℕ). Some (y, r')) (sym i)))
           (λ ne. let apart : now.holder j ≢ id = λ i. ne (ap (λ (z : Option (ℕ × R)). (or_else {A = ℕ × R} (k, r) z).0) (sym x.3 ∙ (ap (λ (z : V). z.hand) (sym (same_there t.views id (now.holder j) v x.0 at i x.2)) ∙ holds))) in
-              (x.0, x.1, set_else t.views id (now.holder j) w apart ∙ x.2, x.3));
+          (x.0, x.1, set_else t.views id (now.holder j) w apart ∙ x.2, x.3));
     }
 
     kept : (caller : ℕ) → caller < length locals → IsKept now.owner t'.views caller

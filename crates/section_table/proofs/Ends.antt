@@ -100,15 +100,18 @@ module _ {R L : Type 0} (m : Meanings R L) (regions : List R) (locals : List L) 
 
   pub closes : (words : List ℕ) (slots : List R) (id : ℕ) (v : V) → v.hand ≡ None → HasAll (length locals) v → Final (Seen Rule id v) words slots
       → (log : List ℕ) × IsEndOf words slots v log
-  closes words slots id v rests all last = (log, record {
-    few = now.few;
-    short = own.short;
-    moving = now.moving;
-    next = ap (λ (l : List ℕ). get_or l 0 0) (sym last.2) ∙ now.next;
-    regions_are = alike slots (left_by log).0 as_long each;
-    callers = λ c h has. let x = own.callers c h has in (x.1, x.2);
-    stamps = λ c h has. below_more v.floor (length log) h.stamps own.floor (own.stamps c h has);
-  })
+  closes words slots id v rests all last = (
+    log,
+    record {
+      few = now.few;
+      short = own.short;
+      moving = now.moving;
+      next = ap (λ (l : List ℕ). get_or l 0 0) (sym last.2) ∙ now.next;
+      regions_are = alike slots (left_by log).0 as_long each;
+      callers = λ c h has. let x = own.callers c h has in (x.1, x.2);
+      stamps = λ c h has. below_more v.floor (length log) h.stamps own.floor (own.stamps c h has);
+    },
+  )
     where
       t : State R V
       t = last.0

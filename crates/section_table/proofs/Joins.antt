@@ -152,10 +152,10 @@ module _ {R L : Type 0} (m : Meanings R L) (regions : List R) (locals : List L) 
     kept : (c : ℕ) → c < length locals → IsKept owner' views' c
     kept c below = let y = now.kept c below in dite (ℕ_discrete (now.owner c) other)
         (λ e. let was : HasCaller c w = subst (λ (u : V). HasCaller c u) (sym (same_there t.views other (now.owner c) w y.0 there e y.1)) y.2 in
-            (both, here_as (owner' c) (goes c e), (was.0, in_second v.held w.held c was.0 (λ h x. apart (sym e ∙ (mine.callers c h x).0)) was.1)))
+        (both, here_as (owner' c) (goes c e), (was.0, in_second v.held w.held c was.0 (λ h x. apart (sym e ∙ (mine.callers c h x).0)) was.1)))
         (λ ne. dite (ℕ_discrete (now.owner c) id)
         (λ e. let was : HasCaller c v = subst (λ (u : V). HasCaller c u) (sym (same_there t.views id (now.owner c) v y.0 at e y.1)) y.2 in
-            (both, here_as (owner' c) (remains c ne ∙ e), (was.0, in_first v.held w.held c was.0 was.1)))
+        (both, here_as (owner' c) (remains c ne ∙ e), (was.0, in_first v.held w.held c was.0 was.1)))
         (λ away. (y.0, ap (get_elem? views') (remains c ne) ∙ still (now.owner c) y.0 away ne y.1, y.2)))
 
     halts' : get_or t.words 1 0 ≡ 1 → HasHaltMade views'

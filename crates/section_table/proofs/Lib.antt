@@ -9,3 +9,5 @@ pub mod Splits
 pub mod Joins
 pub mod Ends
 pub mod Tries
+pub mod Slots
+pub mod Picks

@@ -115,7 +115,7 @@ module _ {R L : Type 0} (m : Meanings R L) (regions : List R) (locals : List L) 
         (λ e. (right, right_there (owner' caller) (put_here now.owner c (length t.views) caller e), (h, subst (λ (z : ℕ). Has right z h) (sym e) (only_here c v.held (Some h) has))))
         (λ ne. let y = now.kept caller below in let same = put_else now.owner c (length t.views) caller ne in dite (ℕ_discrete (now.owner caller) id)
         (λ e. let was : HasCaller caller v = subst (λ (u : V). HasCaller caller u) (sym (same_there t.views id (now.owner caller) v y.0 at e y.1)) y.2 in
-            (left, left_there (owner' caller) (same ∙ e), (was.0, slice_get-set_other v.held c caller None (λ z. ne (sym z)) ∙ was.1)))
+        (left, left_there (owner' caller) (same ∙ e), (was.0, slice_get-set_other v.held c caller None (λ z. ne (sym z)) ∙ was.1)))
         (λ apart. (y.0, ap (get_elem? views') same ∙ still (now.owner caller) y.0 apart y.1, y.2)))
 
     halts' : get_or t.words 1 0 ≡ 1 → HasHaltMade views'

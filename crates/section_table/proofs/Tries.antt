@@ -22,7 +22,7 @@ module _ {X : Type 0} where
 
   pub set_again : (xs : List X) (i : ℕ) (a : X) → slice_get xs i ≡ Some a → set xs i a ≡ xs
   set_again [] i a e = refl
-  set_again (x ∷ xs) zero a e = λ k. some_is x a e (~ k) ∷ xs
+  set_again (x ∷ xs) zero a e = λ k. sym (some_is x a e) k ∷ xs
   set_again (x ∷ xs) (suc i) a e = λ k. x ∷ set_again xs i a e k
 
 pub not_seen : (saw found : Bool) → (saw ≡ true → found ≡ true) → found ≡ false → saw ≡ false
@@ -39,10 +39,10 @@ module _ {L : Type 0} where
 
 module _ {R L : Type 0} where
   pub unflagged : (v : View R L) → v.saw_halt ≡ false → flagged false v.made_halt v ≡ v
-  unflagged v e = λ i. record v { saw_halt = e (~ i) }
+  unflagged v e = λ i. record v { saw_halt = sym e i }
 
   pub unheld : (v w : View R L) → v.hand ≡ None → w.hand ≡ None → holding None w ≡ holding None v → w ≡ v
-  unheld v w none_v none_w e = (λ i. record w { hand = none_w i }) ∙ e ∙ (λ i. record v { hand = none_v (~ i) })
+  unheld v w none_v none_w e = (λ i. record w { hand = none_w i }) ∙ e ∙ (λ i. record v { hand = sym none_v i })
 
   pub has_caller : (v : View R L) (cs : List (Option (Caller L))) → v.held ≡ map shown_of cs → (c : ℕ) → HasCaller c v → (x : Caller L) × (slice_get cs c ≡ Some (Some x)) × Has v c (held_of x)
   has_caller v cs same c has = let x = caller_of cs c has.0 (ap (λ (l : List (Option (Held L))). slice_get l c) (sym same) ∙ has.1) in

@@ -17,6 +17,13 @@ module _ {X : Type 0} where
   merged (Some x ∷ xs) (y ∷ ys) = Some x ∷ merged xs ys
   merged (None ∷ xs) (y ∷ ys) = y ∷ merged xs ys
 
+  -- an element at a place that has none, or at the end
+  abbrev pub put_at : List (Option X) → ℕ → Option X → List (Option X)
+  put_at [] place y = y ∷ []
+  put_at (Some x ∷ xs) zero y = Some x ∷ xs
+  put_at (None ∷ xs) zero y = y ∷ xs
+  put_at (x ∷ xs) (suc place) y = x ∷ put_at xs place y
+
 abbrev pub newcomer : {L : Type 0} → L → Option (Held L)
 newcomer l = Some (record { local = l; stamps = [] })
 

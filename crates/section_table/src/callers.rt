@@ -1,17 +1,12 @@
 //! The callers of a pass, by their numbers.
 ghost use Rattle.std.specs.Prelude.{◌≡◌, ℕ, ◌+◌, ◌-◌, ◌≤◌, ◌<◌, [], IfOk, IfSome, Some, None, map, replicate, length, slice_get, slice_set, vec_len, vec_capacity};
-ghost use Rattle.section_table.specs.Shown.{shown_of, held_of};
-ghost use Rattle.section_table.specs.Views.{Has, HasCaller, newcomer, only, merged};
-ghost use Rattle.section_table.specs.Events.{MakesSection};
+ghost use Rattle.section_table.specs.Shown.{shown_of};
+ghost use Rattle.section_table.specs.Views.{newcomer, merged, put_at};
 ghost use Rattle.section_table.specs.declared.caller.Caller.{Caller};
 
-use crate::Gate;
 use crate::caller::Caller;
-use crate::event::attempt;
 use crate::parts::Parts;
-use crate::table::{Place, Top};
 use std::alloc::{AllocError, Global};
-use std::marker::Brand;
 
 /// Each local as a caller with no stamp yet.
 pub(crate) fn enlist<L: Drop>(
@@ -45,17 +40,29 @@ pub(crate) fn room_for<L: Drop>(
     Ok(callers)
 }
 
+// A caller, or nobody, at the next place of a list whose earlier places are done.
+fn put_in<L: Drop>(callers: &mut Vec<Option<Caller<L>>>, place: usize, other: Option<Caller<L>>)
+    requires place { place ≤ length callers.old.items }
+    requires room { place < vec_capacity callers.old }
+    ensures { callers.new.items ≡ put_at callers.old.items place other }
+    ensures capacity { vec_capacity callers.new ≡ vec_capacity callers.old }
+{
+    if place >= callers.len() {
+        callers.push_reserved(other);
+    } else if callers[place].is_none() {
+        callers[place] = other;
+    }
+}
+
 /// The others join the callers, who have room for them.
 pub(crate) fn merge<L: Drop>(callers: &mut Vec<Option<Caller<L>>>, others: Vec<Option<Caller<L>>>)
     requires { length others.items ≤ vec_capacity callers.old }
     ensures { callers.new.items ≡ merged callers.old.items others.items }
 {
-    for (place, other) in others.into_iter().enumerate() {
-        if place >= callers.len() {
-            callers.push_reserved(other);
-        } else if callers[place].is_none() {
-            callers[place] = other;
-        }
+    let mut place = 0;
+    for other in others {
+        put_in(callers, place, other);
+        place += 1;
     }
 }
 

@@ -39,32 +39,39 @@ fn write_picks(picks: &mut Vec<u16>, stamps: &[u64], caller: u16)
     }
 }
 
-/// The locals by caller, and the caller of each stamp below a number.
-fn list_out<R: Drop, L: Drop>(
+/// The caller of each stamp below a number.
+fn picks_of<L>(
     alloc: Global,
-    callers: Vec<Option<Caller<L>>>,
+    callers: &[Option<Caller<L>>],
     count: usize,
-    regions: Vec<R>,
-) -> Result<Closed<R, L>, AllocError>
-    requires few { length callers.items ≤ 32 }
-    requires stamps { HasStampsBelow count (map shown_of callers.items) }
-    ensures regions { IfOk result (λ z. z.regions.items ≡ regions.items) }
-    ensures locals { IfOk result (λ z. z.locals.items ≡ locals_of (map shown_of callers.items)) }
-    ensures picks { IfOk result (λ z. z.picks.items ≡ all_written (replicate count 0) 0 (map shown_of callers.items)) }
+) -> Result<Vec<u16>, AllocError>
+    requires few { length callers.now ≤ 32 }
+    requires stamps { HasStampsBelow count (map shown_of callers.now) }
+    ensures { IfOk result (λ v. v.items ≡ all_written (replicate count 0) 0 (map shown_of callers.now)) }
 {
-    let mut locals = Vec::with_capacity(alloc, callers.len())?;
     let mut picks = Vec::from_elem(alloc, 0u16, count)?;
-    for (caller, kept) in callers.into_iter().enumerate() {
-        if let Some(Caller { local, stamps }) = kept {
-            write_picks(&mut picks, stamps.as_slice(), caller as u16);
-            locals.push_reserved(local);
+    for (caller, kept) in callers.iter().enumerate() {
+        if let Some(mine) = kept {
+            write_picks(&mut picks, mine.stamps.as_slice(), caller as u16);
         }
     }
-    Ok(Closed {
-        regions,
-        locals,
-        picks,
-    })
+    Ok(picks)
+}
+
+/// The locals by caller.
+fn list_locals<L: Drop>(
+    alloc: Global,
+    callers: Vec<Option<Caller<L>>>,
+) -> Result<Vec<L>, AllocError>
+    ensures { IfOk result (λ v. v.items ≡ locals_of (map shown_of callers.items)) }
+{
+    let mut locals = Vec::new(alloc);
+    for kept in callers {
+        if let Some(Caller { local, stamps: _ }) = kept {
+            locals.push(local)?;
+        }
+    }
+    Ok(locals)
 }
 
 impl<P: Parts> Sections<P> {
@@ -81,6 +88,12 @@ impl<P: Parts> Sections<P> {
         let closed = table.close_with(place);
         let count = closed.word(0) as usize;
         let regions = empty_out(closed, room);
-        list_out(alloc, callers, count, regions)
+        let picks = picks_of(alloc, callers.as_slice(), count)?;
+        let locals = list_locals(alloc, callers)?;
+        Ok(Closed {
+            regions,
+            locals,
+            picks,
+        })
     }
 }
