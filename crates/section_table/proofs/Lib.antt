@@ -11,3 +11,4 @@ pub mod Ends
 pub mod Tries
 pub mod Slots
 pub mod Picks
+pub mod Placed

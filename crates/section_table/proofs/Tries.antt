@@ -1,5 +1,5 @@
 -- One try of a caller, from the seat's view to the pass.
-use Rattle.std.proofs.Common.{◌≡◌, ℕ, ◌+◌, ◌<◌, ◌≤◌, Bool, true, false, List, [], ◌∷◌, ◌++◌, zero, suc, length, map, set, refl, sym, ap, ◌∙◌, subst, arith, Option, Some, None, Ok, Err, Result, slice_get, ◌⊎◌, ⊎_elim, ◌≢◌}
+use Rattle.std.proofs.Common.{◌≡◌, ℕ, ◌+◌, ◌<◌, ◌≤◌, Bool, true, false, List, [], ◌∷◌, ◌++◌, zero, suc, length, map, set, get_or, refl, sym, ap, ◌∙◌, subst, arith, Option, Some, None, Ok, Err, Result, slice_get, ◌⊎◌, ⊎_elim, ◌≢◌}
 use Rattle.vm_model.specs.Run.{StandTogether}
 use Rattle.section_table.specs.declared.views.Held.{Held}
 use Rattle.section_table.specs.declared.views.View.{View}
@@ -25,9 +25,14 @@ module _ {X : Type 0} where
   set_again (x ∷ xs) zero a e = λ k. sym (some_is x a e) k ∷ xs
   set_again (x ∷ xs) (suc i) a e = λ k. x ∷ set_again xs i a e k
 
+pub found : {X : Type 0} (xs : List X) (i : ℕ) (a b : X) → slice_get xs i ≡ Some b → a ≡ get_or xs i a → a ≡ b
+found [] i a b e is = absurd (none≢some b e)
+found (x ∷ xs) zero a b e is = is ∙ some_is x b e
+found (x ∷ xs) (suc i) a b e is = found xs i a b e is
+
 pub not_seen : (saw found : Bool) → (saw ≡ true → found ≡ true) → found ≡ false → saw ≡ false
-not_seen false found again no = refl
-not_seen true found again no = absurd (let e : true ≡ false = sym (again refl) ∙ no in cc)
+not_seen false found again unfound = refl
+not_seen true found again unfound = absurd (let e : true ≡ false = sym (again refl) ∙ unfound in cc)
 
 module _ {L : Type 0} where
   shown_some : (o : Option (Caller L)) (h : Held L) → shown_of o ≡ Some h → (x : Caller L) × (o ≡ Some x) × (held_of x ≡ h)

@@ -44,7 +44,7 @@ pub(crate) fn room_for<L: Drop>(
 fn put_in<L: Drop>(callers: &mut Vec<Option<Caller<L>>>, place: usize, other: Option<Caller<L>>)
     requires place { place ≤ length callers.old.items }
     requires room { place < vec_capacity callers.old }
-    ensures { callers.new.items ≡ put_at callers.old.items place other }
+    ensures put { callers.new.items ≡ put_at callers.old.items place other }
     ensures capacity { vec_capacity callers.new ≡ vec_capacity callers.old }
 {
     if place >= callers.len() {
