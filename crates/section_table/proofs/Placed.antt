@@ -1,5 +1,5 @@
 -- Lists of callers by place: merged, cut, and with one put in.
-use Rattle.std.proofs.Common.{◌≡◌, ℕ, zero, suc, ◌+◌, ◌<◌, ◌≤◌, List, [], ◌∷◌, ◌++◌, length, map, replicate, set, refl, sym, ap, ◌∙◌, arith, Option, Some, None, slice_get}
+use Rattle.std.proofs.Common.{◌≡◌, ℕ, zero, suc, ◌+◌, ◌<◌, ◌≤◌, List, [], ◌∷◌, ◌++◌, length, map, replicate, set, get_or, is_some, Bool, true, false, refl, sym, ap, ◌∙◌, arith, Option, Some, None, slice_get}
 use Rattle.section_table.specs.declared.caller.Caller.{Caller}
 use Rattle.section_table.specs.declared.views.Held.{Held}
 use Rattle.section_table.specs.Shown.{shown_of}
@@ -11,19 +11,20 @@ module _ {X : Type 0} where
   put_end [] y = refl
   put_end (x ∷ xs) y = ap (λ l. x ∷ l) (put_end xs y)
 
-  pub put_none : (xs : List (Option X)) (i : ℕ) (y : Option X) → slice_get xs i ≡ Some None → put_at xs i y ≡ set xs i y
-  put_none [] i y e = absurd (none≢some None e)
-  put_none (None ∷ xs) zero y e = refl
-  put_none (Some x ∷ xs) zero y e = absurd (none≢some x (sym (some_is (Some x) None e)))
-  put_none (x ∷ xs) (suc i) y e = ap (λ l. x ∷ l) (put_none xs i y e)
+  -- at a place where there is none, and where there is one
+  pub put_empty : (xs : List (Option X)) (i : ℕ) (y o : Option X) → i < length xs → o ≡ get_or xs i o → is_some o ≡ false → set xs i y ≡ put_at xs i y
+  put_empty [] i y o inside is bare = absurd (omega arith)
+  put_empty (None ∷ xs) zero y o inside is bare = refl
+  put_empty (Some x ∷ xs) zero y o inside is bare = absurd (let e : true ≡ false = sym (ap is_some is) ∙ bare in cc)
+  put_empty (x ∷ xs) (suc i) y o inside is bare = ap (λ l. x ∷ l) (put_empty xs i y o (omega arith) is bare)
 
-  pub put_some : (xs : List (Option X)) (i : ℕ) (x : X) (y : Option X) → slice_get xs i ≡ Some (Some x) → put_at xs i y ≡ xs
-  put_some [] i x y e = absurd (none≢some (Some x) e)
-  put_some (None ∷ xs) zero x y e = absurd (none≢some x (some_is None (Some x) e))
-  put_some (Some z ∷ xs) zero x y e = refl
-  put_some (z ∷ xs) (suc i) x y e = ap (λ l. z ∷ l) (put_some xs i x y e)
+  pub put_full : (xs : List (Option X)) (i : ℕ) (y o : Option X) → i < length xs → o ≡ get_or xs i o → is_some o ≡ true → xs ≡ put_at xs i y
+  put_full [] i y o inside is held = absurd (omega arith)
+  put_full (None ∷ xs) zero y o inside is held = absurd (let e : false ≡ true = sym (ap is_some is) ∙ held in cc)
+  put_full (Some x ∷ xs) zero y o inside is held = refl
+  put_full (x ∷ xs) (suc i) y o inside is held = ap (λ l. x ∷ l) (put_full xs i y o (omega arith) is held)
 
-  merged_nil : (xs : List (Option X)) → merged xs [] ≡ xs
+  pub merged_nil : (xs : List (Option X)) → merged xs [] ≡ xs
   merged_nil [] = refl
   merged_nil (x ∷ xs) = refl
 

@@ -1,5 +1,5 @@
-use Rattle.std.proofs.Common.{◌≡◌, ℕ, ◌≤◌, ◌<◌, None, length, replicate, vec_capacity}
+use Rattle.std.proofs.Common.{◌≡◌, ◌<◌, ◌≤◌, None, replicate, vec_capacity}
 use Rattle.section_table.proofs.callers.room_for.Given as goal
 
 abbrev pub invariant-loop : goal.invariant-loop
-invariant-loop g l = (l.callers.items ≡ replicate (length l.yielded) None) × (l.caller < vec_capacity l.callers)
+invariant-loop g l = (l.callers.items ≡ replicate l.counter None) × (l.caller < vec_capacity l.callers)
