@@ -109,3 +109,6 @@ module _ {R L : Type 0} (m : Meanings R L) (c k : ℕ) where
     past = e.past;
     unhalted = unhalted;
   }
+
+  pub event_of : {E : Type 0} (v w : View R L) (res : Result (Option ℕ) E) (stamp : ℕ) → res ≡ Ok (Some stamp) → Attempts m c k v w res → IsEventOf m c k v w stamp
+  event_of v w res stamp is e = subst (λ z. Attempts m c k v w z) is e

@@ -23,4 +23,12 @@ impl<L> Caller<L> {
         self.stamps.reserve(1)?;
         Ok(true)
     }
+
+    /// The local alone.
+    pub(crate) fn into_local(self) -> L
+        ensures local { result ≡ self.local }
+    {
+        let Caller { local, stamps: _ } = self;
+        local
+    }
 }

@@ -67,8 +67,8 @@ fn list_locals<L: Drop>(
 {
     let mut locals = Vec::new(alloc);
     for kept in callers {
-        if let Some(Caller { local, stamps: _ }) = kept {
-            locals.push(local)?;
+        if let Some(mine) = kept {
+            locals.push(mine.into_local())?;
         }
     }
     Ok(locals)
