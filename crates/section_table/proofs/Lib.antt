@@ -12,3 +12,5 @@ pub mod Tries
 pub mod Slots
 pub mod Picks
 pub mod Placed
+pub mod Closing
+pub mod Within
