@@ -33,7 +33,7 @@ module _ {A : Type 0} where
       let tail : xs ≡ ys = alike xs ys (omega arith) (λ i l. h (suc i) (omega arith)) in λ k. same k ∷ tail k
 
 -- a caller at the start
-pub fresh : {R L : Type 0} (ls : List L) (c : ℕ) (h : Held L) → Has {R} {L} (starting ls) c h → (slice_get ls c ≡ Some h.local) × (h.stamps ≡ [])
+pub fresh : {L : Type 0} (ls : List L) (c : ℕ) (h : Held L) → slice_get (map newcomer ls) c ≡ Some (Some h) → (slice_get ls c ≡ Some h.local) × (h.stamps ≡ [])
 fresh ls c h e = let x = map_got newcomer ls c (Some h) e in let same = some_is (record { local = x.0; stamps = [] }) h x.2 in
     (x.1 ∙ ap (λ (z : Held _). Some z.local) same, sym (ap (λ (z : Held _). z.stamps) same))
 
@@ -75,8 +75,8 @@ module _ {R L : Type 0} (m : Meanings R L) (regions : List R) (locals : List L) 
 
       ok : IsViewOf (λ _. 0) (λ _. 0) (replicate (length regions + 2) 0) [] (regions, locals) 0 (starting locals)
       ok = record {
-        callers = λ c h e. let x = fresh {R} {L} locals c h e in (refl, x.0, x.1);
-        stamps = λ c h e. subst (AreBelow 0) (sym (fresh {R} {L} locals c h e).1) tt;
+        callers = λ c h e. let x = fresh locals c h e in (refl, x.0, x.1);
+        stamps = λ c h e. subst (AreBelow 0) (sym (fresh locals c h e).1) tt;
         floor = omega arith;
         short = let z = length-map locals newcomer in omega arith;
         hand = λ k r e. absurd (none≢some (k, r) e);
