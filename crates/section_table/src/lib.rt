@@ -1,6 +1,20 @@
 //! What a run of turns tells of its callers' sections, as they come.
 #![tactic(auto)]
 
+pub mod acted;
+pub mod caller;
+mod callers;
+mod close;
+pub mod closed;
+mod event;
+pub mod parts;
+pub mod pass;
+pub mod sections;
+pub mod steps;
+pub mod table;
+mod turn;
+pub mod views;
+
 /// What is told of each section of a run whose callers have threads of their own. A gate may hold a caller back: nothing
 /// is promised of waiting.
 pub trait Gate {

@@ -1,0 +1,16 @@
+pub mod Lists
+pub mod Stamps
+pub mod LogMoves
+pub mod OneView
+pub mod Turns
+pub mod Halts
+pub mod Draws
+pub mod Splits
+pub mod Joins
+pub mod Ends
+pub mod Tries
+pub mod Slots
+pub mod Picks
+pub mod Placed
+pub mod Closing
+pub mod Within

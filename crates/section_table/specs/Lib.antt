@@ -1,0 +1,11 @@
+pub mod Meanings
+pub mod Turn
+pub mod Places
+pub mod Views
+pub mod Shown
+pub mod Rule
+pub mod Steps
+pub mod Acts
+pub mod Events
+pub mod Closes
+pub mod Written
