@@ -1,4 +1,14 @@
-//! What a run of turns tells of its callers' sections, as they come.
+//! Regions behind turns of their own, which any number of threads share, and what a run of turns tells of its sections.
+//!
+//! - `Parts`: regions, callers, and the section that a caller makes over a region, as plain data (`meaning`).
+//! - `Sections::start`: a table of regions, and a pass with all callers (`starting`). `split` gives a caller a pass of its
+//!   own (`without`, `alone`), `join` takes a pass back (`both_of`): a caller is in exactly one pass.
+//! - `Sections::act`: one event of a caller (`Acts`). With `Moved` the caller stands where its section leads, with one
+//!   stamp more, which is above all that its pass had; `Ended`, `Halted` and want of memory come for their causes alone. A
+//!   section that wants memory gives its region and turn back, and all passes halt.
+//! - `Sections::close`: the regions, the callers, and the callers in the order of their stamps (`IsClosed`). Each of these
+//!   picks moves, and regions and callers are those after all of them.
+//! - `Gate`, `Open`: what is told of each section. Nothing is promised of waiting.
 #![tactic(auto)]
 
 pub mod acted;
