@@ -1,0 +1,4 @@
+pub mod Callers
+pub mod Numbered
+pub mod RunsEnded
+pub mod Sent
