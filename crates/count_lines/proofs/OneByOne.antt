@@ -53,16 +53,6 @@ room_for_next lines n =
     let same : length (lines_by (n + 1) lines) ≡ length (lines_by (1 + n) lines) = ap (λ k. length (lines_by k lines)) (let e : n + 1 ≡ 1 + n = omega arith in e) in
     omega arith
 
--- each share is that of one of the callers
-pub callers_within : (n first : ℕ) (shares : List Share) → map caller_of shares ≡ range_with_len first n → All (λ share. caller_of share < first + n) shares
-callers_within n first shares same = λ k d low. by_place n first shares k d same low
-  where
-    by_place : (n first : ℕ) (shares : List Share) (k : ℕ) (d : Share) → map caller_of shares ≡ range_with_len first n → k < length shares → caller_of (get_or shares k d) < first + n
-    by_place n first [] k d same low = absurd (omega arith)
-    by_place zero first (s ∷ shares) k d same low = absurd (let e : suc (length (map caller_of shares)) ≡ 0 = ap length same in omega arith)
-    by_place (suc n) first (s ∷ shares) zero d same low = let here : caller_of s ≡ first = cc in omega arith
-    by_place (suc n) first (s ∷ shares) (suc k) d same low = let rest : map caller_of shares ≡ range_with_len (first + 1) n = cc in let below = by_place n (first + 1) shares k d rest (omega arith) in omega arith
-
 -- the adds of one share more
 pub joined_more : (adds new all : List CountLine) (share : Share) (items rest : List Share) → items ≡ share ∷ rest → new ≡ adds ++ map added_by (lines_in share)
     → adds ++ map added_by (flat_map lines_in items) ≡ all → new ++ map added_by (flat_map lines_in rest) ≡ all

@@ -1,6 +1,9 @@
-//! Live runs: each order that happened, replayed and compared; and two callers that a gate makes meet. No code.
+//! Live runs: each order that happened, replayed and compared; two callers that a gate makes meet, and two that it
+//! holds inside regions of their own at once. No code.
 #![tactic(auto)]
 
+#[cfg(test)]
+mod holding;
 #[cfg(test)]
 mod meeting;
 #[cfg(test)]

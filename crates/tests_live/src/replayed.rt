@@ -71,7 +71,7 @@ fn made(alloc: Global, start: u32, calls: u32) -> Vec<u8>
 }
 
 /// Two callers, one of which counts.
-const TWO: &[u8] = b"vmtrace 1
+pub const TWO: &[u8] = b"vmtrace 1
 space 64
 block 8 4
 callers 2

@@ -26,7 +26,6 @@ use Rattle.count_lines.specs.declared.share.Share.{Share}
 use Rattle.count_lines.specs.Lines.{added_by, lines_by}
 use Rattle.count_lines.specs.Shares.{caller_of, lines_in, IsLineOf, HaveFinished}
 use Rattle.count_lines.specs.Sharing.{shared_lines}
-use Rattle.count_lines.proofs.OneByOne.{callers_within}
 use Rattle.count_lines.proofs.Shared.{each_line_is_shared, sharing_keeps_the_totals}
 use Rattle.trace_replay.specs.LiveCounts.{counters_of, IsCountingFor, totals_in, totals_of_trace}
 
@@ -80,11 +79,11 @@ totals_agree adds lines same [] = refl
 totals_agree adds lines same (k ∷ ks) =
     ap (λ (z : ℤ). z ∷ map (λ k. total (lines_of k adds)) ks) (same k) ∙ ap (λ (zs : List ℤ). total (lines_of k lines) ∷ zs) (totals_agree adds lines same ks)
 
--- each share is that of a caller with a list of calls
-pub callers_have : (r : Reading) (calls : List (List Call)) (shares : List Share) → calls ≡ all_calls r → map caller_of shares ≡ range_with_len 1 r.header.callers → All (λ share. caller_of share < 1 + length (callers_of calls)) shares
+-- there is a share for each caller with a list of calls
+pub callers_have : (r : Reading) (calls : List (List Call)) (shares : List Share) → calls ≡ all_calls r → map caller_of shares ≡ range_with_len 1 r.header.callers → map caller_of shares ≡ range_with_len 1 (length (callers_of calls))
 callers_have r calls shares same named =
-    let many : 1 + length (callers_of calls) ≡ 1 + r.header.callers = ap (λ s. 1 + length (callers_of s)) same ∙ ap (λ n. 1 + n) (length-map-range_with_len (λ k. calls_of k r.calls) 1 r.header.callers) in
-    subst (λ n. All (λ share. caller_of share < n) shares) (sym many) (callers_within r.header.callers 1 shares named)
+    let many : length (callers_of calls) ≡ r.header.callers = ap (λ s. length (callers_of s)) same ∙ length-map-range_with_len (λ k. calls_of k r.calls) 1 r.header.callers in
+    named ∙ ap (range_with_len 1) (sym many)
 
 module _ (r : Reading) (ruled : IsRuledTrace r) (c : Counters) (p : CountPass) (given left : List Share) (begun : IsCountingFor r c p given) (ended : HaveFinished c given left) where
   lines_left : flat_map lines_in left ≡ flat_map (λ k. lines_by k r.counts) (range_with_len 1 r.header.callers)
