@@ -1,5 +1,5 @@
 -- What is kept of areas, of waiting and of free pages between two events, and of the pages that a caller holds or flushes.
-use Rattle.std.proofs.Common.{◌≡◌, ℕ, ◌+◌, ◌-◌, ◌≤◌, Bool, true, false, List, [], ◌∷◌, length, slice_get, Some, refl, ap, sym, ◌∙◌, arith}
+use Rattle.std.proofs.Common.{◌≡◌, ℕ, ◌+◌, ◌-◌, ◌≤◌, Bool, true, false, List, [], ◌∷◌, length, slice_get, Some, ap, sym, ◌∙◌, arith}
 use Rattle.vm_model.specs.declared.areas.Span.{Span}
 use Rattle.vm_model.specs.declared.areas.Area.{Area}
 use Rattle.vm_model.specs.declared.areas.AreaKind.{AreaKind}
@@ -90,36 +90,20 @@ next_uses c m (Answer reply made) page = own_uses c m Over page
 -- Inclusions.
 
 pub mapped_within : (k : AreaKind) (s : Span) (page : ℕ) → holds (mapped_part k s) page ≡ true → holds s page ≡ true
-mapped_within kind.Vmalloc s page h = let r = holds_to (span s.start (s.pages - 1)) page h in holds_from s page (omega arith) (omega arith)
-mapped_within kind.MapRam s page h = h
-mapped_within (kind.Block cpu) s page h = h
-mapped_within (kind.Chunk chunk group) s page h = h
+mapped_within k s page h = grind (arith, holds_to, holds_from)
 
 none_in_empty : (start page : ℕ) → holds (span start 0) page ≡ true → ⊥
 none_in_empty start page h = let r = holds_to (span start 0) page h in omega arith
-
-guard_within : (k : AreaKind) (s : Span) (page : ℕ) → holds (guard_part k s) page ≡ true → holds s page ≡ true
-guard_within kind.Vmalloc s page h = let r = holds_to (span (s.start + (s.pages - 1)) (s.pages - (s.pages - 1))) page h in holds_from s page (omega arith) (omega arith)
-guard_within kind.MapRam s page h = absurd (none_in_empty s.start page h)
-guard_within (kind.Block cpu) s page h = absurd (none_in_empty s.start page h)
-guard_within (kind.Chunk chunk group) s page h = absurd (none_in_empty s.start page h)
 
 pub mapped_covers : (k : AreaKind) (s : Span) (page : ℕ) → covers (mapped_part k s ∷ []) page ≡ true → covers (s ∷ []) page ≡ true
 mapped_covers k s page h = covers_one s page ∙ mapped_within k s page (sym (covers_one (mapped_part k s) page) ∙ h)
 
 pub guard_covers : (k : AreaKind) (s : Span) (page : ℕ) → covers (guard_part k s ∷ []) page ≡ true → covers (s ∷ []) page ≡ true
-guard_covers k s page h = covers_one s page ∙ guard_within k s page (sym (covers_one (guard_part k s) page) ∙ h)
+guard_covers k s page h = grind (arith, covers_one, holds_to, holds_from, none_in_empty)
 
 -- a page of an area is mapped or in the guard
 pub guard_apart : (k : AreaKind) (s : Span) (page : ℕ) → covers (guard_part k s ∷ []) page ≡ true → holds (mapped_part k s) page ≡ false
-guard_apart k s page h = apart_by k (holds (mapped_part k s) page) refl (sym (covers_one (guard_part k s) page) ∙ h)
-  where
-    apart_by : (k : AreaKind) (b : Bool) → holds (mapped_part k s) page ≡ b → holds (guard_part k s) page ≡ true → holds (mapped_part k s) page ≡ false
-    apart_by k false e g = e
-    apart_by kind.Vmalloc true e g = let r = holds_to (span s.start (s.pages - 1)) page e in let q = holds_to (span (s.start + (s.pages - 1)) (s.pages - (s.pages - 1))) page g in absurd (omega arith)
-    apart_by kind.MapRam true e g = absurd (none_in_empty s.start page g)
-    apart_by (kind.Block cpu) true e g = absurd (none_in_empty s.start page g)
-    apart_by (kind.Chunk chunk group) true e g = absurd (none_in_empty s.start page g)
+guard_apart k s page h = grind (arith, covers_one, holds_to, none_in_empty)
 
 -- what a place says of a page, it says of one that the caller holds or flushes
 abbrev pub IsClaimed : Setup → Place → ℕ → Type 0
@@ -132,25 +116,13 @@ claimed_flushed : (page : ℕ) (xs ys : List Span) → covers ys page ≡ true �
 claimed_flushed page xs ys h = let n = covers_times page ys h in omega arith
 
 pub bare_claimed : (c : Setup) (p : Place) (page : ℕ) → covers (bare_at c p) page ≡ true → IsClaimed c p page
-bare_claimed c (MappingArea s k) page h = claimed_held page (s ∷ []) [] h
-bare_claimed c (Dropping s) page h = claimed_held page (s ∷ []) [] h
-bare_claimed c (SettlingBlock s cpu pages) page h = claimed_held page (s ∷ []) [] h
-bare_claimed c (SettlingGroups base chunk bytes align) page h = claimed_held page (groups_at c base) [] h
-bare_claimed c (PurgeReturning waited after) page h = claimed_flushed page [] waited h
-bare_claimed c _ page h = cc
+bare_claimed c p page h = grind (arith, claimed_held, claimed_flushed)
 
 pub mapped_claimed : (c : Setup) (p : Place) (page : ℕ) → covers (mapped_at p) page ≡ true → IsClaimed c p page
-mapped_claimed c (SettlingArea s k) page h = claimed_held page (s ∷ []) [] (mapped_covers k s page h)
-mapped_claimed c (UnmappingArea area) page h = claimed_held page (area.span ∷ []) [] (mapped_covers area.kind area.span page h)
-mapped_claimed c _ page h = cc
+mapped_claimed c p page h = grind (arith, claimed_held, mapped_covers)
 
 pub unmapped_claimed : (c : Setup) (p : Place) (page : ℕ) → covers (unmapped_at c p) page ≡ true → IsClaimed c p page
-unmapped_claimed c (SettlingArea s k) page h = claimed_held page (s ∷ []) [] (guard_covers k s page h)
-unmapped_claimed c (UnmappingArea area) page h = claimed_held page (area.span ∷ []) [] (guard_covers area.kind area.span page h)
-unmapped_claimed c (Waiting spans after) page h = claimed_held page spans [] h
-unmapped_claimed c (PurgeWaiting gone extra after) page h = claimed_held page (block_spans c gone) [] h
-unmapped_claimed c (PurgeFlushing s waited after) page h = claimed_flushed page [] waited h
-unmapped_claimed c _ page h = cc
+unmapped_claimed c p page h = grind (arith, claimed_held, guard_covers, claimed_flushed)
 
 -- What stays of pages that are as before.
 
@@ -168,29 +140,14 @@ same_unmapped m m' page is h = is.frame ∙ h
 
 -- a caller keeps what it holds where its pages are as before
 pub holding_stays : (c : Setup) (m m' : PlainMap) (k : ℕ) (p : Place) → ((page : ℕ) → IsClaimed c p page → IsSame m m' page) → IsHolding c m k p → IsHolding c m' k p
-holding_stays c m m' k p same is = record {
-  held = λ page e. same_marked m m' (Held k) page (same page (claimed_held page (held c p) (flushed p) e)) (is.held page e);
-  flushed = λ page e. same_marked m m' (Flushing k) page (same page (claimed_flushed page (held c p) (flushed p) e)) (is.flushed page e);
-  bare = λ page e. same_bare m m' page (same page (bare_claimed c p page e)) (is.bare page e);
-  mapped = λ page e. same_mapped m m' page (same page (mapped_claimed c p page e)) (is.mapped page e);
-  unmapped = λ page e. same_unmapped m m' page (same page (unmapped_claimed c p page e)) (is.unmapped page e);
-  hull = is.hull;
-}
+holding_stays c m m' k p same is = grind (arith, same_marked, claimed_held, claimed_flushed, same_bare, bare_claimed, same_mapped, mapped_claimed, same_unmapped, unmapped_claimed)
 
 -- an area is fine still where its pages are as before
 pub area_stays : (m m' : PlainMap) (a : Area) → ((page : ℕ) → covers (a.span ∷ []) page ≡ true → IsSame m m' page) → IsAreaFine m a → IsAreaFine m' a
-area_stays m m' a same is = record {
-  marked = λ page e. same_marked m m' (Live a.serial) page (same page e) (is.marked page e);
-  mapped = λ plain page e. same_mapped m m' page (same page (mapped_covers a.kind a.span page e)) (is.mapped plain page e);
-  guard = λ plain page e. same_unmapped m m' page (same page (guard_covers a.kind a.span page e)) (is.guard plain page e);
-}
+area_stays m m' a same is = grind (arith, same_marked, same_mapped, mapped_covers, same_unmapped, guard_covers)
 
 pub page_stays : (m m' : PlainMap) (page : ℕ) → IsSame m m' page → IsPageFine m page → IsPageFine m' page
-page_stays m m' page is fine = record {
-  free = λ h. same_bare m m' page is (fine.free (sym is.mark ∙ h));
-  waiting = λ h. same_unmapped m m' page is (fine.waiting (sym is.mark ∙ h));
-  flushing = λ k h. same_unmapped m m' page is (fine.flushing k (sym is.mark ∙ h));
-}
+page_stays m m' page is fine = grind (arith, same_bare, same_unmapped)
 
 -- Places at which nothing is held or flushed.
 
@@ -211,39 +168,13 @@ abbrev pub IsUnbearing : Place → Type 0
 IsUnbearing p = is_bearing p ≡ false
 
 pub nothing_held : (c : Setup) (p : Place) → IsUnbearing p → held c p ≡ []
-nothing_held c (MappingArea s k) h = cc
-nothing_held c (Dropping s) h = cc
-nothing_held c (SettlingArea s k) h = cc
-nothing_held c (UnmappingArea area) h = cc
-nothing_held c (Waiting spans after) h = cc
-nothing_held c (PurgeWaiting gone extra after) h = cc
-nothing_held c (PurgeFlushing s waited after) h = cc
-nothing_held c (PurgeReturning waited after) h = cc
-nothing_held c (SettlingBlock s cpu pages) h = cc
-nothing_held c (SettlingGroups base chunk bytes align) h = cc
-nothing_held c _ h = refl
+nothing_held c p h = grind arith
 
 pub nothing_flushed : (p : Place) → IsUnbearing p → flushed p ≡ []
-nothing_flushed (PurgeFlushing s waited after) h = cc
-nothing_flushed (PurgeReturning waited after) h = cc
-nothing_flushed _ h = refl
+nothing_flushed p h = grind arith
 
 pub nothing_claimed : (c : Setup) (p : Place) (page : ℕ) → IsUnbearing p → times page (held c p) + times page (flushed p) ≡ 0
 nothing_claimed c p page h = let a : times page (held c p) ≡ 0 = ap (times page) (nothing_held c p h) in let b : times page (flushed p) ≡ 0 = ap (times page) (nothing_flushed p h) in omega arith
 
-no_hull : (p : Place) → IsUnbearing p → IsInHull p
-no_hull (PurgeFlushing s waited after) h = cc
-no_hull _ h = tt
-
 pub holds_nothing : (c : Setup) (m : PlainMap) (k : ℕ) (p : Place) → IsUnbearing p → IsHolding c m k p
-holds_nothing c m k p h = record {
-  held = λ page e. absurd (no page (claimed_held page (held c p) (flushed p) e));
-  flushed = λ page e. absurd (no page (claimed_flushed page (held c p) (flushed p) e));
-  bare = λ page e. absurd (no page (bare_claimed c p page e));
-  mapped = λ page e. absurd (no page (mapped_claimed c p page e));
-  unmapped = λ page e. absurd (no page (unmapped_claimed c p page e));
-  hull = no_hull p h;
-}
-  where
-    no : (page : ℕ) → IsClaimed c p page → ⊥
-    no page e = let z = nothing_claimed c p page h in omega arith
+holds_nothing c m k p h = grind (arith, claimed_held, claimed_flushed, bare_claimed, mapped_claimed, unmapped_claimed, nothing_claimed)

@@ -1,5 +1,5 @@
 -- What each section does at its place, as to areas, to what waits and to free pages.
-use Rattle.std.proofs.Common.{◌≡◌, ℕ, zero, suc, ◌≤◌, inl, inr, true, false, List, [], ◌∷◌, ◌++◌, length, map, slice_get, Option, Some, None, option_to_list, refl, ap, sym, ◌∙◌, subst}
+use Rattle.std.proofs.Common.{◌≡◌, ℕ, zero, suc, ◌≤◌, inl, inr, true, false, List, [], ◌∷◌, ◌++◌, map, slice_get, Option, Some, None, option_to_list, refl, ap, sym, ◌∙◌, subst, arith}
 use Rattle.vm_model.specs.declared.areas.Span.{Span}
 use Rattle.vm_model.specs.declared.areas.Area.{Area}
 use Rattle.vm_model.specs.declared.areas.AreaKind.{AreaKind}
@@ -79,17 +79,10 @@ module _ (c : Setup) (m : PlainMap) (k : ℕ) (fine : IsMapFine m) where
 
     search_moved : (search : Search) (aim : Aim) (otherwise : Next) (s : Section) → IsAimed c search aim → AreGroupsFree c m search → OnNext IsUnbearing otherwise → given c m (AskSearch search) ≡ Some s
         → IsMoved c m k p s (found aim (carved s) (carved_base s) otherwise)
-    search_moved (ForPages pages align) aim otherwise s is free un e = told s (carving pages align (lowest (taken m) pages align)) (λ x. found aim (carved x) (carved_base x) otherwise) e
-        (found_pages pages align aim otherwise (lowest (taken m) pages align) refl is un)
-    search_moved ForGroups (ForChunk chunk bytes align) otherwise s is free un e = told s (carving_groups (highest c (taken m))) (λ x. found (ForChunk chunk bytes align) (carved x) (carved_base x) otherwise) e
-        (found_groups chunk bytes align otherwise (highest c (taken m)) refl free un)
-    search_moved ForGroups (ForArea kd) otherwise s is free un e = absurd is
-    search_moved ForGroups (ForBlock cpu asked) otherwise s is free un e = absurd is
+    search_moved search aim otherwise s is free un e = grind (arith, told, found_pages, found_groups)
 
   no_space_un : (aim : Aim) → OnNext IsUnbearing (without_space aim)
-  no_space_un (ForArea kd) = tt
-  no_space_un (ForBlock cpu pages) = tt
-  no_space_un (ForChunk chunk bytes align) = refl
+  no_space_un aim = grind arith
 
   removal_moved : (start serial : ℕ) (once : (page : ℕ) → own_uses c m (Removing start serial) page ≤ 1) → IsOutside c m (Removing start serial) → (list : List Area) → IsLegalAs c m k (removal start serial list)
       → IsMoved c m k (Removing start serial) (removal start serial list) (after_remove (removed (removal start serial list)))
@@ -163,13 +156,11 @@ module _ (c : Setup) (m : PlainMap) (k : ℕ) (fine : IsMapFine m) where
   moved_by (Populating at missing) s is own once out e (inl w) legal = as_section (Populating at missing) s _ w legal
       (λ l. inner_moved c m k fine (Populating at missing) (Populate at missing) once refl refl refl (fine.long ∙ sym (length-give_frames (pages_in_units c at.base missing) (free_frames c m.frames) m.frames))
       (λ page t. out page t) refl _ (unbearing_next c (Populating at missing) (Populate at missing) refl))
-  moved_by (Populating at missing) s is own once out e (inr w) legal = as_section (Populating at missing) s _ w legal
-      (λ l. quiet_moved c m k fine (Populating at missing) once _ _ refl (unbearing_next c (Populating at missing) (NoFrames (length (pages_in_units c at.base missing))) refl))
+  moved_by (Populating at missing) s is own once out e (inr w) legal = grind (arith, quiet_moved, unbearing_next)
   moved_by (Filling chunk base page filled) s is own once out e (inl w) legal = as_section (Filling chunk base page filled) s _ w legal
       (λ l. inner_moved c m k fine (Filling chunk base page filled) (Fill base page) once refl refl refl (fine.long ∙ sym (length-give_frames (pages_in_units c base (page ∷ [])) (free_frames c m.frames) m.frames))
       (λ q t. out q t) refl _ (unbearing_next c (Filling chunk base page filled) (Fill base page) refl))
-  moved_by (Filling chunk base page filled) s is own once out e (inr w) legal = as_section (Filling chunk base page filled) s _ w legal
-      (λ l. quiet_moved c m k fine (Filling chunk base page filled) once _ _ refl (unbearing_next c (Filling chunk base page filled) (NoFrames (length (pages_in_units c base (page ∷ [])))) refl))
+  moved_by (Filling chunk base page filled) s is own once out e (inr w) legal = grind (arith, quiet_moved, unbearing_next)
   moved_by (Depopulating base populated) s is own once out e w legal = as_section (Depopulating base populated) s _ w legal
       (λ l. inner_moved c m k fine (Depopulating base populated) (Depopulate base populated) once refl refl refl (length-paint_from _ true m.stale 0 ∙ fine.long ∙ sym (length-paint_from _ None m.frames 0))
       (λ page t. out page t) refl _ refl)

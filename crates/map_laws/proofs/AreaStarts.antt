@@ -1,18 +1,18 @@
 -- How live areas were made, and what the first world has of them.
-use Rattle.std.proofs.Common.{◌≡◌, ℕ, zero, suc, ◌+◌, ◌%◌, ◌≤◌, inl, inr, Bool, true, false, not, List, [], ◌∷◌, map, slice_get, Some, refl, ap, sym, ◌∙◌, subst, arith, ◌-◌, ◌<◌, replicate, sum_by, Option, None}
+use Rattle.std.proofs.Common.{◌≡◌, ℕ, zero, suc, ◌+◌, ◌%◌, ◌≤◌, inl, inr, Bool, true, false, List, [], ◌∷◌, map, slice_get, Some, refl, ap, sym, ◌∙◌, subst, arith, ◌-◌, ◌<◌, replicate, sum_by, Option, None}
 use Rattle.vm_model.specs.declared.areas.Span.{Span}
 use Rattle.vm_model.specs.declared.areas.Area.{Area}
 use Rattle.vm_model.specs.declared.areas.AreaKind.{AreaKind}
-use Rattle.vm_model.specs.Space.{span, is_among, covers, times, end_of}
+use Rattle.vm_model.specs.Space.{span, covers, times, end_of}
 use Rattle.vm_model.specs.Setup.{Setup}
 use Rattle.vm_model.specs.PlainMap.{PlainMap, Mark, Free, at_first}
-use Rattle.vm_model.specs.Areas.{is_area, areas_of, group_kinds, group_areas}
-use Rattle.vm_model.specs.Events.{Section, Settle, Remove, Unlink}
+use Rattle.vm_model.specs.Areas.{areas_of, group_kinds, group_areas}
+use Rattle.vm_model.specs.Events.{Section, Settle}
 use Rattle.vm_model.specs.Effects.{effect_as}
 use Rattle.vm_model.specs.Places.{Place, SettlingArea, SettlingBlock, SettlingGroups, Ask, AskSettle, ask}
 use Rattle.vm_model.specs.LegalHistory.{Meets}
 use Rattle.vm_model.specs.Laws.{IsAligned, as_free}
-use Rattle.map_laws.proofs.AskRows.{AskRow, Settled, ask_row}
+use Rattle.map_laws.proofs.AskRows.{ask_row}
 use Rattle.map_laws.proofs.Chosen.{IsIn, filter_has}
 use Rattle.map_laws.proofs.Places.{IsPlainKind, IsProper, begins_with}
 use Rattle.map_laws.proofs.OutMoves.{with_in}
@@ -38,19 +38,12 @@ abbrev pub asks_settle : Ask → Bool
 asks_settle (AskSettle areas) = true
 asks_settle _ = false
 
-settled_by : (c : Setup) (a : Ask) (s : Section) → AskRow c a s → asks_settle a ≡ false → is_settle s ≡ false
-settled_by c _ _ (Settled areas first) h = cc
-settled_by c _ _ _ h = refl
-
 pub no_settle : (c : Setup) (a : Ask) (s : Section) → asks_settle a ≡ false → Meets c a s → is_settle s ≡ false
-no_settle c a s h w = settled_by c a s (ask_row c a s w) h
+no_settle c a s h w = grind (arith, ask_row)
 
 -- the areas behind a section are those before it, or those that it settles
 pub areas_after : (c : Setup) (m : PlainMap) (k : ℕ) (s : Section) → is_settle s ≡ false → (a : Area) → IsIn a (effect_as c m k s).areas → IsIn a m.areas
-areas_after c m k (Settle areas first) h a there = cc
-areas_after c m k (Remove start serial area) h a there = (filter_has (λ b. not (is_area start serial b)) m.areas there.place a there.at).there
-areas_after c m k (Unlink starts) h a there = (filter_has (λ (b : Area). not (is_among starts b.span.start)) m.areas there.place a there.at).there
-areas_after c m k _ h a there = there
+areas_after c m k s h a there = grind (arith, filter_has)
 
 -- of an area: where it starts, and that a plain one has pages
 pub record IsMadeWell (c : Setup) (a : Area) : Type 0 where
@@ -61,10 +54,7 @@ pub record AreMadeWell (c : Setup) (areas : List Area) : Type 0 where
   pub each : (a : Area) → IsIn a areas → IsMadeWell c a
 
 plain_aligned : (c : Setup) (s : Span) (k : AreaKind) → IsPlainKind k → IsAligned c s k
-plain_aligned c s kind.Vmalloc plain = tt
-plain_aligned c s kind.MapRam plain = tt
-plain_aligned c s (kind.Block cpu) plain = absurd plain
-plain_aligned c s (kind.Chunk chunk group) plain = absurd plain
+plain_aligned c s k plain = grind arith
 
 -- the areas of some groups: each is a group of the setup at the base
 group_at : (c : Setup) (k first base chunk : ℕ) (done : ℕ) (groups : List Span) → base % c.atom ≡ 0 → ((i : ℕ) (g : Span) → slice_get groups i ≡ Some g → slice_get c.groups (done + i) ≡ Some g)
@@ -78,8 +68,7 @@ group_at c k first base chunk done (g ∷ groups) low all a (suc i) h =
 
 module _ (c : Setup) (m : PlainMap) (k : ℕ) where
   one_new : (place : Span) (kd : AreaKind) (first : ℕ) → IsAligned c place kd → (IsPlainKind kd → 1 ≤ place.pages) → (a : Area) (i : ℕ) → slice_get (areas_of k first ((place, kd) ∷ [])) i ≡ Some a → IsMadeWell c a
-  one_new place kd first aligned wide a zero h = let is : record { span = place; kind = kd; caller = k; serial = first } ≡ a = cc in subst (IsMadeWell c) is (record { aligned = aligned; wide = wide })
-  one_new place kd first aligned wide a (suc i) h = cc
+  one_new place kd first aligned wide a i h = grind arith
 
   settled : (areas : List (Span × AreaKind)) (first : ℕ) (s : Section) → s ≡ Settle areas first → ((a : Area) (i : ℕ) → slice_get (areas_of k first areas) i ≡ Some a → IsMadeWell c a) → AreMadeWell c m.areas
       → AreMadeWell c (effect_as c m k s).areas
@@ -116,9 +105,7 @@ replicate-is (suc n) x y zero h = ((omega arith), cc)
 replicate-is (suc n) x y (suc i) h = let r = replicate-is n x y i h in ((let a = r.0 in omega arith), r.1)
 
 as_free_one : (o : Option Mark) → as_free o ≤ 1
-as_free_one None = omega arith
-as_free_one (Some Free) = omega arith
-as_free_one (Some _) = omega arith
+as_free_one o = grind arith
 
 fine_first : (c : Setup) (room : ℕ) → IsMapFine (at_first c room)
 fine_first c room = record {

@@ -1,5 +1,5 @@
 -- What is kept of areas, held pages and free pages is kept by each legal section.
-use Rattle.std.proofs.Common.{◌≡◌, ◌≢◌, ℕ, suc, ◌+◌, ◌<◌, ◌≤◌, inl, inr, Bool, true, false, List, [], ◌∷◌, length, slice_get, slice_set, sum_by, Option, Some, None, refl, ap, sym, ◌∙◌, subst, arith}
+use Rattle.std.proofs.Common.{◌≡◌, ◌≢◌, ℕ, suc, ◌+◌, ◌<◌, ◌≤◌, inl, inr, Bool, true, false, List, [], ◌∷◌, length, slice_get, slice_set, sum_by, Some, refl, ap, sym, ◌∙◌, subst, arith}
 use Rattle.std.proofs.lemmas.List.Sums.{sum_by-set}
 use Rattle.std.proofs.lemmas.Option.{slice_get_within, get_or_from_slice_get}
 use Rattle.vm_model.specs.declared.calls.Call.{Call}
@@ -14,7 +14,7 @@ use Rattle.vm_model.specs.Places.{Made, ask}
 use Rattle.vm_model.specs.Next.{Next, Go, Answer, next}
 use Rattle.vm_model.specs.History.{World, Local, moved_to, made_by, opening_world, with_callers}
 use Rattle.vm_model.specs.Carried.{held, flushed}
-use Rattle.vm_model.specs.LegalHistory.{Meets, IsNext, IsNextOf, after_event_of, IsRun, IsReached, AllOver, after_event, world_after, callers_world}
+use Rattle.vm_model.specs.LegalHistory.{Meets, IsNext, IsRun, IsReached, AllOver, after_event, world_after}
 use Rattle.vm_model.specs.Laws.{uses}
 use Rattle.vm_model.proofs.OneNext.{one_next}
 use Rattle.map_laws.proofs.Lists.{set_cases}
@@ -39,8 +39,7 @@ unbearing_begins c _ AtOver = refl
 unbearing_begins c _ _ = refl
 
 pub moved_caller : (l : Local) (n : Next) → length l.answers < length l.calls → (moved_to l n).caller ≡ l.caller
-moved_caller l (Go p) h = refl
-moved_caller l (Answer r made) h = ap (λ (x : Local). x.caller) (answers_call l r made h).2
+moved_caller l n h = grind (arith, answers_call)
 
 -- where an answered call leads
 answer_unbearing : (l : Local) (r : Reply) (made : Made) → length l.answers < length l.calls → IsUnbearing (moved_to l (Answer r made)).place
@@ -49,8 +48,7 @@ answer_unbearing l r made h = let e = answers_call l r made h in
 
 module _ (l : Local) (call : length l.answers < length l.calls) where
   pub moved_uses : (c : Setup) (m : PlainMap) (n : Next) (page : ℕ) → own_uses c m (moved_to l n).place page ≡ next_uses c m n page
-  moved_uses c m (Go p) page = refl
-  moved_uses c m (Answer r made) page = let z = nothing_claimed c (moved_to l (Answer r made)).place page (answer_unbearing l r made call) in omega arith
+  moved_uses c m n page = grind (arith, nothing_claimed, answer_unbearing)
 
   pub moved_holding : (c : Setup) (m : PlainMap) (k : ℕ) (n : Next) → OnNext (IsHolding c m k) n → IsHolding c m k (moved_to l n).place
   moved_holding c m k (Go p) h = h
@@ -87,10 +85,7 @@ module _ (w : World) (l : Local) (s : Section) (kept : IsAreaWorld w) (here : sl
 
   -- a touched page is no other caller's
   not_others : (j : ℕ) (x : Local) → slice_get w.locals j ≡ Some x → j ≢ l.caller → (page : ℕ) → IsClaimed x.setup x.place page → touch l.setup w.map s page ≡ true → ⊥
-  not_others j x at n page claimed t =
-      let own = moved.source page t in let before = kept.once page in
-      let apart : l.caller ≢ j = λ e. n (sym e) in
-      omega (arith, sum_two (holdings page) w.locals l.caller j l x here at apart, sum_two (flushings page) w.locals l.caller j l x here at apart)
+  not_others j x at n page claimed t = grind (arith, sum_two)
 
   other_same : (page : ℕ) (b : Bool) → touch l.setup w.map s page ≡ b → (touch l.setup w.map s page ≡ true → ⊥) → IsSame w.map (effect_as l.setup w.map l.caller s) page
   other_same page true t never = absurd (never t)
@@ -101,10 +96,7 @@ module _ (w : World) (l : Local) (s : Section) (kept : IsAreaWorld w) (here : sl
       (λ page claimed. other_same page _ refl (not_others j x at n page claimed)) (kept.each j x at)
 
   own_holding : IsHolding after_local.setup (effect_as l.setup w.map l.caller s) after_local.caller after_local.place
-  own_holding =
-      subst (λ d. IsHolding d (effect_as l.setup w.map l.caller s) after_local.caller after_local.place) (sym (moved_setup l (next l.setup l.place s)))
-      (subst (λ i. IsHolding l.setup (effect_as l.setup w.map l.caller s) i after_local.place) (sym (moved_caller l (next l.setup l.place s) call))
-      (moved_holding l call l.setup (effect_as l.setup w.map l.caller s) l.caller (next l.setup l.place s) moved.own))
+  own_holding = grind (arith, moved_setup, moved_caller, moved_holding)
 
   pub area_step : IsAreaWorld (made_by w l s)
   area_step = record {
@@ -118,8 +110,7 @@ module _ (w : World) (l : Local) (s : Section) (kept : IsAreaWorld w) (here : sl
 
 -- the uses of a page by the caller alone are no more than all
 pub own_once : (w : World) (k : ℕ) (l : Local) → IsAreaWorld w → slice_get w.locals k ≡ Some l → (page : ℕ) → own_uses l.setup w.map l.place page ≤ 1
-own_once w k l kept here page = let all = kept.once page in
-    omega (arith, sum_has (λ (x : Local). times page (held x.setup x.place)) w.locals l k here, sum_has (λ (x : Local). times page (flushed x.place)) w.locals l k here)
+own_once w k l kept here page = grind (arith, sum_has)
 
 -- a legal section of a caller
 pub record IsLegalStep (w : World) (k : ℕ) (l : Local) (s : Section) : Type 0 where
@@ -142,11 +133,7 @@ IsKeptByLegal c P = (w : World) (k : ℕ) (l : Local) (s : Section) → IsFramed
 
 -- an event that comes next is a legal section
 pub event_legal : (w : World) (e : Event) → IsNext w e → (l : Local) × IsLegalStep w e.caller l e.section × (after_event w e ≡ made_by w l e.section)
-event_legal w e next = by_option (slice_get w.locals e.caller) refl next
-  where
-    by_option : (o : Option Local) → slice_get w.locals e.caller ≡ o → IsNextOf w e o → (l : Local) × IsLegalStep w e.caller l e.section × (after_event w e ≡ made_by w l e.section)
-    by_option None h is = absurd is
-    by_option (Some l) h is = (l, record { step = record { here = h; gives = one_next l.setup w.map e.caller (ask l.setup l.place) e.section is.0 is.1 }; meets = is.0; legal = is.1 }, ap (after_event_of w e) h)
+event_legal w e next = grind (arith, one_next)
 
 -- a fact that the first world has, that each legal section keeps, and that more callers at their start keep too
 pub record IsLegallyLasting (c : Setup) (calls : List (List Call)) (P : World → Type 0) : Type 0 where
@@ -156,27 +143,14 @@ pub record IsLegallyLasting (c : Setup) (calls : List (List Call)) (P : World �
 module _ (c : Setup) (calls : List (List Call)) (P : World → Type 0) (is : IsLegallyLasting c calls P) where
   legal_run : (w : World) (es : List Event) → IsOpening c w → P w → IsRun w es → IsOpening c (world_after w es) × P (world_after w es)
   legal_run w [] alone first run = (alone, first)
-  legal_run w (e ∷ es) alone first run =
-      let step = event_legal w e run.0 in
-      legal_run (after_event w e) es (subst (IsOpening c) (sym step.2) (opening_step c w e.caller step.0 e.section alone step.1.step))
-      (subst P (sym step.2) (is.steps w e.caller step.0 e.section alone.framed first step.1)) run.1
+  legal_run w (e ∷ es) alone first run = grind (arith, legal_run (after_event w e) es, event_legal, opening_step)
 
   legal_goes_on : (w : World) (es : List Event) → IsFramed c w → P w → IsRun w es → IsFramed c (world_after w es) × P (world_after w es)
   legal_goes_on w [] framed first run = (framed, first)
-  legal_goes_on w (e ∷ es) framed first run =
-      let step = event_legal w e run.0 in
-      legal_goes_on (after_event w e) es (subst (IsFramed c) (sym step.2) (framed_step c w e.caller step.0 e.section framed step.1.step))
-      (subst P (sym step.2) (is.steps w e.caller step.0 e.section framed first step.1)) run.1
+  legal_goes_on w (e ∷ es) framed first run = grind (arith, legal_goes_on (after_event w e) es, event_legal, framed_step)
 
   pub legally_lasts : (opening : List Call) → P (opening_world c opening calls) → (w : World) → IsReached c opening calls w → IsFramed c w × P w
-  legally_lasts opening first w (inl r) =
-      let end = legal_run (opening_world c opening calls) r.0 (record { framed = framed_opening c opening calls; one = refl }) first r.1 in
-      subst (λ v. IsFramed c v × P v) (sym r.2) (end.0.framed, end.1)
-  legally_lasts opening first w (inr r) =
-      let end = legal_run (opening_world c opening calls) r.0 (record { framed = framed_opening c opening calls; one = refl }) first r.2.0 in
-      let begun = legal_goes_on (callers_world c opening calls r.0) r.1 (framed_callers c calls (world_after (opening_world c opening calls) r.0) end.0.one end.0.framed)
-      (is.joins (world_after (opening_world c opening calls) r.0) end.0.framed end.0.one end.1 r.2.1) r.2.2 in
-      subst (λ v. IsFramed c v × P v) (sym r.3) begun
+  legally_lasts opening first w x3 = grind (arith, legal_run, framed_opening, legal_goes_on, framed_callers)
 
 -- a lasting fact that needs no legality
 pub legally : (c : Setup) (calls : List (List Call)) (P : World → Type 0) → IsLasting c calls P → IsLegallyLasting c calls P

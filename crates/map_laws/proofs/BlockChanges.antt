@@ -1,10 +1,10 @@
 -- What the sections that change blocks do to blocks and parts.
-use Rattle.std.proofs.Common.{◌≡◌, ◌≢◌, ℕ, ◌+◌, ◌-◌, ◌<◌, ◌≤◌, ◌⊎◌, inl, inr, Bool, true, false, ◌==◌, nat_lt, if◌then◌else◌, List, [], ◌∷◌, map, filter, slice_get, Some, option_map, refl, ap, sym, ◌∙◌, subst, arith}
+use Rattle.std.proofs.Common.{◌≡◌, ◌≢◌, ℕ, ◌+◌, ◌-◌, ◌<◌, ◌≤◌, ◌⊎◌, inl, inr, Bool, true, false, ◌==◌, nat_lt, if◌then◌else◌, List, [], ◌∷◌, map, slice_get, Some, refl, ap, sym, ◌∙◌, subst, arith}
 use Rattle.std.proofs.lemmas.Bool.Decides.{nat_tests}
 use Rattle.std.proofs.lemmas.Option.{slice_get-map}
 use Rattle.vm_model.specs.Setup.{Setup}
 use Rattle.vm_model.specs.PlainMap.{PlainMap, Block, Part, Life, InHand, is_ended}
-use Rattle.vm_model.specs.Blocks.{PartAt, rounded, size_of, parts_size, dirty_of, change_block, with_life, set_life}
+use Rattle.vm_model.specs.Blocks.{PartAt, size_of, parts_size, dirty_of, change_block, with_life, set_life}
 use Rattle.vm_model.specs.Legal.{IsUnmapped}
 use Rattle.map_laws.proofs.Lists.{same_or}
 use Rattle.map_laws.proofs.Chosen.{IsIn, sum_without}
@@ -30,14 +30,9 @@ changed_in start change blocks b there e = keyed_in (λ (x : Block). x.start) st
 pub unchanged_in : (start : ℕ) (change : Block → Block) (blocks : List Block) (b : Block) → IsIn b blocks → b.start ≢ start → IsIn b (change_block start change blocks)
 unchanged_in start change blocks b there n = unkeyed_in (λ (x : Block). x.start) start change blocks b there n
 
-start_if : (change : Block → Block) → ((b : Block) → (change b).start ≡ b.start) → (b : Block) (t : Bool) → (if t then change b else b).start ≡ b.start
-start_if change keeps b true = keeps b
-start_if change keeps b false = refl
-
 pub changed_starts : (start : ℕ) (change : Block → Block) → ((b : Block) → (change b).start ≡ b.start) → (blocks : List Block) → block_starts (change_block start change blocks) ≡ block_starts blocks
 changed_starts start change keeps [] = refl
-changed_starts start change keeps (b ∷ blocks) =
-    ap (λ n. n ∷ block_starts (change_block start change blocks)) (start_if change keeps b (b.start == start)) ∙ ap (λ l. b.start ∷ l) (changed_starts start change keeps blocks)
+changed_starts start change keeps (b ∷ blocks) = grind (arith, changed_starts start change keeps blocks, block_starts, nat_tests)
 
 -- what holds of blocks where only blocks changed
 pub blocks_only : (c : Setup) (m m' : PlainMap) (start : ℕ) → m'.areas ≡ m.areas → m'.frames ≡ m.frames → m'.stale ≡ m.stale → Stays c m m' start
@@ -58,44 +53,22 @@ life_if life p false = (refl, refl)
 
 pub lived_stack : (at : PartAt) (life : Life) (ps : List Part) (off : ℕ) → AreStacked off ps → AreStacked off (map (λ (p : Part). if p.offset == at.offset then record p { life = life } else p) ps)
 lived_stack at life [] off st = tt
-lived_stack at life (p ∷ ps) off st =
-    let e = life_if life p (p.offset == at.offset) in
-    (e.0 ∙ st.0, subst (λ n. n ≤ rounded n) (sym e.1) st.1, subst (λ n. AreStacked (off + rounded n) (map (λ (p : Part). if p.offset == at.offset then record p { life = life } else p) ps)) (sym e.1) (lived_stack at life ps (off + size_of p) st.2))
+lived_stack at life (p ∷ ps) off st = grind (arith, lived_stack at life ps (off + size_of p) st.2, life_if, nat_tests)
 
 pub lived_size : (at : PartAt) (life : Life) (ps : List Part) → parts_size (map (λ (p : Part). if p.offset == at.offset then record p { life = life } else p) ps) ≡ parts_size ps
 lived_size at life [] = refl
-lived_size at life (p ∷ ps) =
-    let e = life_if life p (p.offset == at.offset) in
-    omega (arith, size_cons (if p.offset == at.offset then record p { life = life } else p) (map (λ (p : Part). if p.offset == at.offset then record p { life = life } else p) ps), size_cons p ps, ap rounded e.1, lived_size at life ps)
+lived_size at life (p ∷ ps) = grind (arith, lived_size at life ps, life_if, size_cons, nat_tests)
 
 -- a part behind the change: as it was, or the one with this offset and the new life
 pub lived_is : (at : PartAt) (life : Life) (ps : List Part) (q : Part) → IsIn q (map (λ (p : Part). if p.offset == at.offset then record p { life = life } else p) ps)
     → (was : Part) × IsIn was ps × (((was.offset ≡ at.offset) × (q ≡ record was { life = life })) ⊎ ((was.offset ≢ at.offset) × (q ≡ was)))
-lived_is at life ps q there =
-    let was = mapped_at (λ (p : Part). if p.offset == at.offset then record p { life = life } else p) ps there.place q there.at in
-    (was.0, in_of ps there.place was.0 was.1, by_test was.0 (was.0.offset == at.offset) refl was.2)
-  where
-    by_test : (x : Part) (t : Bool) → (x.offset == at.offset) ≡ t → (if t then record x { life = life } else x) ≡ q → ((x.offset ≡ at.offset) × (q ≡ record x { life = life })) ⊎ ((x.offset ≢ at.offset) × (q ≡ x))
-    by_test x true e h = inl (to_same x.offset at.offset e, sym h)
-    by_test x false e h = inr ((λ f. (let t : (x.offset == at.offset) ≡ true = grind (arith, nat_tests) in cc)), sym h)
+lived_is at life ps q there = grind (arith, mapped_at, in_of, to_same, nat_tests)
 
 pub lived_in : (at : PartAt) (life : Life) (ps : List Part) (p : Part) → IsIn p ps → p.offset ≡ at.offset → IsIn (record p { life = life }) (map (λ (p : Part). if p.offset == at.offset then record p { life = life } else p) ps)
-lived_in at life ps p there e = record {
-  place = there.place;
-  at = slice_get-map (λ (p : Part). if p.offset == at.offset then record p { life = life } else p) ps there.place ∙ ap (option_map (λ (p : Part). if p.offset == at.offset then record p { life = life } else p)) there.at
-      ∙ ap (λ (t : Bool). Some (if t then record p { life = life } else p)) (let t : (p.offset == at.offset) ≡ true = grind (arith, nat_tests) in t);
-}
+lived_in at life ps p there e = grind (arith, slice_get-map, nat_tests)
 
 pub unlived_in : (at : PartAt) (life : Life) (ps : List Part) (p : Part) → IsIn p ps → p.offset ≢ at.offset → IsIn p (map (λ (p : Part). if p.offset == at.offset then record p { life = life } else p) ps)
-unlived_in at life ps p there n = record {
-  place = there.place;
-  at = slice_get-map (λ (p : Part). if p.offset == at.offset then record p { life = life } else p) ps there.place ∙ ap (option_map (λ (p : Part). if p.offset == at.offset then record p { life = life } else p)) there.at
-      ∙ ap (λ (t : Bool). Some (if t then record p { life = life } else p)) (by_test (p.offset == at.offset) refl);
-}
-  where
-    by_test : (t : Bool) → (p.offset == at.offset) ≡ t → (p.offset == at.offset) ≡ false
-    by_test true e = absurd (n (to_same p.offset at.offset e))
-    by_test false e = e
+unlived_in at life ps p there n = grind (arith, slice_get-map, to_same, nat_tests)
 
 module _ (c : Setup) (m : PlainMap) (all : (b : Block) → IsIn b m.blocks → IsBlockFine c m b) where
   -- a block whose part gets another life
@@ -159,15 +132,8 @@ module _ (c : Setup) (m : PlainMap) (all : (b : Block) → IsIn b m.blocks → I
 
 -- All parts of a block have ended.
 
-not_ended_size : (ps : List Part) (p : Part) (i : ℕ) → slice_get ps i ≡ Some p → is_ended p.life ≡ false → parts_size (filter (λ (q : Part). is_ended q.life) ps) + size_of p ≤ parts_size ps
-not_ended_size ps p i h e = sum_without size_of (λ (q : Part). is_ended q.life) ps p i h e
-
 pub all_ended : (b : Block) → parts_size b.parts ≤ dirty_of b → (p : Part) → IsIn p b.parts → is_ended p.life ≡ true
-all_ended b full p there = by_life (is_ended p.life) refl
-  where
-    by_life : (t : Bool) → is_ended p.life ≡ t → is_ended p.life ≡ true
-    by_life true e = e
-    by_life false e = absurd (omega (arith, not_ended_size b.parts p there.place there.at e, rounded_some p.pages))
+all_ended b full p there = grind (arith, rounded_some, sum_without, nat_tests)
 
 -- its pages are unmapped
 pub ended_unmapped : (c : Setup) (m : PlainMap) (b : Block) → IsBlockFine c m b → parts_size b.parts ≤ dirty_of b → OnRow b.start c.block_pages (IsUnmapped m)

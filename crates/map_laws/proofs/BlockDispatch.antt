@@ -88,18 +88,10 @@ module _ (c : Setup) (m : PlainMap) (k : ℕ) (fine : IsMapFine m) (has : HasPar
         (hand_same m (effect_as c m k (NoFrames asked)) k at refl hand, (λ page low high. (bare page low (omega arith)).unmapped))
 
   not_among_pages : (pages : List ℕ) (page : ℕ) → (is_among pages page ≡ true → ⊥) → is_among pages page ≡ false
-  not_among_pages pages page never = by_test (is_among pages page) refl
-    where
-      by_test : (t : Bool) → is_among pages page ≡ t → is_among pages page ≡ false
-      by_test true e = absurd (never e)
-      by_test false e = e
+  not_among_pages pages page never = grind arith
 
   not_mapped : (kd : AreaKind) (place : Span) (page : ℕ) → (holds place page ≡ true → ⊥) → holds (mapped_part kd place) page ≡ false
-  not_mapped kd place page never = by_test (holds (mapped_part kd place) page) refl
-    where
-      by_test : (t : Bool) → holds (mapped_part kd place) page ≡ t → holds (mapped_part kd place) page ≡ false
-      by_test true e = absurd (never (mapped_within kd place page e))
-      by_test false e = e
+  not_mapped kd place page never = grind (arith, mapped_within)
 
   purge_begins : (extra : Option Span) (after : Then) (named : (start : ℕ) → count_of start (block_starts m.blocks) + 0 ≤ 1)
       → IsBlockMoved c m k (PurgeTaking extra after) TakePurge (Go (PurgeFragmenting 0 [] extra after))

@@ -113,20 +113,12 @@ pub among_count : (start : ℕ) (xs : List ℕ) → is_among xs start ≡ true �
 among_count start [] h = cc
 among_count start (x ∷ xs) h = among_by start x xs (x == start) refl h (among_count start xs)
 
-not_by : (start : ℕ) (xs : List ℕ) (b : Bool) → is_among xs start ≡ b → count_of start xs ≡ 0 → is_among xs start ≡ false
-not_by start xs true e z = absurd (let n = among_count start xs e in omega arith)
-not_by start xs false e z = e
-
 pub not_among : (start : ℕ) (xs : List ℕ) → count_of start xs ≡ 0 → is_among xs start ≡ false
-not_among start xs z = not_by start xs (is_among xs start) refl z
-
-count_by_test : (start x : ℕ) (xs : List ℕ) (b : Bool) → (x == start) ≡ b → 1 ≤ count_of start (x ∷ xs) → (1 ≤ count_of start xs → is_among xs start ≡ true) → (b || is_among xs start) ≡ true
-count_by_test start x xs true e n more = refl
-count_by_test start x xs false e n more = more (omega (arith, count_cons start x xs, ap one_if e))
+not_among start xs z = grind (arith, among_count, nat_tests)
 
 pub count_among : (start : ℕ) (xs : List ℕ) → 1 ≤ count_of start xs → is_among xs start ≡ true
 count_among start [] n = absurd (omega arith)
-count_among start (x ∷ xs) n = count_by_test start x xs (x == start) refl n (count_among start xs)
+count_among start (x ∷ xs) n = grind (arith, count_among start xs, count_cons, nat_tests)
 
 -- a block counts its start, and what counts is some block's
 pub block_count : (b : Block) (blocks : List Block) → IsIn b blocks → 1 ≤ count_of b.start (block_starts blocks)
@@ -137,19 +129,12 @@ block_count b blocks h = by_place blocks h.place h.at
     by_place (x ∷ xs) zero e = let same : x ≡ b = cc in omega (arith, count_cons b.start x.start (block_starts xs), ap (λ (y : Block). one_if (y.start == b.start)) same, ap one_if (same_test b.start))
     by_place (x ∷ xs) (suc i) e = let n = by_place xs i e in omega (arith, count_cons b.start x.start (block_starts xs))
 
-counted_by : (start : ℕ) (x : Block) (xs : List Block) (t : Bool) → (x.start == start) ≡ t → 1 ≤ count_of start (block_starts (x ∷ xs)) → (1 ≤ count_of start (block_starts xs) → (b : Block) × IsIn b xs × (b.start ≡ start))
-    → (b : Block) × IsIn b (x ∷ xs) × (b.start ≡ start)
-counted_by start x xs true e n more = (x, record { place = 0; at = refl }, to_same x.start start e)
-counted_by start x xs false e n more = let is = more (omega (arith, count_cons start x.start (block_starts xs), ap one_if e)) in (is.0, in_more is.0 x xs is.1, is.2)
-
 pub counted_block : (start : ℕ) (blocks : List Block) → 1 ≤ count_of start (block_starts blocks) → (b : Block) × IsIn b blocks × (b.start ≡ start)
 counted_block start [] n = absurd (omega arith)
-counted_block start (x ∷ xs) n = counted_by start x xs (x.start == start) refl n (counted_block start xs)
+counted_block start (x ∷ xs) n = grind (arith, counted_block start xs, to_same, count_cons, in_more, nat_tests)
 
 -- two blocks with one start are one
 pub same_block : (blocks : List Block) (start i j : ℕ) (b b' : Block) → count_of start (block_starts blocks) ≤ 1 → slice_get blocks i ≡ Some b → slice_get blocks j ≡ Some b' → b.start ≡ start → b'.start ≡ start → b ≡ b'
-same_block [] start i j b b' once h h' e e' = cc
-same_block (x ∷ xs) start zero zero b b' once h h' e e' = cc
 same_block (x ∷ xs) start zero (suc j) b b' once h h' e e' = let same : x ≡ b = cc in
     absurd (let n = block_count b' xs (record { place = j; at = h' }) in
     omega (arith, count_cons start x.start (block_starts xs), ap (λ (y : Block). one_if (y.start == start)) same, ap (λ n. one_if (n == start)) e, ap one_if (same_test start), ap (λ n. count_of n (block_starts xs)) e'))
@@ -157,6 +142,7 @@ same_block (x ∷ xs) start (suc i) zero b b' once h h' e e' = let same : x ≡ 
     absurd (let n = block_count b xs (record { place = i; at = h }) in
     omega (arith, count_cons start x.start (block_starts xs), ap (λ (y : Block). one_if (y.start == start)) same, ap (λ n. one_if (n == start)) e', ap one_if (same_test start), ap (λ n. count_of n (block_starts xs)) e))
 same_block (x ∷ xs) start (suc i) (suc j) b b' once h h' e e' = same_block xs start i j b b' (omega (arith, count_cons start x.start (block_starts xs))) h h' e e'
+same_block _ start _ _ b b' once h h' e e' = cc
 
 -- Stacked parts.
 
@@ -166,9 +152,7 @@ size_cons p ps = sum_by-cons size_of p ps
 -- where a part of the stack lies
 pub stacked_at : (ps : List Part) (off i : ℕ) (p : Part) → AreStacked off ps → slice_get ps i ≡ Some p → (off ≤ p.offset) × (p.offset + size_of p ≤ off + parts_size ps) × (p.pages ≤ size_of p)
 stacked_at [] off i p st h = cc
-stacked_at (x ∷ ps) off zero p st h = let same : x ≡ p = cc in
-    subst (λ (y : Part). (off ≤ y.offset) × (y.offset + size_of y ≤ off + parts_size (x ∷ ps)) × (y.pages ≤ size_of y)) same
-    ((let e = st.0 in omega arith), (let e = st.0 in omega (arith, size_cons x ps)), st.1)
+stacked_at (x ∷ ps) off zero p st h = grind (arith, size_cons, nat_tests)
 stacked_at (x ∷ ps) off (suc i) p st h = let r = stacked_at ps (off + size_of x) i p st.2 h in ((let a = r.0 in omega arith), (let b = r.1 in omega (arith, size_cons x ps)), r.2)
 
 -- two parts of the stack are one, or apart

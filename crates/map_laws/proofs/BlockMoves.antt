@@ -1,11 +1,11 @@
 -- What sections do to blocks and parts where they change no block, and where they map or unmap a part.
-use Rattle.std.proofs.Common.{◌≡◌, ◌≢◌, ℕ, ◌+◌, ◌<◌, ◌≤◌, ◌⊎◌, inl, inr, Bool, true, false, nat_lt, slice_get, Some, refl, ap, sym, ◌∙◌, subst, arith}
+use Rattle.std.proofs.Common.{◌≡◌, ◌≢◌, ℕ, ◌+◌, ◌<◌, ◌≤◌, ◌⊎◌, inl, inr, true, slice_get, Some, refl, ap, sym, ◌∙◌, subst, arith}
 use Rattle.std.proofs.lemmas.Bool.Decides.{nat_tests}
 use Rattle.vm_model.specs.declared.areas.Span.{Span}
 use Rattle.vm_model.specs.declared.areas.Area.{Area}
 use Rattle.vm_model.specs.Space.{span, holds, times}
 use Rattle.vm_model.specs.Setup.{Setup}
-use Rattle.vm_model.specs.PlainMap.{PlainMap, Block, Part, InHand, is_live, is_ended}
+use Rattle.vm_model.specs.PlainMap.{PlainMap, Block, Part, InHand}
 use Rattle.vm_model.specs.Areas.{spans_of}
 use Rattle.vm_model.specs.Blocks.{PartAt, first_page, rounded, size_of}
 use Rattle.vm_model.specs.Events.{Section}
@@ -100,15 +100,7 @@ module _ (c : Setup) (m : PlainMap) (k : ℕ) (p : Place) (s : Section) (n : Nex
 
     -- a page outside the part's row, or one of another block
     by_row : (page : ℕ) → ((first_page at ≤ page) → (page < first_page at + at.pages) → ⊥) → IsStill m (effect_as c m k s) page
-    by_row page never = untouched page (by_low (nat_lt page (first_page at)) refl)
-      where
-        by_low : (b : Bool) → nat_lt page (first_page at) ≡ b → (page < first_page at) ⊎ (first_page at + at.pages ≤ page)
-        by_low true e = inl (let low : page < first_page at = grind (arith, nat_tests) in low)
-        by_low false e = inr (by_high (nat_lt page (first_page at + at.pages)) refl)
-          where
-            by_high : (t : Bool) → nat_lt page (first_page at + at.pages) ≡ t → first_page at + at.pages ≤ page
-            by_high true f = absurd (never (let a : first_page at ≤ page = grind (arith, nat_tests) in a) (let b : page < first_page at + at.pages = grind (arith, nat_tests) in b))
-            by_high false f = let c : first_page at + at.pages ≤ page = grind (arith, nat_tests) in c
+    by_row page never = grind (arith, nat_tests)
 
     in_own : (page : ℕ) → first_page at ≤ page → page < first_page at + at.pages → (hand.block.start ≤ page) × (page < hand.block.start + c.block_pages)
     in_own page a b = let w = part_within c m hand.block hand.part own_fine hand.part_there in let r = row_of m k at hand in ((let e = r.0 in omega arith), (let e = r.0 in let f = r.2 in let g = w.0 in let h = w.1 in omega arith))
@@ -125,11 +117,7 @@ module _ (c : Setup) (m : PlainMap) (k : ℕ) (p : Place) (s : Section) (n : Nex
         never low high (inr (inr e)) = let r = row_of m k at hand in let w = part_within c m hand.block hand.part own_fine hand.part_there in omega (arith, r.0, r.2, w.1)
 
     own_part : (q : Part) → q ≡ hand.part → IsPartFine m hand.block.start q → IsPartFine (effect_as c m k s) hand.block.start q
-    own_part q e is = record {
-      lives = λ h. (let no : is_live q.life ≡ false = ap (λ (x : Part). is_live x.life) e ∙ ap is_live hand.life in cc);
-      ended = λ h. (let no : is_ended q.life ≡ false = ap (λ (x : Part). is_ended x.life) e ∙ ap is_ended hand.life in cc);
-      tail = λ page a b. still_bare m (effect_as c m k s) page (by_row page (λ low high. (let r = row_of m k at hand in omega (arith, r.0, r.2, ap (λ (x : Part). x.offset) e, ap (λ (x : Part). x.pages) e)))) (is.tail page a b);
-    }
+    own_part q e is = grind (arith, still_bare, by_row, row_of, nat_tests)
 
     inner_part : (q : Part) → IsIn q hand.block.parts → IsPartFine (effect_as c m k s) hand.block.start q
     inner_part q there = elim (same_or q.offset hand.part.offset) [

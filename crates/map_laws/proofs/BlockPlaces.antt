@@ -1,5 +1,5 @@
 -- What each section does to blocks and parts at its place.
-use Rattle.std.proofs.Common.{Bool, List, Some, [], ap, arith, false, inl, inr, not, refl, slice_get, subst, suc, sym, true, zero, ℕ, ◌+◌, ◌<◌, ◌==◌, ◌∙◌, ◌∷◌, ◌≡◌, ◌≤◌, ◌⊎◌}
+use Rattle.std.proofs.Common.{Bool, List, Some, [], ap, arith, false, not, refl, slice_get, subst, suc, sym, true, zero, ℕ, ◌+◌, ◌<◌, ◌==◌, ◌∙◌, ◌∷◌, ◌≡◌, ◌≤◌, ◌⊎◌}
 use Rattle.vm_model.specs.Areas.{areas_of, is_area, named_areas, spans_of, with_areas}
 use Rattle.vm_model.specs.Blocks.{PartAt}
 use Rattle.vm_model.specs.Carried.{count_of}
@@ -17,7 +17,7 @@ use Rattle.vm_model.specs.declared.areas.AreaKind.{AreaKind}
 use Rattle.vm_model.specs.declared.areas.Span.{Span}
 use Rattle.vm_model.specs.LegalHistory.{Meets}
 use Rattle.map_laws.proofs.AskRows.{AskRow, Refused, ask_row}
-use Rattle.map_laws.proofs.PlaceRows.{PlaceRow, Stays, place_row}
+use Rattle.map_laws.proofs.PlaceRows.{place_row}
 use Rattle.map_laws.proofs.Touched.{painted_still}
 use Rattle.map_laws.proofs.AreaFacts.{IsHolding, IsMapFine, own_uses}
 use Rattle.map_laws.proofs.BlockFacts.{IsBlockArea, IsBlockAt, IsBlockFine, IsPartIn, IsStill, block_out, block_starts, count_cons, counted_block, not_among, to_same}
@@ -47,30 +47,16 @@ abbrev pub IsUnblocky : Place → Type 0
 IsUnblocky p = is_blocky p ≡ false
 
 pub unblocky_out : (p : Place) (start : ℕ) → IsUnblocky p → count_of start (block_out p) ≡ 0
-unblocky_out (PurgeFragmenting cpu gone extra after) start h = cc
-unblocky_out (PurgeUnlinking gone extra after) start h = cc
-unblocky_out (UnlinkingBlock s reply) start h = cc
-unblocky_out (AddingBlock at) start h = cc
-unblocky_out _ start h = refl
+unblocky_out p start h = grind arith
 
 pub unblocky_at : (c : Setup) (m : PlainMap) (k : ℕ) (p : Place) → IsUnblocky p → IsBlockAt c m k p
-unblocky_at c m k (PurgeFragmenting cpu gone extra after) h = cc
-unblocky_at c m k (PurgeUnlinking gone extra after) h = cc
-unblocky_at c m k (UnlinkingBlock s reply) h = cc
-unblocky_at c m k (AddingBlock at) h = cc
-unblocky_at c m k (MappingPart at) h = cc
-unblocky_at c m k (SettlingPart at) h = cc
-unblocky_at c m k (UnmappingPart at) h = cc
-unblocky_at c m k (Retiring at reply) h = cc
-unblocky_at c m k _ h = tt
+unblocky_at c m k p h = grind arith
 
 no_next_out : (n : Next) (start : ℕ) → OnNext IsUnblocky n → next_out n start ≡ 0
-no_next_out (Go p) start h = unblocky_out p start h
-no_next_out (Answer r made) start h = refl
+no_next_out n start h = grind (arith, unblocky_out)
 
 no_next_at : (c : Setup) (m : PlainMap) (k : ℕ) (n : Next) → OnNext IsUnblocky n → OnNext (IsBlockAt c m k) n
-no_next_at c m k (Go p) h = unblocky_at c m k p h
-no_next_at c m k (Answer r made) h = tt
+no_next_at c m k n h = grind (arith, unblocky_at)
 
 -- places from which a section can lead to one of these
 abbrev pub leads_blocky : Place → Bool
@@ -85,12 +71,8 @@ leads_blocky (UnmappingPart at) = true
 leads_blocky (Retiring at reply) = true
 leads_blocky _ = false
 
-unblocky_row : (c : Setup) (s : Section) (p : Place) (n : Next) → PlaceRow c s p n → leads_blocky p ≡ false → OnNext IsUnblocky n
-unblocky_row c s _ _ Stays h = refl
-unblocky_row c s _ _ _ h = cc
-
 pub unblocky_next : (c : Setup) (p : Place) (s : Section) → leads_blocky p ≡ false → OnNext IsUnblocky (next c p s)
-unblocky_next c p s h = unblocky_row c s p (next c p s) (place_row c s p) h
+unblocky_next c p s h = grind (arith, place_row)
 
 -- sections that leave blocks, areas and frames
 abbrev pub is_still : Section → Bool
@@ -166,11 +148,7 @@ pub hand_same : (m m' : PlainMap) (k : ℕ) (at : PartAt) → m'.blocks ≡ m.bl
 hand_same m m' k at e is = record { block = is.block; there = subst (IsIn is.block) (sym e) is.there; start = is.start; part = is.part; part_there = is.part_there; offset = is.offset; pages = is.pages; life = is.life }
 
 pub not_held : (s : Span) (page : ℕ) → (page < s.start) ⊎ (s.start + s.pages ≤ page) → holds s page ≡ false
-not_held s page out = by_test (holds s page) refl
-  where
-    by_test : (t : Bool) → holds s page ≡ t → holds s page ≡ false
-    by_test true e = absurd (let r = holds_to s page e in elim out [ inl low ↦ omega arith | inr high ↦ omega arith ])
-    by_test false e = e
+not_held s page out = grind (arith, holds_to)
 
 -- a page of a live area of a chunk
 pub record IsInChunk (m : PlainMap) (page : ℕ) : Type 0 where

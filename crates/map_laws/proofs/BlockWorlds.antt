@@ -9,7 +9,7 @@ use Rattle.vm_model.specs.Effects.{effect_as}
 use Rattle.vm_model.specs.Events.{Event, Section}
 use Rattle.vm_model.specs.History.{Local, World, moved_to}
 use Rattle.vm_model.specs.Next.{Answer, Go, Next, next}
-use Rattle.vm_model.specs.Places.{AddingBlock, BeginningUnmap, CuttingPart, Depopulating, Dropping, Filling, Finding, FindingAgain, LookingAtDirty, Made, MappingArea, MappingPart, Over, Place, Populating, PurgeCollecting, PurgeFlushing, PurgeFragmenting, PurgeGiving, PurgeReturning, PurgeTaking, PurgeUnlinking, PurgeWaiting, Refusing, Removing, Retiring, SettlingArea, SettlingBlock, SettlingPart, UnlinkingBlock, UnlinkingGroups, UnmappingArea, UnmappingPart, Waiting, block_spans}
+use Rattle.vm_model.specs.Places.{AddingBlock, Depopulating, Filling, Finding, FindingAgain, Made, MappingPart, Place, Populating, PurgeFragmenting, PurgeUnlinking, Removing, Retiring, SettlingPart, UnlinkingBlock, UnlinkingGroups, UnmappingPart, block_spans}
 use Rattle.vm_model.specs.PlainMap.{Block, PlainMap}
 use Rattle.vm_model.specs.Setup.{Setup}
 use Rattle.vm_model.specs.Space.{covers, holds, is_among, one_if, span, times}
@@ -26,7 +26,7 @@ use Rattle.map_laws.proofs.Lists.{set_cases}
 use Rattle.map_laws.proofs.Quiet.{area_times}
 use Rattle.map_laws.proofs.OutMoves.{IsInside, IsUnlinked, sum_two}
 use Rattle.map_laws.proofs.Places.{HaveBeginnings, AtOver, IsPlainKind, OnNext, answers_call, begins_with}
-use Rattle.map_laws.proofs.Spans.{InSpans, Inside, Outside, covers_one, holds_to, in_spans, times-cons}
+use Rattle.map_laws.proofs.Spans.{InSpans, covers_one, holds_to, in_spans, times-cons}
 use Rattle.vm_model.specs.declared.areas.AreaKind.TheVariants as kind
 
 pub record IsBlockWorld (c : Setup) (w : World) : Type 0 where
@@ -51,11 +51,7 @@ only_one s start h = to_same s start (sym (or_false (s == start)) ∙ h)
 
 -- the area of a start that a caller has out
 pub out_area : (c : Setup) (m : PlainMap) (j : ℕ) (p : Place) (start : ℕ) → IsBlockAt c m j p → is_among (block_out p) start ≡ true → IsBlockArea c m start
-out_area c m j (PurgeFragmenting cpu gone extra after) start at h = (at start h).area
-out_area c m j (PurgeUnlinking gone extra after) start at h = (at start h).area
-out_area c m j (UnlinkingBlock s r) start at h = subst (IsBlockArea c m) (only_one s start h) at.area
-out_area c m j (AddingBlock part) start at h = subst (IsBlockArea c m) (only_one part.block start h) at.0
-out_area c m j _ start at h = cc
+out_area c m j p start at h = grind (arith, only_one)
 
 first_among : (s : ℕ) → is_among (s ∷ []) s ≡ true
 first_among s = ap (λ b. b || false) (same_test s)
@@ -90,8 +86,7 @@ module _ (c : Setup) (w : World) (l : Local) (s : Section) (kept : IsBlockWorld 
   moved_out (Answer r made) start = unblocky_out (moved_to l (Answer r made)).place start (answer_un r made)
 
   moved_at : (n : Next) → OnNext (IsBlockAt c (effect_as c w.map l.caller s) l.caller) n → IsBlockAt c (effect_as c w.map l.caller s) l.caller (moved_to l n).place
-  moved_at (Go p) h = h
-  moved_at (Answer r made) h = unblocky_at c (effect_as c w.map l.caller s) l.caller (moved_to l (Answer r made)).place (answer_un r made)
+  moved_at n h = grind (arith, unblocky_at, answer_un)
 
   out_sum : (start : ℕ) → sum_by (λ (x : Local). count_of start (block_out x.place)) (slice_set w.locals l.caller after_local) + count_of start (block_out l.place)
       ≡ sum_by (λ (x : Local). count_of start (block_out x.place)) w.locals + count_of start (block_out after_local.place)
@@ -103,9 +98,7 @@ module _ (c : Setup) (w : World) (l : Local) (s : Section) (kept : IsBlockWorld 
 
   -- what the others have out has its area
   others_area : (start : ℕ) → 1 ≤ sum_by (λ (x : Local). count_of start (block_out x.place)) w.locals - count_of start (block_out l.place) → IsBlockArea c w.map start
-  others_area start h =
-      let is = sum_some (outs start) w.locals (omega arith) in
-      out_area c w.map is.1.caller is.1.place start (kept.each is.0 is.1 is.2) (count_among start (block_out is.1.place) is.3)
+  others_area start h = grind (arith, sum_some, out_area, count_among, block_out)
 
   step_named : (start : ℕ) → count_of start (block_starts (effect_as c w.map l.caller s).blocks) + sum_by (λ (x : Local). count_of start (block_out x.place)) (slice_set w.locals l.caller after_local) ≤ 1
   step_named start =
@@ -139,15 +132,10 @@ module _ (c : Setup) (m : PlainMap) (once : (page : ℕ) → times page (spans_o
   pub row_covers : (s page : ℕ) → holds (span s c.block_pages) page ≡ true → (s ≤ page) × (page < s + c.block_pages)
   row_covers s page h = holds_to (span s c.block_pages) page h
 
-  covered_by : (x page : ℕ) (xs : List ℕ) (t : Bool) → holds (span x c.block_pages) page ≡ t → (t || covers (block_spans c xs) page) ≡ true
-      → (covers (block_spans c xs) page ≡ true → (s : ℕ) × (is_among xs s ≡ true) × (holds (span s c.block_pages) page ≡ true)) → (s : ℕ) × (is_among (x ∷ xs) s ≡ true) × (holds (span s c.block_pages) page ≡ true)
-  covered_by x page xs true e h more = (x, ap (λ b. b || is_among xs x) (same_test x), e)
-  covered_by x page xs false e h more = let is = more h in (is.0, or_right (x == is.0) (is_among xs is.0) is.1, is.2)
-
   -- a page of the blocks' spans is in one of the blocks
   pub covered_start : (xs : List ℕ) (page : ℕ) → covers (block_spans c xs) page ≡ true → (s : ℕ) × (is_among xs s ≡ true) × (holds (span s c.block_pages) page ≡ true)
   covered_start [] page h = cc
-  covered_start (x ∷ xs) page h = covered_by x page xs _ refl h (covered_start xs page)
+  covered_start (x ∷ xs) page h = grind (arith, covered_start xs page, same_test, or_right)
 
   times_by : (s page x : ℕ) (xs : List ℕ) (t : Bool) → holds (span x c.block_pages) page ≡ t → (holds (span x c.block_pages) page ≡ true → x ≡ s) → times page (block_spans c xs) ≤ count_of s xs → times page (block_spans c (x ∷ xs)) ≤ count_of s (x ∷ xs)
   times_by s page x xs true e same less = omega (arith, times-cons page (span x c.block_pages) (block_spans c xs), count_cons s x xs, ap one_if e, ap (λ n. one_if (n == s)) (same e), ap one_if (same_test s))
@@ -167,8 +155,7 @@ module _ (c : Setup) (m : PlainMap) (once : (page : ℕ) → times page (spans_o
         let one = few s in omega arith
 
     less_by : (page : ℕ) → InSpans page (block_spans c starts) → times page (block_spans c starts) ≤ times page (spans_of (areas_starting starts m.areas))
-    less_by page (Inside e n) = let is = covered_start starts page e in one_area page is.0 is.1 is.2
-    less_by page (Outside e n) = omega arith
+    less_by page x1 = grind (arith, covered_start, one_area)
 
     pub unlinked : IsUnlinked c m starts (block_spans c starts)
     unlinked = record {
@@ -188,12 +175,7 @@ module _ (c : Setup) (m : PlainMap) (once : (page : ℕ) → times page (spans_o
         }
 
 chunk_inside : (m : PlainMap) (page : ℕ) → IsInChunk m page → IsInside m page
-chunk_inside m page is = record {
-  area = is.area;
-  there = is.there;
-  holds = is.holds;
-  inner = λ plain. (let chunk : IsPlainKind (kind.Chunk is.chunk is.group) = subst IsPlainKind is.kind plain in absurd chunk);
-}
+chunk_inside m page is = grind arith
 
 module _ (c : Setup) (m : PlainMap) (k : ℕ) (once : (page : ℕ) → times page (spans_of m.areas) ≤ 1) (all : (b : Block) → IsIn b m.blocks → IsBlockFine c m b) where
   pub block_outside : (p : Place) → IsChunkSided c m p → IsRemovedPlain m p → IsBlockAt c m k p → ((start : ℕ) → count_of start (block_out p) ≤ 1) → IsOutside c m p
@@ -208,25 +190,4 @@ module _ (c : Setup) (m : PlainMap) (k : ℕ) (once : (page : ℕ) → times pag
   block_outside (Populating object missing) side plain at few = λ page h. chunk_inside m page (side page h)
   block_outside (Filling chunk base page filled) side plain at few = λ own h. chunk_inside m own (side own h)
   block_outside (Depopulating base populated) side plain at few = λ page h. chunk_inside m page (side page h)
-  block_outside Over side plain at few = tt
-  block_outside (Refusing r) side plain at few = tt
-  block_outside (MappingArea place kd) side plain at few = tt
-  block_outside (Dropping place) side plain at few = tt
-  block_outside (SettlingArea place kd) side plain at few = tt
-  block_outside (UnmappingArea area) side plain at few = tt
-  block_outside (Waiting spans after) side plain at few = tt
-  block_outside (PurgeTaking extra after) side plain at few = tt
-  block_outside (PurgeFragmenting cpu gone extra after) side plain at few = tt
-  block_outside (PurgeWaiting gone extra after) side plain at few = tt
-  block_outside (PurgeCollecting extra after) side plain at few = tt
-  block_outside (PurgeFlushing hull waited after) side plain at few = tt
-  block_outside (PurgeReturning waited after) side plain at few = tt
-  block_outside (PurgeGiving after) side plain at few = tt
-  block_outside (CuttingPart cpu pages) side plain at few = tt
-  block_outside (SettlingBlock place cpu pages) side plain at few = tt
-  block_outside (AddingBlock part) side plain at few = tt
-  block_outside (SettlingPart part) side plain at few = tt
-  block_outside (BeginningUnmap cpu page serial) side plain at few = tt
-  block_outside (Retiring part r) side plain at few = tt
-  block_outside (LookingAtDirty cpu ranges) side plain at few = tt
   block_outside _ side plain at few = tt

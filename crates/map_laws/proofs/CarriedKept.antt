@@ -1,15 +1,15 @@
 -- What callers carry is kept.
-use Rattle.std.proofs.Common.{Bool, IfSome, List, Some, [], ap, arith, false, inl, inr, map, nat_lt, refl, slice_get, subst, suc, sym, true, zero, ℕ, ◌+◌, ◌-◌, ◌<◌, ◌||◌, ◌∙◌, ◌∷◌, ◌≡◌, ◌≤◌}
+use Rattle.std.proofs.Common.{Bool, IfSome, List, Some, [], ap, arith, false, inl, inr, map, nat_lt, refl, slice_get, subst, suc, sym, true, zero, ℕ, ◌+◌, ◌-◌, ◌<◌, ◌∙◌, ◌∷◌, ◌≡◌, ◌≤◌}
 use Rattle.std.proofs.lemmas.Bool.Decides.{nat_tests}
-use Rattle.vm_model.specs.Areas.{areas_at, mapped_part, spans_of}
-use Rattle.vm_model.specs.Blocks.{PartAt, first_page, life_of_part, mapped_pages, parts_size, rounded, size_of}
+use Rattle.vm_model.specs.Areas.{areas_at, spans_of}
+use Rattle.vm_model.specs.Blocks.{PartAt, life_of_part, parts_size, size_of}
 use Rattle.vm_model.specs.Carried.{IsAreaKept, IsBlockKept, IsCarried, IsChunkKept, IsChunkOut, IsKept, IsPartKept, SomeoneIsPopulating, emptied, fresh, leaving, object_in_hand, part_in_hand, part_spans, starts_out}
 use Rattle.vm_model.specs.Chunks.{ObjectAt, life_of_object}
 use Rattle.vm_model.specs.History.{Local, World}
 use Rattle.vm_model.specs.Laws.{WhatIsCarriedIsKept}
 use Rattle.vm_model.specs.Legal.{IsBare, IsMapped, IsUnmapped, OnEach}
-use Rattle.vm_model.specs.Places.{AddingBlock, AddingChunk, Depopulating, Dropping, MappingArea, MappingPart, Place, Populating, PurgeFragmenting, PurgeUnlinking, PurgeWaiting, Retiring, SettlingAtomic, SettlingBlock, SettlingGroups, SettlingObject, SettlingPart, UnlinkingBlock, UnlinkingGroups, UnmappingArea, UnmappingPart, Unplacing, Waiting, Zeroing, block_spans, group_starts}
-use Rattle.vm_model.specs.PlainMap.{Block, Chunk, Ended, InHand, Life, Lives, Part, PlainMap, is_ended, is_live}
+use Rattle.vm_model.specs.Places.{AddingBlock, AddingChunk, Depopulating, Place, PurgeFragmenting, PurgeUnlinking, UnlinkingBlock, UnlinkingGroups, block_spans, group_starts}
+use Rattle.vm_model.specs.PlainMap.{Block, Chunk, InHand, Life, Part, PlainMap}
 use Rattle.vm_model.specs.Rules.{AreGroups}
 use Rattle.vm_model.specs.Setup.{Setup}
 use Rattle.vm_model.specs.Space.{covers, holds, is_among, span, times}
@@ -27,10 +27,8 @@ use Rattle.map_laws.proofs.Namings.{namings_once}
 use Rattle.map_laws.proofs.ObjectFacts.{IsObject, IsObjectAt, object_life}
 use Rattle.map_laws.proofs.ObjectWorlds.{SomeonePlaces}
 use Rattle.map_laws.proofs.Chosen.{or_right}
-use Rattle.map_laws.proofs.Places.{IsPlainKind}
 use Rattle.map_laws.proofs.Spans.{covers_one, holds_from, holds_to}
 use Rattle.map_laws.proofs.TraceWorlds.{AreFull, IsTraceWorld, areas_once, has_parts, own_names, trace_reached}
-use Rattle.vm_model.specs.declared.areas.AreaKind.TheVariants as kind
 
 -- a row's pages by its span
 row_each : (P : ℕ → Type 0) (s : Span) → OnRow s.start s.pages P → OnEach (s ∷ []) P
@@ -38,19 +36,10 @@ row_each P s row page e = let r = holds_to s page (sym (covers_one s page) ∙ e
 
 module _ (c : Setup) (m : PlainMap) (k : ℕ) where
   fresh_bare : (p : Place) → IsHolding c m k p → IsBlockAt c m k p → IsChunkAt c m p → OnEach (fresh c p) (IsBare m)
-  fresh_bare (MappingArea s kd) own at chunk = own.bare
-  fresh_bare (Dropping s) own at chunk = own.bare
-  fresh_bare (SettlingBlock s cpu pages) own at chunk = own.bare
-  fresh_bare (AddingBlock part) own at chunk = row_each (IsBare m) (span part.block c.block_pages) at.2
-  fresh_bare (MappingPart part) own at chunk = row_each (IsBare m) (span (first_page part) (rounded part.pages)) at.1
-  fresh_bare (SettlingGroups base number bytes align) own at chunk = own.bare
-  fresh_bare (AddingChunk base number bytes align) own at chunk = chunk.1
-  fresh_bare _ own at chunk = λ page e. cc
+  fresh_bare p own at chunk = grind (arith, row_each, nat_tests)
 
   leaving_mapped : (p : Place) → IsHolding c m k p → IsBlockAt c m k p → OnEach (leaving p) (IsMapped m)
-  leaving_mapped (UnmappingArea area) own at = own.mapped
-  leaving_mapped (UnmappingPart part) own at = row_each (IsMapped m) (mapped_pages part) at.1
-  leaving_mapped _ own at = λ page e. cc
+  leaving_mapped p own at = grind (arith, row_each, nat_tests)
 
   chunk_left : (p : Place) → IsChunkAt c m p → IsChunkOut c m p
   chunk_left (Depopulating base populated) at = λ page e. (
@@ -60,19 +49,10 @@ module _ (c : Setup) (m : PlainMap) (k : ℕ) where
   chunk_left _ at = tt
 
   object_held : ((at : ObjectAt) → IsObject m.chunks at (InHand k) → life_of_object at m.chunks ≡ Some (InHand k)) → (p : Place) → IsObjectAt m k p → IfSome (object_in_hand p) (λ at. life_of_object at m.chunks ≡ Some (InHand k))
-  object_held life (Populating object missing) at = life object at
-  object_held life (SettlingObject object) at = life object at
-  object_held life (Unplacing object) at = life object at
-  object_held life (Zeroing object) at = life object at
-  object_held life (SettlingAtomic object) at = life object at
-  object_held life _ at = tt
+  object_held life p at = grind (arith, nat_tests)
 
   part_held : ((at : PartAt) → IsPartIn m k at → life_of_part at m.blocks ≡ Some (InHand k)) → (p : Place) → IsBlockAt c m k p → IfSome (part_in_hand p) (λ at. life_of_part at m.blocks ≡ Some (InHand k))
-  part_held life (MappingPart part) at = life part at.0
-  part_held life (SettlingPart part) at = life part at.0
-  part_held life (UnmappingPart part) at = life part at.0
-  part_held life (Retiring part r) at = life part at.0
-  part_held life _ at = tt
+  part_held life p at = grind (arith, nat_tests)
 
   module _ (once : (page : ℕ) → times page (spans_of m.areas) ≤ 1) where
     -- the rows of blocks that are out
@@ -80,14 +60,7 @@ module _ (c : Setup) (m : PlainMap) (k : ℕ) where
     out_each starts outs page e = let is = covered_start c m once starts page e in let r = row_covers c m once is.0 page is.2 in (outs is.0 is.1).unmapped page r.0 r.1
 
     emptied_unmapped : (p : Place) → IsHolding c m k p → IsBlockAt c m k p → IsChunkAt c m p → OnEach (emptied c p) (IsUnmapped m)
-    emptied_unmapped (Waiting spans after) own at chunk = own.unmapped
-    emptied_unmapped (PurgeFragmenting cpu gone extra after) own at chunk = out_each gone at
-    emptied_unmapped (PurgeUnlinking gone extra after) own at chunk = out_each gone at
-    emptied_unmapped (PurgeWaiting gone extra after) own at chunk = own.unmapped
-    emptied_unmapped (Retiring part r) own at chunk = row_each (IsUnmapped m) (mapped_pages part) at.1
-    emptied_unmapped (UnlinkingBlock start r) own at chunk = out_each (start ∷ []) (λ n h. subst (IsOut c m) (only_one start n h) at)
-    emptied_unmapped (UnlinkingGroups base) own at chunk = chunk.2
-    emptied_unmapped _ own at chunk = λ page e. cc
+    emptied_unmapped p own at chunk = grind (arith, out_each, row_each, only_one, nat_tests)
 
   module _ (once : (page : ℕ) → times page (spans_of m.areas) ≤ 1) (full : AreFull m) where
     group_live : (number base start : ℕ) → AreGroupsLive c m number base → is_among (group_starts c base) start ≡ true → (a : Area) × (areas_at start m.areas ≡ a ∷ [])
@@ -111,14 +84,11 @@ module _ (c : Setup) (m : PlainMap) (k : ℕ) where
 
 rows_cover : (b : Block) (ps : List Part) (p : Part) (i page : ℕ) → slice_get ps i ≡ Some p → b.start + p.offset ≤ page → page < b.start + p.offset + size_of p → covers (map (λ (p : Part). span (b.start + p.offset) (size_of p)) ps) page ≡ true
 rows_cover b [] p i page h low high = cc
-rows_cover b (x ∷ ps) p zero page h low high = let same : x ≡ p = cc in
-    ap (λ t. t || covers (map (λ (p : Part). span (b.start + p.offset) (size_of p)) ps) page) (ap (λ (y : Part). holds (span (b.start + y.offset) (size_of y)) page) same ∙ holds_from (span (b.start + p.offset) (size_of p)) page low high)
+rows_cover b (x ∷ ps) p zero page h low high = grind (arith, holds_from, nat_tests)
 rows_cover b (x ∷ ps) p (suc i) page h low high = or_right (holds (span (b.start + x.offset) (size_of x)) page) _ (rows_cover b ps p i page h low high)
 
 life_kept : (c : Setup) (m : PlainMap) (b : Block) (p : Part) → IsPartFine m b.start p → (life : Life) → p.life ≡ life → IsPartKept m b p life
-life_kept c m b p fine (InHand k) e = tt
-life_kept c m b p fine (Lives serial) e = row_each (IsMapped m) (span (b.start + p.offset) p.pages) (fine.lives (ap is_live e))
-life_kept c m b p fine Ended e = row_each (IsUnmapped m) (span (b.start + p.offset) (size_of p)) (fine.ended (ap is_ended e))
+life_kept c m b p fine life e = grind (arith, row_each, nat_tests)
 
 block_kept : (c : Setup) (m : PlainMap) (b : Block) → IsBlockFine c m b → IsBlockKept c m b
 block_kept c m b fine = record {
@@ -136,10 +106,7 @@ block_kept c m b fine = record {
     by_end page low high out false e = fine.rest page (let past : b.start + parts_size b.parts ≤ page = grind (arith, nat_tests) in past) high
 
 area_kept : (m : PlainMap) (a : Area) → IsAreaFine m a → (kd : AreaKind) → a.kind ≡ kd → IsAreaKept m a kd
-area_kept m a fine kind.Vmalloc e = λ page h. fine.mapped (subst IsPlainKind (sym e) tt) page (ap (λ k. covers (mapped_part k a.span ∷ []) page) e ∙ h)
-area_kept m a fine kind.MapRam e = λ page h. fine.mapped (subst IsPlainKind (sym e) tt) page (ap (λ k. covers (mapped_part k a.span ∷ []) page) e ∙ h)
-area_kept m a fine (kind.Block cpu) e = tt
-area_kept m a fine (kind.Chunk chunk group) e = tt
+area_kept m a fine kd e = grind (arith, nat_tests)
 
 chunk_kept : (c : Setup) (w : World) (h : Chunk) → IsChunkFine c w.map (SomeoneIsPopulating w) h → IsChunkKept c w h
 chunk_kept c w h fine = record {

@@ -50,36 +50,19 @@ pub record IsKept {X : Type 0} (p : X → Bool) (xs : List X) (x : X) : Type 0 w
   pub there : IsIn x xs
   pub passes : p x ≡ true
 
-kept_more : {X : Type 0} (p : X → Bool) (xs : List X) (y x : X) → IsKept p xs x → IsKept p (y ∷ xs) x
-kept_more p xs y x h = record { there = in_more x y xs h.there; passes = h.passes }
-
 kept_by : {X : Type 0} (p : X → Bool) (xs : List X) (y : X) (b : Bool) → p y ≡ b → (i : ℕ) (x : X) → slice_get (cond b (y ∷ filter p xs) (filter p xs)) i ≡ Some x
     → ((j : ℕ) → slice_get (filter p xs) j ≡ Some x → IsKept p xs x) → IsKept p (y ∷ xs) x
 kept_by p xs y true e zero x h more = let same : y ≡ x = cc in record { there = record { place = 0; at = h }; passes = ap p (sym same) ∙ e }
-kept_by p xs y true e (suc i) x h more = kept_more p xs y x (more i h)
-kept_by p xs y false e i x h more = kept_more p xs y x (more i h)
+kept_by p xs y true e (suc i) x h more = grind (arith, there, in_more, nat_tests)
+kept_by p xs y false e i x h more = grind (arith, there, in_more, nat_tests)
 
 pub filter_has : {X : Type 0} (p : X → Bool) (xs : List X) (i : ℕ) (x : X) → slice_get (filter p xs) i ≡ Some x → IsKept p xs x
 filter_has p [] i x h = cc
 filter_has p (y ∷ xs) i x h = kept_by p xs y _ refl i x h (λ j e. filter_has p xs j x e)
 
-filter_keeps_by : {X : Type 0} (p : X → Bool) (xs : List X) (y x : X) (b : Bool) → p y ≡ b → IsIn x (filter p xs) → IsIn x (cond b (y ∷ filter p xs) (filter p xs))
-filter_keeps_by p xs y x true e h = in_more x y (filter p xs) h
-filter_keeps_by p xs y x false e h = h
-
--- the least is one of the elements
-least_of : {X : Type 0} (key : X → ℕ) (x : X) (xs : List X) (o : Option X) (y : X) → least_by key xs ≡ o → smaller_by key x o ≡ Some y → ((z : X) → least_by key xs ≡ Some z → IsIn z xs) → IsIn y (x ∷ xs)
-least_of key x xs None y e h more = record { place = 0; at = h }
-least_of key x xs (Some z) y e h more = case (nat_le (key x) (key z)) refl
-  where
-    case : (b : Bool) → nat_le (key x) (key z) ≡ b → IsIn y (x ∷ xs)
-    case true t = record { place = 0; at = (let is : (if nat_le (key x) (key z) then Some x else Some z) ≡ Some x = ap (λ b. if b then Some x else Some z) t in sym is ∙ h) }
-    case false t = let is : (if nat_le (key x) (key z) then Some x else Some z) ≡ Some z = ap (λ b. if b then Some x else Some z) t in
-        in_more y x xs (more y (e ∙ sym is ∙ h))
-
 pub least_in : {X : Type 0} (key : X → ℕ) (xs : List X) (y : X) → least_by key xs ≡ Some y → IsIn y xs
 least_in key [] y h = cc
-least_in key (x ∷ xs) y h = least_of key x xs _ y refl h (least_in key xs)
+least_in key (x ∷ xs) y h = grind (arith, least_in key xs, in_more, nat_tests)
 
 -- where there is an element there is a least one
 smaller_some : {X : Type 0} (key : X → ℕ) (x : X) (o : Option X) → (y : X) × (smaller_by key x o ≡ Some y)
@@ -96,10 +79,8 @@ least_some key (z ∷ xs) x h = smaller_some key z (least_by key xs)
 
 pub filter_in : {X : Type 0} (p : X → Bool) (xs : List X) (x : X) (i : ℕ) → slice_get xs i ≡ Some x → p x ≡ true → IsIn x (filter p xs)
 filter_in p [] x i h e = cc
-filter_in p (y ∷ xs) x zero h e = let same : y ≡ x = cc in
-    let now : filter p (y ∷ xs) ≡ y ∷ filter p xs = ap (λ b. cond b (y ∷ filter p xs) (filter p xs)) (ap p same ∙ e) in
-    record { place = 0; at = ap (λ l. slice_get l 0) now ∙ h }
-filter_in p (y ∷ xs) x (suc i) h e = filter_keeps_by p xs y x _ refl (filter_in p xs x i h e)
+filter_in p (y ∷ xs) x zero h e = grind (arith, nat_tests)
+filter_in p (y ∷ xs) x (suc i) h e = grind (arith, filter_in p xs x i h e, in_more, nat_tests)
 
 -- a sum loses what a filter leaves out
 sum_kept : {X : Type 0} (f : X → ℕ) (p : X → Bool) (y : X) (xs : List X) (b : Bool) → sum_by f (cond b (y ∷ filter p xs) (filter p xs)) ≤ f y + sum_by f (filter p xs)
@@ -112,10 +93,7 @@ sum_by-filter-le f p (y ∷ xs) = omega (arith, sum_kept f p y xs (p y), sum_by-
 
 pub sum_without : {X : Type 0} (f : X → ℕ) (p : X → Bool) (xs : List X) (x : X) (i : ℕ) → slice_get xs i ≡ Some x → p x ≡ false → sum_by f (filter p xs) + f x ≤ sum_by f xs
 sum_without f p [] x i h e = cc
-sum_without f p (y ∷ xs) x zero h e =
-    let same : y ≡ x = cc in
-    let now : filter p (y ∷ xs) ≡ filter p xs = ap (λ b. cond b (y ∷ filter p xs) (filter p xs)) (ap p same ∙ e) in
-    omega (arith, ap (sum_by f) now, ap f same, sum_by-filter-le f p xs, sum_by-cons f y xs)
+sum_without f p (y ∷ xs) x zero h e = grind (arith, sum_by-filter-le, sum_by-cons, nat_tests)
 sum_without f p (y ∷ xs) x (suc i) h e = omega (arith, sum_kept f p y xs (p y), sum_without f p xs x i h e, sum_by-cons f y xs)
 
 -- the sum has each of its terms
@@ -130,14 +108,9 @@ count_from-below zero first i x h = cc
 count_from-below (suc n) first zero x h = let same : first ≡ x = cc in omega arith
 count_from-below (suc n) first (suc i) x h = omega (arith, count_from-below n (suc first) i x h)
 
--- what is found is in the list and passes
-find_by : {X : Type 0} (p : X → Bool) (xs : List X) (y x : X) (b : Bool) → p y ≡ b → cond b (Some y) (find p xs) ≡ Some x → (find p xs ≡ Some x → IsIn x xs × (p x ≡ true)) → IsIn x (y ∷ xs) × (p x ≡ true)
-find_by p xs y x true e h more = let same : y ≡ x = cc in (record { place = 0; at = h }, ap p (sym same) ∙ e)
-find_by p xs y x false e h more = let is = more h in (in_more x y xs is.0, is.1)
-
 pub find_has : {X : Type 0} (p : X → Bool) (xs : List X) (x : X) → find p xs ≡ Some x → IsIn x xs × (p x ≡ true)
 find_has p [] x h = cc
-find_has p (y ∷ xs) x h = find_by p xs y x _ refl h (find_has p xs x)
+find_has p (y ∷ xs) x h = grind (arith, find_has p xs x, in_more, nat_tests)
 
 -- the last of the elements is one of them
 pub last_in : {X : Type 0} (xs : List X) (x : X) → last_of xs ≡ Some x → IsIn x xs
@@ -145,13 +118,9 @@ last_in [] x h = cc
 last_in (y ∷ []) x h = record { place = 0; at = h }
 last_in (y ∷ z ∷ xs) x h = in_more x y (z ∷ xs) (last_in (z ∷ xs) x h)
 
-among_by : (x y : ℕ) (xs : List ℕ) (t : Bool) → (y == x) ≡ t → (t || is_among xs x) ≡ true → (is_among xs x ≡ true → IsIn x xs) → IsIn x (y ∷ xs)
-among_by x y xs true e h more = let same : y ≡ x = grind (arith, nat_tests) in record { place = 0; at = ap (λ n. Some n) same }
-among_by x y xs false e h more = in_more x y xs (more h)
-
 pub among_in : (x : ℕ) (xs : List ℕ) → is_among xs x ≡ true → IsIn x xs
 among_in x [] h = cc
-among_in x (y ∷ xs) h = among_by x y xs (y == x) refl h (among_in x xs)
+among_in x (y ∷ xs) h = grind (arith, among_in x xs, in_more, nat_tests)
 
 in_by : (x : ℕ) (xs : List ℕ) (i : ℕ) → slice_get xs i ≡ Some x → is_among xs x ≡ true
 in_by x [] i e = cc
@@ -170,22 +139,11 @@ count_at (suc n) first (suc x) h = count_at n (suc first) x (omega arith) ∙ ap
 
 module _ {X : Type 0} where
   pub first_or : (a x : X) (xs : List X) → IsIn a (x ∷ xs) → (a ≡ x) ⊎ IsIn a xs
-  first_or a x xs h = by_place h.place h.at
-    where
-      by_place : (i : ℕ) → slice_get (x ∷ xs) i ≡ Some a → (a ≡ x) ⊎ IsIn a xs
-      by_place zero e = inl (let same : x ≡ a = cc in sym same)
-      by_place (suc i) e = inr (record { place = i; at = e })
-
-  put_in_by : (key : X → ℕ) (x y : X) (ys : List X) (b : Bool) (a : X) → IsIn a (if b then x ∷ y ∷ ys else y ∷ put_by key x ys) → (IsIn a (put_by key x ys) → (a ≡ x) ⊎ IsIn a ys) → (a ≡ x) ⊎ IsIn a (y ∷ ys)
-  put_in_by key x y ys true a h more = first_or a x (y ∷ ys) h
-  put_in_by key x y ys false a h more = elim (first_or a y (put_by key x ys) h) [
-    | inl e ↦ inr (record { place = 0; at = ap (λ z. Some z) (sym e) })
-    | inr there ↦ elim (more there) [ inl e ↦ inl e | inr is ↦ inr (in_more a y ys is) ]
-  ]
+  first_or a x xs h = grind (arith, nat_tests)
 
   pub put_in : (key : X → ℕ) (x : X) (ys : List X) (a : X) → IsIn a (put_by key x ys) → (a ≡ x) ⊎ IsIn a ys
   put_in key x [] a h = first_or a x [] h
-  put_in key x (y ∷ ys) a h = put_in_by key x y ys _ a h (put_in key x ys a)
+  put_in key x (y ∷ ys) a h = grind (arith, put_in key x ys a, first_or, there, in_more, nat_tests)
 
   put_sum_by : (f : X → ℕ) (key : X → ℕ) (x y : X) (ys : List X) (b : Bool) → sum_by f (put_by key x ys) ≡ f x + sum_by f ys → sum_by f (if b then x ∷ y ∷ ys else y ∷ put_by key x ys) ≡ f x + sum_by f (y ∷ ys)
   put_sum_by f key x y ys true e = sum_by-cons f x (y ∷ ys)
@@ -195,18 +153,10 @@ module _ {X : Type 0} where
   put_sum f key x [] = sum_by-cons f x []
   put_sum f key x (y ∷ ys) = put_sum_by f key x y ys _ (put_sum f key x ys)
 
-  put_keeps_by : (key : X → ℕ) (x y : X) (ys : List X) (t : Bool) (a : X) → IsIn a (y ∷ ys) → (IsIn a ys → IsIn a (put_by key x ys)) → IsIn a (if t then x ∷ y ∷ ys else y ∷ put_by key x ys)
-  put_keeps_by key x y ys true a h more = in_more a x (y ∷ ys) h
-  put_keeps_by key x y ys false a h more = elim (first_or a y ys h) [ inl e ↦ record { place = 0; at = ap (λ z. Some z) (sym e) } | inr there ↦ in_more a y (put_by key x ys) (more there) ]
-
   pub put_keeps : (key : X → ℕ) (x : X) (ys : List X) (a : X) → IsIn a ys → IsIn a (put_by key x ys)
   put_keeps key x [] a h = (let no = h.at in cc)
-  put_keeps key x (y ∷ ys) a h = put_keeps_by key x y ys _ a h (put_keeps key x ys a)
-
-  put_new_by : (key : X → ℕ) (x y : X) (ys : List X) (t : Bool) → IsIn x (put_by key x ys) → IsIn x (if t then x ∷ y ∷ ys else y ∷ put_by key x ys)
-  put_new_by key x y ys true more = record { place = 0; at = refl }
-  put_new_by key x y ys false more = in_more x y (put_by key x ys) more
+  put_keeps key x (y ∷ ys) a h = grind (arith, put_keeps key x ys a, in_more, first_or, there, nat_tests)
 
   pub put_new : (key : X → ℕ) (x : X) (ys : List X) → IsIn x (put_by key x ys)
   put_new key x [] = record { place = 0; at = refl }
-  put_new key x (y ∷ ys) = put_new_by key x y ys _ (put_new key x ys)
+  put_new key x (y ∷ ys) = grind (arith, put_new key x ys, in_more, nat_tests)

@@ -1,5 +1,5 @@
 -- Chunks that are added, and objects that are placed at once.
-use Rattle.std.proofs.Common.{List, Some, [], ap, arith, false, inl, inr, refl, replicate, slice_get, subst, suc, sym, true, zero, ℕ, ◌+◌, ◌∙◌, ◌∷◌, ◌≡◌, ◌⊎◌, Bool, map, nat_le, not, ◌*◌, ◌++◌, ◌-◌, ◌/◌, ◌<◌, ◌==◌, ◌||◌, ◌≤◌}
+use Rattle.std.proofs.Common.{List, Some, [], ap, arith, false, inl, inr, refl, replicate, slice_get, subst, suc, sym, true, zero, ℕ, ◌+◌, ◌∙◌, ◌∷◌, ◌≡◌, ◌⊎◌, Bool, map, nat_le, not, ◌*◌, ◌++◌, ◌-◌, ◌/◌, ◌<◌, ◌≤◌}
 use Rattle.std.proofs.lemmas.List.{length-replicate}
 use Rattle.std.proofs.lemmas.Option.{slice_get_within}
 use Rattle.vm_model.specs.Carried.{IsBeingPopulated}
@@ -38,17 +38,12 @@ module _ (c : Setup) (units : AreUnits c) (m : PlainMap) (k : ℕ) (numbered : A
   abbrev added_map : PlainMap
   added_map = effect_as c m k (AddChunk chunk base at align missing)
 
-  only_new : (h : Chunk) (j : ℕ) → slice_get (new_chunk c chunk base ∷ []) j ≡ Some h → h ≡ new_chunk c chunk base
-  only_new h zero e = let same : new_chunk c chunk base ≡ h = cc in sym same
-  only_new h (suc j) e = cc
-
   old_or_new : (h : Chunk) → IsIn h grown_map.chunks → IsIn h m.chunks ⊎ (h ≡ new_chunk c chunk base)
-  old_or_new h there = elim (append_cases m.chunks (new_chunk c chunk base ∷ []) there.place h there.at) [ inl e ↦ inl (record { place = there.place; at = e }) | inr e ↦ inr (only_new h e.0 e.2) ]
+  old_or_new h there = grind (arith, append_cases, there, nat_tests)
 
   none_populated : (n page : ℕ) → slice_get (replicate n false) page ≡ Some true → ⊥
-  none_populated zero page e = cc
-  none_populated (suc n) zero e = cc
   none_populated (suc n) (suc page) e = none_populated n page e
+  none_populated _ _ e = cc
 
   new_fine : IsChunkFine c grown_map (λ number page. busy number page ⊎ ⊥) (new_chunk c chunk base)
   new_fine = record {
@@ -135,11 +130,7 @@ row_test test (suc n) first (suc i) b e = ap test (let f : first + suc i ≡ suc
 -- a page's bits are covered where the page is listed
 covers_page : (bit page : ℕ) (pages : List ℕ) → is_among pages page ≡ true → holds (span (1024 * page) 1024) bit ≡ true → covers (map (λ page. span (1024 * page) 1024) pages) bit ≡ true
 covers_page bit page [] h e = cc
-covers_page bit page (p ∷ pages) h e = by_test (p == page) refl h (λ g. covers_page bit page pages g e)
-  where
-    by_test : (t : Bool) → (p == page) ≡ t → (t || is_among pages page) ≡ true → (is_among pages page ≡ true → covers (map (λ page. span (1024 * page) 1024) pages) bit ≡ true) → covers (map (λ page. span (1024 * page) 1024) (p ∷ pages)) bit ≡ true
-    by_test true f g more = ap (λ n. holds (span (1024 * n) 1024) bit || covers (map (λ page. span (1024 * page) 1024) pages) bit) (to_same p page f) ∙ ap (λ b. b || covers (map (λ page. span (1024 * page) 1024) pages) bit) e
-    by_test false f g more = or_right (holds (span (1024 * p) 1024) bit) _ (more g)
+covers_page bit page (p ∷ pages) h e = grind (arith, covers_page bit page pages, to_same, or_right, nat_tests)
 
 -- a page is populated of which an atomic call may take a bit
 free_page : (c : Setup) (h : Chunk) (bit page : ℕ) → page < c.unit_pages → slice_get (atomic_bits c h) bit ≡ Some false → holds (span (1024 * page) 1024) bit ≡ true → slice_get h.populated page ≡ Some true

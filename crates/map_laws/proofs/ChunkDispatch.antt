@@ -3,12 +3,12 @@ use Rattle.std.proofs.Common.{Bool, false, refl, true, ℕ, ◌≡◌, List, [],
 use Rattle.vm_model.specs.Carried.{IsBeingPopulated, has_alloc}
 use Rattle.vm_model.specs.Events.{Section, AddChunk, AreaNotLive, Depopulate, Enough, Fill, Filled, MapPages, NextPage, NoAtomic, NoFrames, NoPlace, NoSpare, PlaceAtomic, PlaceObject, Populate, Remove, Settle, SettleObject, Spare, Unlink, Unmap, Unplace, Zero}
 use Rattle.vm_model.specs.LegalHistory.{Meets}
-use Rattle.vm_model.specs.Next.{Answer, Go, Next, next}
+use Rattle.vm_model.specs.Next.{Go, Next, next}
 use Rattle.vm_model.specs.Places.{AddingChunk, Ask, Choosing, ChoosingAtomic, Depopulating, Filling, NextFill, NotingFilled, Place, Populating, SettlingAtomic, SettlingGroups, SettlingObject, Sparing, UnlinkingGroups, Unplacing, Zeroing, MappingArea, MappingPart, PurgeUnlinking, Removing, UnlinkingBlock, UnmappingArea, UnmappingPart, ask, group_starts}
 use Rattle.vm_model.specs.PlainMap.{PlainMap, Block, Chunk}
 use Rattle.vm_model.specs.Setup.{Setup, pages_in_units}
-use Rattle.map_laws.proofs.PlaceRows.{PlaceRow, Stays, place_row}
-use Rattle.map_laws.proofs.AskRows.{AskRow, Refused, ask_row}
+use Rattle.map_laws.proofs.PlaceRows.{place_row}
+use Rattle.map_laws.proofs.AskRows.{ask_row}
 use Rattle.map_laws.proofs.ChunkFacts.{IsChunkAt, IsChunkFine, NumberStays, chunk_at_stays}
 use Rattle.map_laws.proofs.ChunkRows.{asks_chunky, is_chunky, AreNumbered, plain_rows, plain_stays, rows_kept}
 use Rattle.map_laws.proofs.Places.{OnNext, IsObjectSize, IsProper}
@@ -52,26 +52,13 @@ abbrev pub IsUnchunked : Place → Type 0
 IsUnchunked p = is_chunked p ≡ false
 
 pub unchunked_at : (c : Setup) (m : PlainMap) (p : Place) → IsUnchunked p → IsChunkAt c m p
-unchunked_at c m (AddingChunk base chunk bytes align) h = cc
-unchunked_at c m (Populating at missing) h = cc
-unchunked_at c m (SettlingObject at) h = cc
-unchunked_at c m (Unplacing at) h = cc
-unchunked_at c m (Zeroing at) h = cc
-unchunked_at c m (SettlingAtomic at) h = cc
-unchunked_at c m (Depopulating base populated) h = cc
-unchunked_at c m (UnlinkingGroups base) h = cc
-unchunked_at c m (Filling chunk base page filled) h = cc
-unchunked_at c m (NotingFilled chunk page filled) h = cc
-unchunked_at c m _ h = tt
+unchunked_at c m p h = grind arith
 
 pub unchunked_idle : (p : Place) → IsUnchunked p → (number page : ℕ) → IsBeingPopulated number page p → ⊥
-unchunked_idle (SettlingObject at) h number page b = cc
-unchunked_idle (NotingFilled chunk own filled) h number page b = cc
-unchunked_idle _ h number page b = b
+unchunked_idle p h number page b = grind arith
 
 pub unchunked_next : (c : Setup) (m : PlainMap) (n : Next) → OnNext IsUnchunked n → OnNext (IsChunkAt c m) n
-unchunked_next c m (Go p) h = unchunked_at c m p h
-unchunked_next c m (Answer r made) h = tt
+unchunked_next c m n h = grind (arith, unchunked_at)
 
 -- places from which a section can lead to one of these
 abbrev pub leads_chunked : Place → Bool
@@ -88,21 +75,11 @@ leads_chunked (Filling chunk base page filled) = true
 leads_chunked _ = false
 
 module _ (c : Setup) where
-  -- no other section leads there
-  unchunked_row : (s : Section) (p : Place) (n : Next) → PlaceRow c s p n → leads_chunked p ≡ false → OnNext IsUnchunked n
-  unchunked_row s _ _ Stays h = refl
-  unchunked_row s _ _ _ h = cc
-
   pub leads_unchunked : (p : Place) (s : Section) → leads_chunked p ≡ false → OnNext IsUnchunked (next c p s)
-  leads_unchunked p s h = unchunked_row s p (next c p s) (place_row c s p) h
-
-  -- a section that meets such an ask
-  plain_row : (a : Ask) (s : Section) → AskRow c a s → asks_chunky a ≡ false → is_chunky s ≡ false
-  plain_row _ _ Refused h = refl
-  plain_row _ _ _ h = cc
+  leads_unchunked p s h = grind (arith, place_row)
 
   pub given_plain : (a : Ask) (s : Section) → asks_chunky a ≡ false → Meets c a s → is_chunky s ≡ false
-  given_plain a s h w = plain_row a s (ask_row c a s w) h
+  given_plain a s h w = grind (arith, ask_row, asks_chunky, is_chunky)
 
 -- Each section at its place, as to chunks.
 

@@ -105,17 +105,11 @@ pub record IsUnitPage (c : Setup) (base : ℕ) (pages : List ℕ) (x : ℕ) : Ty
 
 shifted_among : (first x : ℕ) (pages : List ℕ) → is_among (map (λ page. first + page) pages) x ≡ true → (page : ℕ) × (is_among pages page ≡ true) × (x ≡ first + page)
 shifted_among first x [] h = cc
-shifted_among first x (page ∷ pages) h = elim (or_either (first + page == x) _ h) [
-  | inl e ↦ (page, ap (λ b. b || is_among pages page) (same_test page), sym (to_same (first + page) x e))
-  | inr e ↦ let is = shifted_among first x pages e in (is.0, or_right (page == is.0) _ is.1, is.2)
-]
+shifted_among first x (page ∷ pages) h = grind (arith, shifted_among first x pages, or_either, same_test, to_same, or_right, nat_tests)
 
 among_shifted : (first page : ℕ) (pages : List ℕ) → is_among pages page ≡ true → is_among (map (λ page. first + page) pages) (first + page) ≡ true
 among_shifted first page [] h = cc
-among_shifted first page (p ∷ pages) h = elim (or_either (p == page) _ h) [
-  | inl e ↦ ap (λ n. (first + n == first + page) || is_among (map (λ page. first + page) pages) (first + page)) (to_same p page e) ∙ ap (λ b. b || is_among (map (λ page. first + page) pages) (first + page)) (same_test (first + page))
-  | inr e ↦ or_right (first + p == first + page) _ (among_shifted first page pages e)
-]
+among_shifted first page (p ∷ pages) h = grind (arith, among_shifted first page pages, or_either, to_same, same_test, or_right, nat_tests)
 
 units_in : (base x : ℕ) (pages units : List ℕ) → is_among (flat_map (λ unit. map (λ page. base + unit + page) pages) units) x ≡ true
     → (cpu : ℕ) × (unit : ℕ) × (page : ℕ) × (slice_get units cpu ≡ Some unit) × (is_among pages page ≡ true) × (x ≡ base + unit + page)
@@ -133,8 +127,7 @@ in_units base page cpu unit pages [] e h = cc
 in_units base page zero unit pages (u ∷ units) e h = let same : u ≡ unit = cc in
     among_append (base + unit + page) (map (λ page. base + u + page) pages) _
     ∙ ap (λ b. b || is_among (flat_map (λ unit. map (λ page. base + unit + page) pages) units) (base + unit + page)) (ap (λ n. is_among (map (λ page. base + n + page) pages) (base + unit + page)) same ∙ among_shifted (base + unit) page pages h)
-in_units base page (suc cpu) unit pages (u ∷ units) e h =
-    among_append (base + unit + page) (map (λ page. base + u + page) pages) _ ∙ or_right (is_among (map (λ page. base + u + page) pages) (base + unit + page)) _ (in_units base page cpu unit pages units e h)
+in_units base page (suc cpu) unit pages (u ∷ units) e h = grind (arith, in_units base page cpu unit pages units e h, among_append, or_right, nat_tests)
 
 pub page_in_units : (c : Setup) (base page cpu unit : ℕ) (pages : List ℕ) → slice_get c.units cpu ≡ Some unit → is_among pages page ≡ true → is_among (pages_in_units c base pages) (base + unit + page) ≡ true
 page_in_units c base page cpu unit pages e h = in_units base page cpu unit pages c.units e h
@@ -150,8 +143,7 @@ group_in base page (g ∷ groups) h = elim (or_either (holds (span (base + g.sta
 
 group_covers : (base page group : ℕ) (g : Span) (groups : List Span) → slice_get groups group ≡ Some g → holds (span (base + g.start) g.pages) page ≡ true → covers (map (λ (g : Span). span (base + g.start) g.pages) groups) page ≡ true
 group_covers base page group g [] e h = cc
-group_covers base page zero g (x ∷ groups) e h = let same : x ≡ g = cc in ap (λ (y : Span). holds (span (base + y.start) y.pages) page || covers (map (λ (g : Span). span (base + g.start) g.pages) groups) page) same
-    ∙ ap (λ b. b || covers (map (λ (g : Span). span (base + g.start) g.pages) groups) page) h
+group_covers base page zero g (x ∷ groups) e h = grind (arith, nat_tests)
 group_covers base page (suc group) g (x ∷ groups) e h = or_right (holds (span (base + x.start) x.pages) page) _ (group_covers base page group g groups e h)
 
 -- the group whose span starts there
@@ -168,9 +160,7 @@ start_of c base start h = starts_in base start c.groups h
 
 pub starts_at : (base group : ℕ) (g : Span) (groups : List Span) → slice_get groups group ≡ Some g → is_among (map (λ (s : Span). s.start) (map (λ (g : Span). span (base + g.start) g.pages) groups)) (base + g.start) ≡ true
 starts_at base group g [] e = cc
-starts_at base zero g (x ∷ groups) e = let same : x ≡ g = cc in
-    ap (λ (y : Span). (base + y.start == base + g.start) || is_among (map (λ (s : Span). s.start) (map (λ (g : Span). span (base + g.start) g.pages) groups)) (base + g.start)) same
-    ∙ ap (λ b. b || is_among (map (λ (s : Span). s.start) (map (λ (g : Span). span (base + g.start) g.pages) groups)) (base + g.start)) (same_test (base + g.start))
+starts_at base zero g (x ∷ groups) e = grind (arith, same_test, nat_tests)
 starts_at base (suc group) g (x ∷ groups) e = or_right (base + x.start == base + g.start) _ (starts_at base group g groups e)
 
 -- a page of a live group
@@ -261,12 +251,6 @@ module _ (c : Setup) (units : AreUnits c) (m m' : PlainMap) (rows : AreSameRows 
     gone = λ h there e. (let was = rows.back h there in is.gone was.0 was.1 (sym was.2.number ∙ e));
   }
 
-  placed_stays : (at : ObjectAt) → IsPlacedAt m at → IsPlacedAt m' at
-  placed_stays at is = record {
-    old = let o = is.old in let e = rows.next in omega arith;
-    populated = λ h there e page f. (let was = rows.back h there in was.2.populated page ∙ is.populated was.0 was.1 (sym was.2.number ∙ e) page f);
-  }
-
   of_still : (number base page : ℕ) → IsChunkOf m number base → page < c.unit_pages → OnUnits c base page (IsStill m m')
   of_still number base page of low = units_still c units m m' of.chunk.number base (stays of.chunk.number) (subst (AreGroupsLive c m of.chunk.number) of.based (live_of of.chunk of.there)) page low
 
@@ -290,8 +274,8 @@ module _ (c : Setup) (units : AreUnits c) (m m' : PlainMap) (rows : AreSameRows 
     (of_stays m m' object.chunk object.base rows at.0).0,
     (λ page e. (let is = at.1 page e in (is.0, (λ cpu unit f. still_mapped m m' (object.base + unit + page) (of_still object.chunk object.base page at.0 is.0 cpu unit f) (is.1 cpu unit f))))),
   )
-  chunk_at_stays (Zeroing object) at = placed_stays object at
-  chunk_at_stays (SettlingAtomic object) at = placed_stays object at
+  chunk_at_stays (Zeroing object) at = grind (arith, nat_tests)
+  chunk_at_stays (SettlingAtomic object) at = grind (arith, nat_tests)
   chunk_at_stays (Depopulating base populated) at = (
     at.0,
     gone_stays at.0 base at.1,

@@ -1,9 +1,9 @@
 -- What chunks cost, that a new one has room, and their sizes.
-use Rattle.std.proofs.Common.{Bool, List, [], ap, arith, cond, false, filter, if◌then◌else◌, not, refl, replicate, slice_get, suc, sum_by, true, zero, ℕ, ◌&&◌, ◌*◌, ◌++◌, ◌+◌, ◌==◌, ◌∷◌, ◌≡◌, ◌≤◌, ◌/◌, ◌%◌, ◌<◌, nat_le, length, map, find, slice_index_or, Option, Some, None, is_some, option_map, option_and_then, sym, ◌∙◌, subst, inl, inr}
+use Rattle.std.proofs.Common.{Bool, List, [], ap, arith, cond, false, filter, if◌then◌else◌, not, refl, replicate, slice_get, suc, sum_by, true, zero, ℕ, ◌&&◌, ◌*◌, ◌++◌, ◌+◌, ◌==◌, ◌∷◌, ◌≡◌, ◌≤◌, ◌/◌, ◌%◌, ◌<◌, nat_le, length, map, find, slice_index_or, Option, Some, None, is_some, option_map, option_and_then, sym, ◌∙◌, subst}
 use Rattle.std.proofs.lemmas.List.Sums.{sum_by-append, sum_by-cons}
 use Rattle.vm_model.specs.Chunks.{ObjectAt, change_chunk, new_chunk, with_live_object, with_object, with_page, without_object, plain_fit, placement, placed_at, placed_in, slot, is_populated, unpopulated_pages, page_in, page_to_fill, empty_count}
 use Rattle.vm_model.specs.Effects.{effect_as}
-use Rattle.vm_model.specs.Events.{AddChunk, Filled, FreeObject, PlaceAtomic, PlaceObject, Section, SettleObject, Spare, Unplace}
+use Rattle.vm_model.specs.Events.{AddChunk, Section}
 use Rattle.vm_model.specs.PlainMap.{Chunk, Lives, PlainMap}
 use Rattle.vm_model.specs.Setup.{Setup, cpus, unit_bits}
 use Rattle.vm_model.specs.Space.{is_open, one_if, paint_from, count_from, covers, begins_free, fits, lowest, least_by}
@@ -103,19 +103,7 @@ module _ (c : Setup) (number page : ℕ) where
   lower_same chunks = record { less = omega arith; closes = omega arith }
 
   lower_trans : (one two : ℕ) (xs ys zs : List Chunk) → IsLower c number page one xs ys → IsLower c number page two ys zs → IsLower c number page (one + two) xs zs
-  lower_trans one two xs ys zs a b = record {
-    less = (let p = a.less in let q = b.less in omega arith);
-    closes = (let p = a.closes in let q = b.closes in omega arith);
-  }
-
-  opened : (a b : ℕ) (x : Bool) (w v : ℕ) → (a == number) ≡ x → (b == number) ≡ x → (o p : Bool) → one_if o + w ≤ one_if p + v → w ≤ v
-      → 3 * one_if ((a == number) && o) + (15 + cpus c + 3 * w) ≤ 3 * one_if ((b == number) && p) + (15 + cpus c + 3 * v)
-  opened a b true w v e f o p h less =
-      let left : one_if ((a == number) && o) ≡ one_if o = ap (λ t. one_if (t && o)) e in
-      let right : one_if ((b == number) && p) ≡ one_if p = ap (λ t. one_if (t && p)) f in omega arith
-  opened a b false w v e f o p h less =
-      let left : one_if ((a == number) && o) ≡ 0 = ap (λ t. one_if (t && o)) e in
-      let right : one_if ((b == number) && p) ≡ 0 = ap (λ t. one_if (t && p)) f in omega arith
+  lower_trans one two xs ys zs a b = grind (arith, nat_tests)
 
   lower_cons : (h h' : Chunk) (xs ys : List Chunk) → worth c h' ≤ worth c h → 3 * open_in number page h + worth c h' ≤ 3 * open_in number page h' + worth c h
       → IsLower c number page 0 xs ys → IsLower c number page 0 (h ∷ xs) (h' ∷ ys)
@@ -130,16 +118,9 @@ module _ (c : Setup) (number page : ℕ) where
     closes = (let p = more.closes in omega (arith, one_if_le ((h.number == number) && is_open (slice_get h.populated page)), sum_by-cons (worth c) h xs, sum_by-cons (open_in number page) h xs));
   }
 
-  lower_by : (change : Chunk → Chunk) → OnlyFills change → (b : Bool) (h : Chunk) (xs ys : List Chunk) → IsLower c number page 0 xs ys → IsLower c number page 0 (h ∷ xs) ((if b then change h else h) ∷ ys)
-  lower_by change fills true h xs ys more =
-      let less = fills.fewer h in
-      lower_cons h (change h) xs ys (omega arith)
-      (opened h.number (change h).number (h.number == number) _ _ refl (ap (λ n. n == number) (fills.number h)) _ _ (fills.closes h page) less) more
-  lower_by change fills false h xs ys more = lower_cons h h xs ys (omega arith) (omega arith) more
-
   pub lower_change : (own : ℕ) (change : Chunk → Chunk) → OnlyFills change → (chunks : List Chunk) → IsLower c number page 0 chunks (change_chunk own change chunks)
   lower_change own change fills [] = lower_same []
-  lower_change own change fills (h ∷ chunks) = lower_by change fills (h.number == own) h chunks _ (lower_change own change fills chunks)
+  lower_change own change fills (h ∷ chunks) = grind (arith, lower_change own change fills chunks, lower_cons, nat_tests)
 
   lower_if : (p : Chunk → Bool) (b : Bool) (h : Chunk) (xs ys : List Chunk) → IsLower c number page 0 xs ys → IsLower c number page 0 (h ∷ xs) (cond b (h ∷ ys) ys)
   lower_if p true h xs ys more = lower_cons h h xs ys (omega arith) (omega arith) more
@@ -160,18 +141,7 @@ module _ (c : Setup) (number page : ℕ) where
   }
 
   pub lower_section : (m : PlainMap) (k : ℕ) (s : Section) → IsLower c number page (added c s) m.chunks (effect_as c m k s).chunks
-  lower_section m k (AddChunk chunk base at align missing) =
-      let one = lower_new chunk base m.chunks in
-      let two = lower_change at.chunk (with_object k at) (object_fills k at) (m.chunks ++ new_chunk c chunk base ∷ []) in
-      record { less = (let p = one.less in let q = two.less in omega arith); closes = (let p = one.closes in let q = two.closes in omega arith) }
-  lower_section m k (PlaceObject at align missing) = lower_change at.chunk (with_object k at) (object_fills k at) m.chunks
-  lower_section m k (PlaceAtomic at align) = lower_change at.chunk (with_object k at) (object_fills k at) m.chunks
-  lower_section m k (SettleObject at serial) = lower_change at.chunk (with_live_object at (Lives serial)) (live_fills at serial) m.chunks
-  lower_section m k (Unplace at) = lower_change at.chunk (without_object at) (free_fills at) m.chunks
-  lower_section m k (FreeObject at serial) = lower_change at.chunk (without_object at) (free_fills at) m.chunks
-  lower_section m k (Spare chunk base populated) = lower_filter (λ (h : Chunk). not (h.number == chunk)) m.chunks
-  lower_section m k (Filled chunk own) = lower_change chunk (with_page own) (page_fills own) m.chunks
-  lower_section m k _ = lower_same m.chunks
+  lower_section m k s = grind (arith, lower_new, lower_change, object_fills, live_fills, free_fills, lower_filter, page_fills, lower_same, nat_tests)
 
 -- A new chunk has room for each object, and the page that a balance fills is unpopulated.
 
@@ -237,8 +207,7 @@ pub record IsFillable (chunks : List Chunk) (h : Chunk) (page : ℕ) : Type 0 wh
   pub unpopulated : slice_get h.populated page ≡ Some false
 
 page_is : (h : Chunk) (o : Option ℕ) (p : Chunk × ℕ) → option_map (λ page. (h, page)) o ≡ Some p → (h ≡ p.0) × (o ≡ Some p.1)
-page_is h None p e = cc
-page_is h (Some page) p e = (let f : (h, page) ≡ p = cc in (ap (λ q. q.0) f, ap (λ q. Some q.1) f))
+page_is h o p e = grind (arith, nat_tests)
 
 pub hole_is : (populated : List Bool) (page : ℕ) → page < length populated → not (slice_index_or populated page false) ≡ true → slice_get populated page ≡ Some false
 hole_is populated page h e =
@@ -284,45 +253,17 @@ pub record AreSized (c : Setup) (chunks : List Chunk) : Type 0 where
 
 -- what stands at a place of a mapped list is the image of what stood there
 pub mapped_at : {X Y : Type 0} (f : X → Y) (xs : List X) (i : ℕ) (y : Y) → slice_get (map f xs) i ≡ Some y → (x : X) × (slice_get xs i ≡ Some x) × (f x ≡ y)
-mapped_at f xs i y h = of_option (slice_get xs i) refl (sym (slice_get-map f xs i) ∙ h)
-  where
-    of_option : (o : Option _) → slice_get xs i ≡ o → option_map f o ≡ Some y → (x : _) × (slice_get xs i ≡ Some x) × (f x ≡ y)
-    of_option None e g = cc
-    of_option (Some x) e g = (x, e, cc)
+mapped_at f xs i y h = grind (arith, slice_get-map, nat_tests)
 
 module _ (c : Setup) where
-  sized_if : (change : Chunk → Chunk) → ((h : Chunk) → length (change h).populated ≡ length h.populated) → (b : Bool) (h : Chunk) → length (if b then change h else h).populated ≡ length h.populated
-  sized_if change same true h = same h
-  sized_if change same false h = refl
-
   sized_change : (own : ℕ) (change : Chunk → Chunk) (chunks : List Chunk) → ((h : Chunk) → length (change h).populated ≡ length h.populated) → AreSized c chunks → AreSized c (change_chunk own change chunks)
-  sized_change own change chunks same sized = record {
-    each = λ i h at. let was = mapped_at (λ (h : Chunk). if h.number == own then change h else h) chunks i h at in
-        ap (λ (x : Chunk). length x.populated) (sym was.2) ∙ sized_if change same (was.0.number == own) was.0 ∙ sized.each i was.0 was.1;
-  }
+  sized_change own change chunks same sized = grind (arith, mapped_at, nat_tests)
 
   sized_filter : (p : Chunk → Bool) (chunks : List Chunk) → AreSized c chunks → AreSized c (filter p chunks)
   sized_filter p chunks sized = record { each = λ i h at. let was = (filter_has p chunks i h at).there in sized.each was.place h was.at }
 
   sized_new : (chunk base : ℕ) (chunks : List Chunk) → AreSized c chunks → AreSized c (chunks ++ new_chunk c chunk base ∷ [])
-  sized_new chunk base chunks sized = record {
-    each = λ i h at. elim (append_cases chunks (new_chunk c chunk base ∷ []) i h at) [
-      | inl e ↦ sized.each i h e
-      | inr e ↦ new_at h e.0 e.2
-    ];
-  }
-    where
-      new_at : (h : Chunk) (j : ℕ) → slice_get (new_chunk c chunk base ∷ []) j ≡ Some h → length h.populated ≡ c.unit_pages
-      new_at h zero e = let is : new_chunk c chunk base ≡ h = cc in ap (λ (x : Chunk). length x.populated) (sym is) ∙ length-replicate c.unit_pages false
-      new_at h (suc j) e = cc
+  sized_new chunk base chunks sized = grind (arith, append_cases, length-replicate, nat_tests)
 
   pub sized_section : (m : PlainMap) (k : ℕ) (s : Section) → AreSized c m.chunks → AreSized c (effect_as c m k s).chunks
-  sized_section m k (AddChunk chunk base at align missing) sized = sized_change at.chunk (with_object k at) (m.chunks ++ new_chunk c chunk base ∷ []) (λ h. refl) (sized_new chunk base m.chunks sized)
-  sized_section m k (PlaceObject at align missing) sized = sized_change at.chunk (with_object k at) m.chunks (λ h. refl) sized
-  sized_section m k (PlaceAtomic at align) sized = sized_change at.chunk (with_object k at) m.chunks (λ h. refl) sized
-  sized_section m k (SettleObject at serial) sized = sized_change at.chunk (with_live_object at (Lives serial)) m.chunks (λ h. length-paint_from _ true h.populated 0) sized
-  sized_section m k (Unplace at) sized = sized_change at.chunk (without_object at) m.chunks (λ h. refl) sized
-  sized_section m k (FreeObject at serial) sized = sized_change at.chunk (without_object at) m.chunks (λ h. refl) sized
-  sized_section m k (Spare chunk base populated) sized = sized_filter (λ (h : Chunk). not (h.number == chunk)) m.chunks sized
-  sized_section m k (Filled chunk page) sized = sized_change chunk (with_page page) m.chunks (λ h. length-paint_from _ true h.populated 0) sized
-  sized_section m k _ sized = sized
+  sized_section m k s sized = grind (arith, sized_change, sized_new, length-paint_from, sized_filter, nat_tests)

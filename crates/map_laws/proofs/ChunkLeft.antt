@@ -68,10 +68,7 @@ module _ (c : Setup) (m : PlainMap) (k : ℕ) (once : (page : ℕ) → times pag
 
   -- areas are unlinked whose starts are in no area of the chunk
   pub unlinked_stays : (starts : List ℕ) (number : ℕ) → ((a : Area) (group : ℕ) → IsIn a m.areas → a.kind ≡ kind.Chunk number group → is_among starts a.span.start ≡ false) → NumberStays m (effect_as c m k (Unlink starts)) number
-  unlinked_stays starts number apart = record {
-    areas = λ a group there e. filter_in (λ (x : Area). not (is_among starts x.span.start)) m.areas a there.place there.at (ap not (apart a group there e));
-    still = λ page is e. record { frame = refl; clean = λ h. h };
-  }
+  unlinked_stays starts number apart = grind (arith, filter_in, nat_tests)
 
   module _ (full : (a : Area) → IsIn a m.areas → 1 ≤ a.span.pages) (some : 1 ≤ c.block_pages) where
     -- blocks that are out start at no chunk's area

@@ -9,12 +9,11 @@ use Rattle.vm_model.specs.Events.{Section}
 use Rattle.vm_model.specs.Frames.{free_frames, give_frames}
 use Rattle.vm_model.specs.Legal.{CanMap, IsMapped, IsUnmapped}
 use Rattle.vm_model.specs.Next.{Answer, Go, Next}
-use Rattle.vm_model.specs.Places.{AddingChunk, Depopulating, Filling, NotingFilled, Place, Populating, SettlingAtomic, SettlingObject, UnlinkingGroups, Zeroing}
+use Rattle.vm_model.specs.Places.{Place}
 use Rattle.vm_model.specs.PlainMap.{Chunk, PlainMap}
 use Rattle.vm_model.specs.Rules.{AreUnits}
 use Rattle.vm_model.specs.Setup.{Setup, pages_in_units}
 use Rattle.vm_model.specs.Space.{count_from, is_among, times}
-use Rattle.vm_model.specs.declared.areas.Area.{Area}
 use Rattle.map_laws.proofs.BlockFacts.{IsStill, same_test, still_unmapped}
 use Rattle.map_laws.proofs.BlockPlaces.{IsInChunk}
 use Rattle.map_laws.proofs.Chosen.{IsIn, or_right}
@@ -25,7 +24,6 @@ use Rattle.map_laws.proofs.OutMoves.{same_area}
 use Rattle.map_laws.proofs.PlaceMoves.{given_all, given_still}
 use Rattle.map_laws.proofs.Places.{OnNext}
 use Rattle.map_laws.proofs.Touched.{ungiven}
-use Rattle.vm_model.specs.declared.areas.AreaKind.TheVariants as kind
 
 -- the pages that the place behind a section is populating
 abbrev pub next_busy : Next → ℕ → ℕ → Type 0
@@ -53,23 +51,11 @@ pub record AreGrown (m m' : PlainMap) : Type 0 where
   pub back : (h : Chunk) → IsIn h m'.chunks → h.number < m.next_chunk → (was : Chunk) × IsIn was m.chunks × (was.number ≡ h.number) × ((page : ℕ) → slice_get was.populated page ≡ Some true → slice_get h.populated page ≡ Some true)
 
 pub placed_grown : (m m' : PlainMap) (at : ObjectAt) → AreGrown m m' → IsPlacedAt m at → IsPlacedAt m' at
-placed_grown m m' at grown is = record {
-  old = let o = is.old in let n = grown.next in omega arith;
-  populated = λ h there e page f. (let was = grown.back h there (let o = is.old in omega arith) in was.3 page (is.populated was.0 was.1 (was.2 ∙ e) page f));
-}
+placed_grown m m' at grown is = grind arith
 
 -- a caller without the alloc turn has at most an object that was placed at once
 pub later_places : (c : Setup) (m m' : PlainMap) → AreGrown m m' → (q : Place) → has_alloc q ≡ false → IsChunkAt c m q → IsChunkAt c m' q
-later_places c m m' grown (Zeroing at) h is = placed_grown m m' at grown is
-later_places c m m' grown (SettlingAtomic at) h is = placed_grown m m' at grown is
-later_places c m m' grown (AddingChunk base chunk bytes align) h is = cc
-later_places c m m' grown (Populating at missing) h is = cc
-later_places c m m' grown (SettlingObject at) h is = cc
-later_places c m m' grown (Depopulating base populated) h is = cc
-later_places c m m' grown (UnlinkingGroups base) h is = cc
-later_places c m m' grown (Filling chunk base page filled) h is = cc
-later_places c m m' grown (NotingFilled chunk page filled) h is = cc
-later_places c m m' grown _ h is = tt
+later_places c m m' grown q h is = grind (arith, placed_grown)
 
 pub rows_grown : (m m' : PlainMap) → AreSameRows m m' → AreGrown m m'
 rows_grown m m' rows = record {
@@ -79,10 +65,7 @@ rows_grown m m' rows = record {
 
 -- two pages in one: the areas are one, so the chunks' numbers are
 pub number_once : (m : PlainMap) (page : ℕ) → times page (spans_of m.areas) ≤ 1 → (a b : IsInChunk m page) → a.chunk ≡ b.chunk
-number_once m page once a b =
-    let i = same_area page m.areas a.there.place b.there.place a.area b.area once a.there.at b.there.at a.holds b.holds in
-    let one : a.area ≡ b.area = (let g = b.there.at in let f : slice_get m.areas b.there.place ≡ Some a.area = ap (slice_get m.areas) (sym i) ∙ a.there.at in cc) in
-    let kinds : kind.Chunk a.chunk a.group ≡ kind.Chunk b.chunk b.group = sym a.kind ∙ ap (λ (x : Area). x.kind) one ∙ b.kind in cc
+number_once m page once a b = grind (arith, same_area)
 
 module _ (c : Setup) (units : AreUnits c) (m : PlainMap) (k : ℕ) (numbered : AreNumbered m) (once : (page : ℕ) → times page (spans_of m.areas) ≤ 1) (busy : ℕ → ℕ → Type 0) (p : Place)
     (all : (h : Chunk) → IsIn h m.chunks → IsChunkFine c m (λ number page. busy number page ⊎ IsBeingPopulated number page p) h) where
@@ -115,9 +98,6 @@ module _ (c : Setup) (units : AreUnits c) (m : PlainMap) (k : ℕ) (numbered : A
     given_in x h = let u = unit_page c base x pages h in
         subst (λ y. (is : IsInChunk m y) × (is.chunk ≡ number)) (sym u.same) (group_page c m number base (base + u.unit + u.page) own_live (unit_covered c base u.page u.cpu u.unit units u.at (low u.page u.among)))
 
-    still_by : (x : ℕ) → is_among (pages_in_units c base pages) x ≡ false → IsStill m given_map x
-    still_by x h = record { frame = ap (λ l. slice_get l x) frames ∙ ungiven (pages_in_units c base pages) (free_frames c m.frames) m.frames x h; clean = λ f. ap (λ l. slice_get l x) stale ∙ f }
-
     pub given_mapped : (x : ℕ) → is_among (pages_in_units c base pages) x ≡ true → IsMapped given_map x
     given_mapped x h = let is = given_all (pages_in_units c base pages) (free_frames c m.frames) m.frames x None h legal.1 (legal.0 x h).unmapped in (is.0, ap (λ l. slice_get l x) frames ∙ is.1)
 
@@ -126,7 +106,7 @@ module _ (c : Setup) (units : AreUnits c) (m : PlainMap) (k : ℕ) (numbered : A
 
     among_by : (x : ℕ) (t : Bool) → is_among (pages_in_units c base pages) x ≡ t → (is_among (pages_in_units c base pages) x ≡ true → ⊥) → IsStill m given_map x
     among_by x true e never = absurd (never e)
-    among_by x false e never = still_by x e
+    among_by x false e never = grind (arith, ungiven)
 
     other_stays : (n : ℕ) → n ≢ number → NumberStays m given_map n
     other_stays n apart = record {

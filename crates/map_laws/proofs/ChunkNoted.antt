@@ -1,5 +1,5 @@
 -- Chunks whose pages are populated and noted, and whose objects are settled.
-use Rattle.std.proofs.Common.{◌≡◌, ◌≢◌, ℕ, ◌⊎◌, inl, inr, Bool, true, false, List, length, slice_get, Option, Some, None, refl, ap, sym, ◌∙◌, subst, arith, option_map, if◌then◌else◌, [], map, suc, zero, ◌+◌, ◌<◌, ◌∷◌, ◌≤◌, ◌==◌}
+use Rattle.std.proofs.Common.{◌≡◌, ◌≢◌, ℕ, ◌⊎◌, inl, inr, Bool, true, false, List, length, slice_get, Option, Some, refl, ap, sym, ◌∙◌, subst, arith, [], map, suc, zero, ◌+◌, ◌<◌, ◌∷◌, ◌≤◌, ◌==◌}
 use Rattle.map_laws.proofs.Chosen.{IsIn, in_among, first_or, put_new}
 use Rattle.map_laws.proofs.ChunkFacts.{IsChunkFine, IsChunkAt, IsChunkOf, AreGroupsLive, IsSameRow, NumberStays, OnUnits, chunk_stays, IsLacking, of_stays, page_in_units}
 use Rattle.map_laws.proofs.ChunkMoves.{IsChunkMoved, AreGrown, later_places, next_busy, given_chunks, given_mapped, mapped_still, quiet_chunks}
@@ -14,7 +14,7 @@ use Rattle.vm_model.specs.Places.{Place, Choosing, Filling, NotingFilled, Popula
 use Rattle.vm_model.specs.Events.{Section, Fill, PlaceObject, Populate, Filled, NextPage, Settle, SettleObject}
 use Rattle.vm_model.specs.Setup.{Setup, groups_at, pages_in_units, unit_bits}
 use Rattle.vm_model.specs.Chunks.{change_chunk, ObjectAt, bit_list, plain_fit, pages_of_object, with_live_object, with_page}
-use Rattle.vm_model.specs.Space.{count_from, covers, is_among, paint, times, put_by, span}
+use Rattle.vm_model.specs.Space.{count_from, covers, is_among, paint, times, span}
 use Rattle.vm_model.specs.Effects.{effect_as}
 use Rattle.vm_model.proofs.Paint.{length-paint_from, slice_get-paint}
 use Rattle.map_laws.proofs.Touched.{painted_still, unpainted, painted}
@@ -34,22 +34,10 @@ use Rattle.vm_model.specs.declared.areas.AreaKind.TheVariants as kind
 
 -- what painted says of a place
 pub painted_true : (test : ℕ → Bool) (xs : List Bool) (page : ℕ) → slice_get (paint test true xs) page ≡ Some true → (test page ≡ true) ⊎ (slice_get xs page ≡ Some true)
-painted_true test xs page h = by_test (test page) refl
-  where
-    by_test : (t : Bool) → test page ≡ t → (test page ≡ true) ⊎ (slice_get xs page ≡ Some true)
-    by_test true e = inl e
-    by_test false e = inr (sym (unpainted test true xs page e) ∙ h)
+painted_true test xs page h = grind (arith, unpainted)
 
 pub painted_false : (test : ℕ → Bool) (xs : List Bool) (page : ℕ) → slice_get (paint test true xs) page ≡ Some false → (test page ≡ false) × (slice_get xs page ≡ Some false)
-painted_false test xs page h = by_test (test page) refl
-  where
-    by_option : (o : Option Bool) → slice_get xs page ≡ o → test page ≡ true → ⊥
-    by_option None f e = let g = sym (slice_get-paint test true xs page) ∙ h in let n = ap (option_map (λ y. if test page then true else y)) f in cc
-    by_option (Some b) f e = let g = painted test true b xs page e f in cc
-
-    by_test : (t : Bool) → test page ≡ t → (test page ≡ false) × (slice_get xs page ≡ Some false)
-    by_test true e = absurd (by_option (slice_get xs page) refl e)
-    by_test false e = (e, sym (unpainted test true xs page e) ∙ h)
+painted_false test xs page h = grind (arith, slice_get-paint, painted, unpainted)
 
 module _ (c : Setup) (units : AreUnits c) (m : PlainMap) (k : ℕ) (numbered : AreNumbered m) (busy : ℕ → ℕ → Type 0) (none : (number page : ℕ) → busy number page → ⊥) (p : Place) (alloc : has_alloc p ≡ true)
     (all : (h : Chunk) → IsIn h m.chunks → IsChunkFine c m (λ number page. busy number page ⊎ IsBeingPopulated number page p) h)
@@ -102,12 +90,7 @@ module _ (c : Setup) (units : AreUnits c) (m : PlainMap) (k : ℕ) (numbered : A
   )
 
   both_changed : (h h' : Chunk) → IsSameRow h h' → IsSameRow (change h) (change h')
-  both_changed h h' row = record {
-    number = numbers h' ∙ row.number ∙ sym (numbers h);
-    base = bases h' ∙ row.base ∙ sym (bases h);
-    long = ap (λ (l : List Bool). length l) (paints h') ∙ length-paint_from test true h'.populated 0 ∙ row.long ∙ sym (length-paint_from test true h.populated 0) ∙ sym (ap (λ (l : List Bool). length l) (paints h));
-    populated = λ page. ap (λ l. slice_get l page) (paints h') ∙ slice_get-paint test true h'.populated page ∙ ap (option_map (λ y. if test page then true else y)) (row.populated page) ∙ sym (slice_get-paint test true h.populated page) ∙ sym (ap (λ l. slice_get l page) (paints h));
-  }
+  both_changed h h' row = grind (arith, length-paint_from, slice_get-paint)
 
   pub noted : (n : Next) → OnNext (IsChunkAt c noted_map) n → IsChunkMoved c m k busy p s n
   noted n own = record {
@@ -193,10 +176,7 @@ module _ (c : Setup) (units : AreUnits c) (m : PlainMap) (k : ℕ) (numbered : A
 
 pub with_new : (xs areas : List Area) (a : Area) → IsIn a xs → IsIn a (with_areas xs areas)
 with_new [] areas a there = (let no = there.at in cc)
-with_new (x ∷ xs) areas a there = elim (first_or a x xs there) [
-  | inl e ↦ with_keeps xs (put_by (λ (b : Area). b.span.start) x areas) a (subst (λ (y : Area). IsIn y (put_by (λ (b : Area). b.span.start) x areas)) (sym e) (put_new (λ (b : Area). b.span.start) x areas))
-  | inr more ↦ with_new xs (put_by (λ (b : Area). b.span.start) x areas) a more
-]
+with_new (x ∷ xs) areas a there = grind (arith, with_new xs, first_or, there, with_keeps, put_new)
 
 -- the area of a group among those of its chunk
 group_settled : (k first chunk group base : ℕ) (groups : List Span) (i : ℕ) (g : Span) → slice_get groups i ≡ Some g
@@ -207,8 +187,7 @@ group_settled k first chunk group base (x ∷ groups) zero g e = let same : x �
   where
     group_area : Span → ℕ → Option Area
     group_area y n = Some (record { span = span (base + y.start) y.pages; kind = kind.Chunk chunk n; caller = k; serial = first })
-group_settled k first chunk group base (x ∷ groups) (suc i) g e = let is = group_settled k (suc first) chunk (suc group) base groups i g e in
-    (is.0, is.1 ∙ ap (λ n. Some (record { span = span (base + g.start) g.pages; kind = kind.Chunk chunk n; caller = k; serial = is.0 })) (let f : suc group + i ≡ group + suc i = omega arith in f))
+group_settled k first chunk group base (x ∷ groups) (suc i) g e = grind (arith, group_settled k (suc first) chunk (suc group) base groups i g e)
 
 module _ (c : Setup) (units : AreUnits c) (m : PlainMap) (k : ℕ) (numbered : AreNumbered m) (once : (page : ℕ) → times page (spans_of m.areas) ≤ 1) (busy : ℕ → ℕ → Type 0) where
   module _ (base chunk bytes align : ℕ) (all : (h : Chunk) → IsIn h m.chunks → IsChunkFine c m (λ number page. busy number page ⊎ IsBeingPopulated number page (SettlingGroups base chunk bytes align)) h)

@@ -1,16 +1,15 @@
 -- The number that a caller's new chunk gets is the next one, up to its section.
-use Rattle.std.proofs.Common.{Bool, None, Option, Some, arith, false, inl, inr, refl, subst, sym, true, ℕ, ◌∙◌, ◌≡◌, ◌⊎◌}
+use Rattle.std.proofs.Common.{Bool, None, Option, Some, arith, false, inl, inr, subst, sym, true, ℕ, ◌≡◌, ◌⊎◌}
 use Rattle.vm_model.specs.Carried.{has_alloc, is_for_chunk, keeps_alloc}
 use Rattle.vm_model.specs.Effects.{effect_as}
-use Rattle.vm_model.specs.Events.{AddChunk, Section}
+use Rattle.vm_model.specs.Events.{Section}
 use Rattle.vm_model.specs.Legal.{IsLegalAs}
 use Rattle.vm_model.specs.LegalHistory.{Meets}
-use Rattle.vm_model.specs.Next.{Answer, Go, Next, next}
+use Rattle.vm_model.specs.Next.{Next, next}
 use Rattle.vm_model.specs.Places.{AddingChunk, Aim, Choosing, Finding, FindingAgain, ForArea, ForBlock, ForChunk, Place, PurgeCollecting, PurgeFlushing, PurgeFragmenting, PurgeGiving, PurgeReturning, PurgeTaking, PurgeUnlinking, PurgeWaiting, ReplyWith, SearchAgain, SettlingGroups, SpareAgain, Then, Waiting, ask}
 use Rattle.vm_model.specs.PlainMap.{PlainMap}
 use Rattle.vm_model.specs.Setup.{Setup}
-use Rattle.vm_model.specs.Told.{placed}
-use Rattle.map_laws.proofs.PlaceRows.{PlaceRow, Stays, NoSpaceForChunk, Chose, ChoseNone, AddedChunk, AddedNone, place_row}
+use Rattle.map_laws.proofs.PlaceRows.{PlaceRow, Stays, NoSpaceForChunk, place_row}
 use Rattle.map_laws.proofs.ChunkFalls.{added}
 use Rattle.map_laws.proofs.StepFalls.{adds_nothing, asks_chunk}
 use Rattle.map_laws.proofs.Places.{OnNext}
@@ -49,31 +48,14 @@ abbrev pub HasNumber : Option ℕ → Place → Type 0
 HasNumber o q = (number : ℕ) → chunk_number q ≡ Some number → o ≡ Some number
 
 aim_alloc : (aim : Aim) (number : ℕ) → number_aim aim ≡ Some number → is_for_chunk aim ≡ true
-aim_alloc (ForArea k) number e = cc
-aim_alloc (ForBlock cpu pages) number e = cc
-aim_alloc (ForChunk chunk bytes align) number e = refl
+aim_alloc aim number e = grind arith
 
 then_alloc : (after : Then) (number : ℕ) → number_then after ≡ Some number → keeps_alloc after ≡ true
-then_alloc (SearchAgain search aim) number e = aim_alloc aim number e
-then_alloc (ReplyWith reply) number e = cc
-then_alloc SpareAgain number e = cc
+then_alloc after number e = grind (arith, aim_alloc)
 
 -- such a place has the alloc turn
 pub number_alloc : (p : Place) (number : ℕ) → chunk_number p ≡ Some number → has_alloc p ≡ true
-number_alloc (Finding search aim) number e = aim_alloc aim number e
-number_alloc (FindingAgain search aim) number e = aim_alloc aim number e
-number_alloc (Waiting spans after) number e = then_alloc after number e
-number_alloc (PurgeTaking extra after) number e = then_alloc after number e
-number_alloc (PurgeFragmenting cpu gone extra after) number e = then_alloc after number e
-number_alloc (PurgeUnlinking gone extra after) number e = then_alloc after number e
-number_alloc (PurgeWaiting gone extra after) number e = then_alloc after number e
-number_alloc (PurgeCollecting extra after) number e = then_alloc after number e
-number_alloc (PurgeFlushing s waited after) number e = then_alloc after number e
-number_alloc (PurgeReturning waited after) number e = then_alloc after number e
-number_alloc (PurgeGiving after) number e = then_alloc after number e
-number_alloc (SettlingGroups base chunk bytes align) number e = refl
-number_alloc (AddingChunk base chunk bytes align) number e = refl
-number_alloc _ number e = cc
+number_alloc p number e = grind (arith, aim_alloc, then_alloc)
 
 module _ (c : Setup) where
   -- places that choose a chunk
@@ -86,11 +68,7 @@ module _ (c : Setup) where
   number_row : (s : Section) (p : Place) (n : Next) → PlaceRow c s p n → is_choosing p ≡ false → OnNext (HasNumber (chunk_number p)) n
   number_row s _ _ Stays h = λ number e. e
   number_row s _ _ (NoSpaceForChunk search chunk bytes align) h = λ number e. cc
-  number_row s _ _ (Chose bytes align at missing placed) h = cc
-  number_row s _ _ (ChoseNone bytes align) h = cc
-  number_row s _ _ (AddedChunk base chunk bytes align at missing placed) h = cc
-  number_row s _ _ (AddedNone base chunk bytes align placed) h = cc
-  number_row s _ _ _ h = search
+  number_row s _ _ _ h = grind arith
 
   pub number_next : (p : Place) (s : Section) → is_choosing p ≡ false → OnNext (HasNumber (chunk_number p)) (next c p s)
   number_next p s h = number_row s p (next c p s) (place_row c s p) h
@@ -98,24 +76,13 @@ module _ (c : Setup) where
   module _ (m : PlainMap) (k : ℕ) where
     -- no other section gives a chunk a number
     next_same : (s : Section) → added c s ≡ 0 → (effect_as c m k s).next_chunk ≡ m.next_chunk
-    next_same (AddChunk chunk base at align missing) e = absurd (omega arith)
-    next_same _ e = refl
+    next_same s e = grind arith
 
     pub same_or_alloc : (p : Place) (s : Section) → Meets c (ask c p) s → ((effect_as c m k s).next_chunk ≡ m.next_chunk) ⊎ (has_alloc p ≡ true)
-    same_or_alloc p s w = by_ask p s (asks_chunk (ask c p)) refl w
-      where
-        by_ask : (p : Place) (s : Section) (b : Bool) → asks_chunk (ask c p) ≡ b → Meets c (ask c p) s → ((effect_as c m k s).next_chunk ≡ m.next_chunk) ⊎ (has_alloc p ≡ true)
-        by_ask p s false e w = inl (next_same s (adds_nothing c (ask c p) s e w))
-        by_ask (AddingChunk base chunk bytes align) s true e w = inr refl
-        by_ask _ s true e w = cc
-
-    kept_number : (p : Place) (s : Section) (n : Next) → (effect_as c m k s).next_chunk ≡ m.next_chunk → IsNumberNext m p → OnNext (HasNumber (chunk_number p)) n → OnNext (IsNumberNext (effect_as c m k s)) n
-    kept_number p s (Go q) same is has = λ number e. is number (has number e) ∙ sym same
-    kept_number p s (Answer r made) same is has = tt
+    same_or_alloc p s w = grind (arith, asks_chunk, next_same, adds_nothing)
 
     pub number_after : (p : Place) (s : Section) → Meets c (ask c p) s → IsLegalAs c m k s → IsNumberNext m p → OnNext (IsNumberNext (effect_as c m k s)) (next c p s)
     number_after (Choosing bytes align) s (inl w) legal is = subst (λ (x : Section). OnNext (IsNumberNext (effect_as c m k x)) (next c (Choosing bytes align) x)) (sym w.3) (λ number e. cc)
-    number_after (Choosing bytes align) s (inr w) legal is = subst (λ (x : Section). OnNext (IsNumberNext (effect_as c m k x)) (next c (Choosing bytes align) x)) (sym w.1)
-        (λ number e. (let same : w.0 ≡ number = cc in sym same ∙ (subst (IsLegalAs c m k) w.1 legal).1))
+    number_after (Choosing bytes align) s (inr w) legal is = grind arith
     number_after (AddingChunk base chunk bytes align) s w legal is = subst (λ (x : Section). OnNext (IsNumberNext (effect_as c m k x)) (next c (AddingChunk base chunk bytes align) x)) (sym w.3) (λ number e. cc)
-    number_after p s w legal is = kept_number p s (next c p s) (next_same s (adds_nothing c (ask c p) s refl w)) is (number_next p s refl)
+    number_after p s w legal is = grind (arith, next_same, adds_nothing, number_next)

@@ -5,17 +5,16 @@ use Rattle.std.proofs.lemmas.Option.{slice_get-map, get_or_from_slice_get, slice
 use Rattle.map_laws.proofs.Chosen.{IsIn, among_in, filter_has, filter_in, in_among, least_in}
 use Rattle.map_laws.proofs.ChunkFalls.{mapped_at, hole_is}
 use Rattle.map_laws.proofs.ChunkFacts.{IsSameRow, AreSameRows, NumberStays, IsChunkOf, IsLacking}
-use Rattle.vm_model.specs.Events.{AddChunk, Depopulate, Fill, Filled, Flush, FreeObject, MapPages, PlaceAtomic, PlaceObject, Populate, Remove, Settle, SettleObject, Spare, Unlink, Unmap, Unplace, Section}
+use Rattle.vm_model.specs.Events.{AddChunk, Depopulate, Fill, Filled, FreeObject, MapPages, PlaceAtomic, PlaceObject, Populate, Remove, SettleObject, Spare, Unlink, Unmap, Unplace, Section}
 use Rattle.vm_model.specs.Places.{AskAddChunk, AskDepopulate, AskFill, AskFilled, AskMap, AskPopulate, AskRemove, AskSettleObject, AskSpare, AskUnlink, AskUnmap, Ask}
 use Rattle.vm_model.specs.PlainMap.{Chunk, PlainMap}
 use Rattle.vm_model.specs.Setup.{Setup, unit_bits}
-use Rattle.vm_model.specs.Chunks.{change_chunk, with_object, without_object, ObjectAt, chosen, is_populated, missing_pages, offset_fit, pages_of_object, placed_at, placed_in, placement, slot}
+use Rattle.vm_model.specs.Chunks.{change_chunk, with_object, without_object, ObjectAt, chosen, is_populated, missing_pages, offset_fit, pages_of_object, placed_at, placement, slot}
 use Rattle.vm_model.specs.Effects.{effect_as}
 use Rattle.map_laws.proofs.BlockPlaces.{with_keeps}
 use Rattle.map_laws.proofs.Lists.{same_or, there}
-use Rattle.vm_model.specs.Areas.{areas_of}
 use Rattle.map_laws.proofs.Touched.{painted_still, in_row}
-use Rattle.vm_model.specs.Space.{holds, begins_free, count_from, is_among, lowest}
+use Rattle.vm_model.specs.Space.{begins_free, count_from, is_among, lowest}
 use Rattle.vm_model.proofs.Elements.{slice_get-drop}
 use Rattle.map_laws.proofs.Fits.{lowest_fit}
 use Rattle.map_laws.proofs.PlaceMoves.{begins_free-at}
@@ -27,35 +26,16 @@ module _ {X : Type 0} (key : X → ℕ) (start : ℕ) (change : X → X) where
   abbrev change_if : X → X
   change_if x = if key x == start then change x else x
 
-  by_key : (x y : X) (t : Bool) → (key x == start) ≡ t → (if t then change x else x) ≡ y → ((key x ≡ start) × (y ≡ change x)) ⊎ ((key x ≢ start) × (y ≡ x))
-  by_key x y true e h = inl ((let f : key x ≡ start = grind (arith, nat_tests) in f), sym h)
-  by_key x y false e h = inr ((λ f. (let t : (key x == start) ≡ true = grind (arith, nat_tests) in cc)), sym h)
-
   -- an element of the changed list is the changed one, or another one as it was
   pub keyed_is : (xs : List X) (y : X) → IsIn y (map (λ x. if key x == start then change x else x) xs) → (was : X) × IsIn was xs × (((key was ≡ start) × (y ≡ change was)) ⊎ ((key was ≢ start) × (y ≡ was)))
-  keyed_is xs y there =
-      let was = mapped_at (λ x. if key x == start then change x else x) xs there.place y there.at in
-      (was.0, record { place = there.place; at = was.1 }, by_key was.0 y (key was.0 == start) refl was.2)
-
-  test_true : (x : X) → key x ≡ start → (key x == start) ≡ true
-  test_true x e = grind (arith, nat_tests)
-
-  test_false : (x : X) (t : Bool) → (key x == start) ≡ t → key x ≢ start → t ≡ false
-  test_false x true e n = absurd (n (let f : key x ≡ start = grind (arith, nat_tests) in f))
-  test_false x false e n = refl
+  keyed_is xs y there = grind (arith, mapped_at, there, nat_tests)
 
   -- and each element of the list is there, changed or not
   pub keyed_in : (xs : List X) (x : X) → IsIn x xs → key x ≡ start → IsIn (change x) (map (λ x. if key x == start then change x else x) xs)
-  keyed_in xs x there e = record {
-    place = there.place;
-    at = slice_get-map (λ x. if key x == start then change x else x) xs there.place ∙ ap (option_map (λ x. if key x == start then change x else x)) there.at ∙ ap (λ t. Some (if t then change x else x)) (test_true x e);
-  }
+  keyed_in xs x there e = grind (arith, there, slice_get-map, nat_tests)
 
   pub unkeyed_in : (xs : List X) (x : X) → IsIn x xs → key x ≢ start → IsIn x (map (λ x. if key x == start then change x else x) xs)
-  unkeyed_in xs x there n = record {
-    place = there.place;
-    at = slice_get-map (λ x. if key x == start then change x else x) xs there.place ∙ ap (option_map (λ x. if key x == start then change x else x)) there.at ∙ ap (λ t. Some (if t then change x else x)) (test_false x (key x == start) refl n);
-  }
+  unkeyed_in xs x there n = grind (arith, there, slice_get-map, nat_tests)
 
 -- Sections that change no chunk but for its objects, and leave the areas and pages of chunks.
 
@@ -100,11 +80,7 @@ rows_changed m m' number change e next row = record {
 }
 
 pub rows_kept : (m m' : PlainMap) → m'.chunks ≡ m.chunks → m'.next_chunk ≡ m.next_chunk → AreSameRows m m'
-rows_kept m m' e next = record {
-  back = λ h there. (h, subst (IsIn h) e there, same_row h);
-  forth = λ h there. (h, subst (IsIn h) (sym e) there, same_row h);
-  next = next;
-}
+rows_kept m m' e next = grind (arith, there, same_row, nat_tests)
 
 -- sections that may change a chunk's pages or areas, or which chunks there are
 abbrev pub is_chunky : Section → Bool
@@ -151,16 +127,7 @@ module _ (c : Setup) (m : PlainMap) (k : ℕ) where
   same_stays m' number areas frames clean = record { areas = λ a group there e. subst (IsIn a) (sym areas) there; still = λ page is e. record { frame = ap (λ l. slice_get l page) frames; clean = clean page } }
 
   pub plain_stays : (s : Section) (number : ℕ) → is_chunky s ≡ false → NumberStays m (effect_as c m k s) number
-  plain_stays (Settle areas first) number h = record { areas = λ a group there e. with_keeps (areas_of k first areas) m.areas a there; still = λ page is e. record { frame = refl; clean = λ f. f } }
-  plain_stays (Flush s) number h = same_stays (effect_as c m k (Flush s)) number refl refl (λ page f. painted_still (holds s) false m.stale page f)
-  plain_stays (MapPages s) number h = cc
-  plain_stays (Populate at missing) number h = cc
-  plain_stays (Fill base page) number h = cc
-  plain_stays (Unmap s) number h = cc
-  plain_stays (Depopulate base pages) number h = cc
-  plain_stays (Remove start serial area) number h = cc
-  plain_stays (Unlink starts) number h = cc
-  plain_stays s number h = same_stays (effect_as c m k s) number refl refl (λ page f. f)
+  plain_stays s number h = grind (arith, there, with_keeps, same_stays, painted_still, nat_tests)
 
 -- Where an object is placed: its chunk, its pages, and those of them that lack frames.
 
@@ -174,28 +141,10 @@ pub record IsPlacement (c : Setup) (fit : Chunk → Option ℕ) (bytes : ℕ) (c
   pub sized : at.bytes ≡ bytes
   pub lacks : missing ≡ missing_pages at chunk
 
-placed_by : (c : Setup) (fit : Chunk → Option ℕ) (bytes : ℕ) (chunks : List Chunk) (h : Chunk) (o : Option ℕ) (at : ObjectAt) (missing : List ℕ) → IsIn h chunks → fit h ≡ o → option_map (placed_in bytes h) o ≡ Some (at, missing)
-    → IsPlacement c fit bytes chunks at missing
-placed_by c fit bytes chunks h None at missing there e f = cc
-placed_by c fit bytes chunks h (Some off) at missing there e f =
-    let own : ObjectAt = record { chunk = h.number; base = h.base; off = off; bytes = bytes } in
-    let two : ObjectAt × List ℕ = (at, missing) in
-    let pair : placed_in bytes h off ≡ two = cc in
-    let same : own ≡ at = ap (λ p. p.0) pair in
-    subst (λ (x : ObjectAt). IsPlacement c fit bytes chunks x missing) same (record {
-      chunk = h;
-      there = there;
-      fits = e;
-      numbered = refl;
-      based = refl;
-      sized = refl;
-      lacks = sym (ap (λ p. p.1) pair);
-    })
-
 placement_by : (c : Setup) (fit : Chunk → Option ℕ) (bytes : ℕ) (chunks : List Chunk) (o : Option Chunk) (at : ObjectAt) (missing : List ℕ) → ((h : Chunk) → o ≡ Some h → IsIn h chunks)
     → option_and_then (placed_at fit bytes) o ≡ Some (at, missing) → IsPlacement c fit bytes chunks at missing
 placement_by c fit bytes chunks None at missing from e = cc
-placement_by c fit bytes chunks (Some h) at missing from e = placed_by c fit bytes chunks h (fit h) at missing (from h refl) refl e
+placement_by c fit bytes chunks (Some h) at missing from e = grind (arith, there, nat_tests)
 
 pub placement_is : (c : Setup) (fit : Chunk → Option ℕ) (bytes : ℕ) (chunks : List Chunk) (at : ObjectAt) (missing : List ℕ) → placement c fit bytes chunks ≡ Some (at, missing) → IsPlacement c fit bytes chunks at missing
 placement_is c fit bytes chunks at missing e = placement_by c fit bytes chunks (chosen c fit chunks) at missing
@@ -244,14 +193,11 @@ populated_at h page e = by_value (slice_get h.populated page) refl
 
 module _ (c : Setup) (fit : Chunk → Option ℕ) (bytes : ℕ) (chunks : List Chunk) (m : PlainMap) (at : ObjectAt) (missing : List ℕ) (is : IsPlacement c fit bytes chunks at missing) where
   missing_within : (page : ℕ) → is_among missing page ≡ true → is_among (pages_of_object at) page ≡ true
-  missing_within page h =
-      let place = among_in page (missing_pages at is.chunk) (ap (λ l. is_among l page) (sym is.lacks) ∙ h) in
-      in_among page (pages_of_object at) (filter_has (λ page. not (is_populated is.chunk page)) (pages_of_object at) place.place page place.at).there
+  missing_within page h = grind (arith, among_in, in_among, filter_has, there, nat_tests)
 
   either_by : (page : ℕ) → is_among (pages_of_object at) page ≡ true → (t : Bool) → is_populated is.chunk page ≡ t → (is_among missing page ≡ true) ⊎ (slice_get is.chunk.populated page ≡ Some true)
   either_by page h true e = inr (populated_at is.chunk page e)
-  either_by page h false e = let place = among_in page (pages_of_object at) h in
-      inl (ap (λ l. is_among l page) is.lacks ∙ in_among page (missing_pages at is.chunk) (filter_in (λ page. not (is_populated is.chunk page)) (pages_of_object at) page place.place place.at (ap not e)))
+  either_by page h false e = grind (arith, among_in, in_among, filter_in, nat_tests)
 
   -- the placed object in a map that has its chunk
   pub placed_lacking : length is.chunk.populated ≡ c.unit_pages → (of : IsChunkOf m at.chunk at.base) → IsSameRow is.chunk of.chunk → ((page : ℕ) → is_among (pages_of_object at) page ≡ true → page < c.unit_pages) → IsLacking c m at missing

@@ -1,22 +1,21 @@
 -- What is kept of chunks is kept by each legal section, and gives what areas and blocks need of chunks.
 -- What a place's chunk says to areas and blocks.
-use Rattle.std.proofs.Common.{Bool, List, Some, [], false, inl, inr, length, refl, slice_get, slice_set, subst, suc, sym, true, zero, ℕ, ◌+◌, ◌<◌, ◌∷◌, ◌≡◌, ◌≢◌, ◌≤◌, ◌⊎◌}
+use Rattle.std.proofs.Common.{List, Some, [], false, inl, inr, length, refl, slice_get, slice_set, subst, suc, sym, true, zero, ℕ, ◌+◌, ◌<◌, ◌∷◌, ◌≡◌, ◌≢◌, ◌≤◌, ◌⊎◌, arith}
 use Rattle.vm_model.specs.Areas.{spans_of}
 use Rattle.vm_model.specs.Calls.{Answered}
 use Rattle.vm_model.specs.Carried.{IsBeingPopulated, SomeoneIsPopulating, has_alloc}
 use Rattle.vm_model.specs.Effects.{effect_as}
-use Rattle.vm_model.specs.Events.{Event, ForGroups, ForPages, Search, Section}
+use Rattle.vm_model.specs.Events.{Event, Section}
 use Rattle.vm_model.specs.History.{Local, World, callers_from, moved_to, opening_answers, opening_world, started, with_callers}
 use Rattle.vm_model.specs.Legal.{OnPages}
 use Rattle.vm_model.specs.Next.{Answer, Go, Next, next}
-use Rattle.vm_model.specs.Places.{Depopulating, Filling, Finding, FindingAgain, NotingFilled, Place, Populating, SettlingObject, UnlinkingGroups}
+use Rattle.vm_model.specs.Places.{Depopulating, Filling, Finding, FindingAgain, Place, Populating, UnlinkingGroups}
 use Rattle.vm_model.specs.PlainMap.{Chunk, PlainMap}
 use Rattle.vm_model.specs.Rules.{AreGroups, AreUnits}
 use Rattle.vm_model.specs.Setup.{Setup, pages_in_units}
 use Rattle.vm_model.specs.Space.{is_among, times}
 use Rattle.vm_model.specs.declared.areas.Area.{Area}
 use Rattle.vm_model.specs.declared.calls.Call.{Call}
-use Rattle.map_laws.proofs.AreaMoves.{AreGroupsFree}
 use Rattle.map_laws.proofs.BlockDispatch.{IsChunkSided}
 use Rattle.map_laws.proofs.BlockPlaces.{IsInChunk}
 use Rattle.map_laws.proofs.BlockWorlds.{only_one}
@@ -34,10 +33,6 @@ use Rattle.map_laws.specs.Turns.{AreTurnsKept}
 
 module _ (c : Setup) (units : AreUnits c) (groups : AreGroups c) (m : PlainMap) (once : (page : ℕ) → times page (spans_of m.areas) ≤ 1) (full : (a : Area) → IsIn a m.areas → 1 ≤ a.span.pages) (some : 1 ≤ c.block_pages)
     (live_of : (h : Chunk) → IsIn h m.chunks → AreGroupsLive c m h.number h.base) where
-  searched : (search : Search) → AreGroupsFree c m search
-  searched (ForPages pages align) = tt
-  searched ForGroups = λ base e page. groups_free c m base page groups e
-
   in_units : (chunk base : ℕ) (pages : List ℕ) → AreGroupsLive c m chunk base → ((page : ℕ) → is_among pages page ≡ true → page < c.unit_pages) → OnPages (pages_in_units c base pages) (IsInChunk m)
   in_units chunk base pages live low x h = let u = unit_page c base x pages h in
       subst (IsInChunk m) (sym u.same) (group_page c m chunk base (base + u.unit + u.page) live (unit_covered c base u.page u.cpu u.unit units u.at (low u.page u.among))).0
@@ -46,8 +41,8 @@ module _ (c : Setup) (units : AreUnits c) (groups : AreGroups c) (m : PlainMap) 
   live_at number base of = subst (AreGroupsLive c m of.chunk.number) of.based (live_of of.chunk of.there)
 
   pub chunk_sided : (p : Place) → IsChunkAt c m p → IsChunkSided c m p
-  chunk_sided (Finding search aim) at = searched search
-  chunk_sided (FindingAgain search aim) at = searched search
+  chunk_sided (Finding search aim) at = grind (arith, groups_free)
+  chunk_sided (FindingAgain search aim) at = grind (arith, groups_free)
   chunk_sided (Populating object missing) at = in_units at.here.chunk.number object.base missing (live_at object.chunk object.base at.here) (λ page h. at.low page (at.within page h))
   chunk_sided (Filling chunk base page filled) at = in_units at.of.chunk.number base (page ∷ []) (live_at chunk base at.of) (λ own h. subst (λ i. i < c.unit_pages) (only_one page own h) at.low)
   chunk_sided (Depopulating base populated) at = in_units at.0 base populated at.1.live (λ page h. (at.2 page h).0)
@@ -62,20 +57,11 @@ pub record IsChunkWorld (c : Setup) (w : World) : Type 0 where
 
 -- a chunk is fine where more of its pages may be being populated
 busier : (c : Setup) (m : PlainMap) (busy busy' : ℕ → ℕ → Type 0) (h : Chunk) → ((page : ℕ) → busy h.number page → busy' h.number page) → IsChunkFine c m busy h → IsChunkFine c m busy' h
-busier c m busy busy' h more is = record {
-  live = is.live;
-  long = is.long;
-  clean = is.clean;
-  populated = is.populated;
-  outer = is.outer;
-  spare = λ page e. elim (is.spare page e) [ inl bare ↦ inl bare | inr b ↦ inr (more page b) ];
-}
+busier c m busy busy' h more is = grind arith
 
 -- who is populating has the alloc turn
 busy_alloc : (p : Place) (number page : ℕ) → IsBeingPopulated number page p → has_alloc p ≡ true
-busy_alloc (SettlingObject at) number page b = refl
-busy_alloc (NotingFilled chunk own filled) number page b = refl
-busy_alloc _ number page b = absurd b
+busy_alloc p number page b = grind arith
 
 pub unchunked_begins : (c : Setup) → HaveBeginnings IsUnchunked c
 unchunked_begins c _ AtOver = refl
@@ -88,11 +74,7 @@ OthersPopulate w k number page = SomeOther (IsBeingPopulated number page) w k
 module _ (w : World) (k : ℕ) (l : Local) (here : slice_get w.locals k ≡ Some l) (turns : AreTurnsKept w) where
   -- while a caller has the alloc turn, no other one has it
   pub alone : (j : ℕ) (x : Local) → slice_get w.locals j ≡ Some x → j ≢ k → has_alloc l.place ≡ true → has_alloc x.place ≡ false
-  alone j x there apart mine = by_test (has_alloc x.place) refl
-    where
-      by_test : (t : Bool) → has_alloc x.place ≡ t → has_alloc x.place ≡ false
-      by_test true e = absurd (apart (let one = turns.alloc.mine k l here mine in let two = turns.alloc.mine j x there e in let same : j ≡ k = cc in same))
-      by_test false e = e
+  alone j x there apart mine = grind (arith, there)
 
   pub none_populates : has_alloc l.place ≡ true → (number page : ℕ) → OthersPopulate w k number page → ⊥
   none_populates mine number page is = let no = alone is.0 is.1 is.2 is.3 mine in let yes = busy_alloc is.1.place number page is.4 in cc
@@ -109,8 +91,7 @@ module _ (c : Setup) (w : World) (l : Local) (s : Section) (kept : IsChunkWorld 
   after_world events = record { map = effect_as c w.map l.caller s; locals = slice_set w.locals l.caller after_local; events = events }
 
   moved_busy : (n : Next) (number page : ℕ) → next_busy n number page → IsBeingPopulated number page (moved_to l n).place
-  moved_busy (Go p) number page b = b
-  moved_busy (Answer r made) number page b = absurd b
+  moved_busy n number page b = grind arith
 
   moved_at : (n : Next) → OnNext (IsChunkAt c (effect_as c w.map l.caller s)) n → IsChunkAt c (effect_as c w.map l.caller s) (moved_to l n).place
   moved_at (Go p) h = h

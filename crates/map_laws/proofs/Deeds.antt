@@ -1,5 +1,5 @@
 -- What a section is for is known from the ask that it meets.
-use Rattle.std.proofs.Common.{◌≡◌, ◌≢◌, ℕ, inl, inr, List, [], ◌∷◌, Option, refl, ap, sym, ◌∙◌, subst, ℤ}
+use Rattle.std.proofs.Common.{◌≡◌, ◌≢◌, ℕ, List, [], ◌∷◌, Option, refl, sym, subst, ℤ, arith}
 use Rattle.vm_model.specs.declared.areas.Span.{Span}
 use Rattle.vm_model.specs.declared.areas.Area.{Area}
 use Rattle.vm_model.specs.declared.calls.Reply.{Reply}
@@ -7,7 +7,7 @@ use Rattle.vm_model.specs.Setup.{Setup}
 use Rattle.vm_model.specs.Chunks.{ObjectAt}
 use Rattle.vm_model.specs.Events.{Section, Drop, Return, Remove, Unlink, TakeWaiting, Populate, Zero, AddWord, SumWords, SettleObject}
 use Rattle.vm_model.specs.Places.{Place, Zeroing, Adding, Summing, SettlingObject, SettlingAtomic, Dropping, Removing, PurgeUnlinking, UnlinkingBlock, UnlinkingGroups, PurgeCollecting, PurgeReturning, Populating, Then, Ask, AskDrop, AskReturn, AskRemove, AskUnlink, AskTakeWaiting, AskPopulate, AskZero, AskAdd, AskSum, AskSettleObject, ask, group_starts}
-use Rattle.map_laws.proofs.AskRows.{AskRow, Refused, ask_row}
+use Rattle.map_laws.proofs.AskRows.{ask_row}
 use Rattle.vm_model.specs.LegalHistory.{Meets}
 
 -- the sections that mark pages free, take areas out, take what waits, give an object frames, or are of its words or life
@@ -50,29 +50,20 @@ deed (SumWords at serial index total) = Sums
 deed (SettleObject at serial) = Settles
 deed _ = Others
 
--- a section of such a kind was asked for
-deed_row : (c : Setup) (a : Ask) (s : Section) → AskRow c a s → deed s ≢ Others → asked a ≡ deed s
-deed_row c _ _ Refused n = absurd (n refl)
-deed_row c _ _ _ n = search
-
 was_asked : (c : Setup) (a : Ask) (s : Section) (d : Deed) → Meets c a s → deed s ≡ d → d ≢ Others → asked a ≡ d
-was_asked c a s d w h n = deed_row c a s (ask_row c a s w) (λ e. n (sym h ∙ e)) ∙ h
+was_asked c a s d w h n = grind (arith, ask_row)
 
 -- The places at which a caller does these.
 
 pub drops_at : (c : Setup) (p : Place) (s : Span) → Meets c (ask c p) (Drop s) → p ≡ Dropping s
-drops_at c (Dropping t) s w = let e : t ≡ s = cc in ap Dropping e
-drops_at c p s w = let e = was_asked c (ask c p) (Drop s) Drops w refl (λ e. cc) in cc
+drops_at c p s w = grind (arith, was_asked)
 
 -- a return, with what follows the purge
 pub returns_at : (c : Setup) (p : Place) (spans : List Span) → Meets c (ask c p) (Return spans) → (after : Then) × (p ≡ PurgeReturning spans after)
-returns_at c (PurgeReturning waited after) spans w = let e : waited ≡ spans = cc in (after, ap (λ x. PurgeReturning x after) e)
-returns_at c p spans w = let e = was_asked c (ask c p) (Return spans) Returns w refl (λ e. cc) in cc
+returns_at c p spans w = grind (arith, was_asked)
 
 pub removes_at : (c : Setup) (p : Place) (start serial : ℕ) (area : Area) → Meets c (ask c p) (Remove start serial area) → p ≡ Removing start serial
-removes_at c (Removing own serial') start serial area (inl w) = let same = w.1 in let e : own ≡ start = cc in let f : serial' ≡ serial = cc in cc
-removes_at c (Removing own serial') start serial area (inr w) = cc
-removes_at c p start serial area w = let e = was_asked c (ask c p) (Remove start serial area) Removes w refl (λ e. cc) in cc
+removes_at c p start serial area w = grind (arith, was_asked)
 
 -- the areas of blocks, and those of a chunk
 pub data UnlinksAt (c : Setup) (starts : List ℕ) : Place → Type 0 where
@@ -87,26 +78,19 @@ unlinks_at c (UnlinkingGroups base) starts w = let e : starts ≡ group_starts c
 unlinks_at c p starts w = let e = was_asked c (ask c p) (Unlink starts) Unlinks w refl (λ e. cc) in cc
 
 pub collects_at : (c : Setup) (p : Place) (all : List Span) → Meets c (ask c p) (TakeWaiting all) → (extra : Option Span) × (after : Then) × (p ≡ PurgeCollecting extra after)
-collects_at c (PurgeCollecting extra after) all w = (extra, after, refl)
-collects_at c p all w = let e = was_asked c (ask c p) (TakeWaiting all) Collects w refl (λ e. cc) in cc
+collects_at c p all w = grind (arith, was_asked)
 
 pub populates_at : (c : Setup) (p : Place) (at : ObjectAt) (missing : List ℕ) → Meets c (ask c p) (Populate at missing) → p ≡ Populating at missing
-populates_at c (Populating own lacks) at missing (inl w) = let e : own ≡ at = cc in let f : lacks ≡ missing = cc in cc
-populates_at c (Populating own lacks) at missing (inr w) = cc
-populates_at c p at missing w = let e = was_asked c (ask c p) (Populate at missing) Populates w refl (λ e. cc) in cc
+populates_at c p at missing w = grind (arith, was_asked)
 
 pub zeroes_at : (c : Setup) (p : Place) (at : ObjectAt) → Meets c (ask c p) (Zero at) → p ≡ Zeroing at
-zeroes_at c (Zeroing own) at w = let e : own ≡ at = cc in ap Zeroing e
-zeroes_at c p at w = let e = was_asked c (ask c p) (Zero at) Zeroes w refl (λ e. cc) in cc
+zeroes_at c p at w = grind (arith, was_asked)
 
 pub adds_at : (c : Setup) (p : Place) (at : ObjectAt) (serial cpu index : ℕ) (amount : ℤ) → Meets c (ask c p) (AddWord at serial cpu index amount) → p ≡ Adding at serial cpu index amount
-adds_at c (Adding own serial' cpu' index' amount') at serial cpu index amount w =
-    let a : own ≡ at = cc in let b : serial' ≡ serial = cc in let d : cpu' ≡ cpu = cc in let e : index' ≡ index = cc in let f : amount' ≡ amount = cc in cc
-adds_at c p at serial cpu index amount w = let e = was_asked c (ask c p) (AddWord at serial cpu index amount) Adds w refl (λ e. cc) in cc
+adds_at c p at serial cpu index amount w = grind (arith, was_asked)
 
 pub sums_at : (c : Setup) (p : Place) (at : ObjectAt) (serial index : ℕ) (total : ℤ) → Meets c (ask c p) (SumWords at serial index total) → p ≡ Summing at serial index
-sums_at c (Summing own serial' index') at serial index total w = let same = w.1 in let a : own ≡ at = cc in let b : serial' ≡ serial = cc in let d : index' ≡ index = cc in cc
-sums_at c p at serial index total w = let e = was_asked c (ask c p) (SumWords at serial index total) Sums w refl (λ e. cc) in cc
+sums_at c p at serial index total w = grind (arith, was_asked)
 
 -- an object becomes live at the end of its call
 pub data SettlesAt (at : ObjectAt) : Place → Type 0 where

@@ -70,8 +70,7 @@ count_from-at (suc n) first zero h = ap (λ j. Some j) (let e : first ≡ first 
 count_from-at (suc n) first (suc i) h = count_from-at n (suc first) i (omega arith) ∙ ap (λ j. Some j) (let e : suc first + i ≡ first + suc i = omega arith in e)
 
 moves_within : (w : World) (j : ℕ) (o : Option Local) → slice_get w.locals j ≡ o → moves_in w o ≡ true → j < length w.locals
-moves_within w j None e h = cc
-moves_within w j (Some l) e h = slice_get_within w.locals j l e
+moves_within w j o e h = grind (arith, slice_get_within)
 
 nobody_moves : (w : World) → first_mover w ≡ None → (j : ℕ) → moves_in w (slice_get w.locals j) ≡ true → ⊥
 nobody_moves w none j h =
@@ -81,8 +80,7 @@ nobody_moves w none j h =
     let no = none_passes (λ k. moves_in w (slice_get w.locals k)) (count_from (length w.locals) 0) none j j here in cc
 
 nothing_or : (a : Ask) → (a ≡ AskNothing) ⊎ (a ≢ AskNothing)
-nothing_or AskNothing = inl refl
-nothing_or _ = inr (λ e. cc)
+nothing_or a = grind arith
 
 all_over : (locals : List Local) → ((k : ℕ) (l : Local) → slice_get locals k ≡ Some l → ask l.setup l.place ≡ AskNothing) → AllOver locals
 all_over [] h = tt
@@ -132,9 +130,7 @@ module _ (c : Setup) (calls : List (List Call)) (units : 8 ≤ c.unit_pages) whe
   rest_none w (Some k) e is h = let less = (mover_falls w k is e).1 in absurd (omega arith)
 
   pub finish_more : (n more : ℕ) (w : World) → IsEnding c w → potential c w ≤ n → finish (n + more) w ≡ finish n w
-  finish_more zero more w is h =
-      let none = rest_none w (first_mover w) refl is h in
-      finish_stays (0 + more) w none ∙ sym (finish_zero w)
+  finish_more zero more w is h = grind (arith, rest_none, finish_stays, finish_zero)
   finish_more (suc n) more w is h = let e : suc n + more ≡ suc (n + more) = omega arith in
       ap (λ i. finish i w) e ∙ more_by n more w (first_mover w) refl is h (λ v good low. finish_more n more v good low)
 
@@ -166,10 +162,7 @@ most_times b zero h = omega arith
 most_times b (suc t) h = omega (arith, mul-suc b t, most_times b t h)
 
 weight_started : (c : Setup) (answers : List Answered) (k : ℕ) (own : List Call) (o : Option Call) → slice_get own 0 ≡ o → weight c (started c answers k own) ≤ per_call c * length own
-weight_started c answers k own None e =
-    let over : left c (begin c answers [] (slice_get own 0)) ≡ 0 = ap (λ o. left c (begin c answers [] o)) e in
-    let past = past_end own 0 e in
-    omega (arith, no_rest (per_call c) (length own - suc 0) (omega arith))
+weight_started c answers k own None e = grind (arith, left, past_end, no_rest, per_call)
 weight_started c answers k own (Some call) e =
     let within = slice_get_within own 0 call e in
     let begun : left c (begin c answers [] (slice_get own 0)) ≤ per_call c = begins_with (λ p. left c p ≤ per_call c) c (left_begins c) answers [] (slice_get own 0) in
@@ -208,9 +201,7 @@ within_first c opening calls = record {
 
 credit_joins : (c : Setup) (calls : List (List Call)) (w : World) → AreTurnsProper w → (t : Option ℕ) → w.map.alloc_turn ≡ t
     → credit_of w.map.chunks (with_callers c calls w).locals t ≡ credit_of w.map.chunks w.locals t
-credit_joins c calls w kept None e = refl
-credit_joins c calls w kept (Some j) e = let at = kept.turns.alloc.holder j e in
-    ap (credit_at w.map.chunks) (append_first w.locals (callers_from c (opening_answers w.locals) 1 calls) j at.0 at.1 ∙ sym at.1)
+credit_joins c calls w kept t e = grind (arith, credit_at, append_first)
 
 within_joins : (c : Setup) (calls : List (List Call)) (most : ℕ) (w : World) → length w.locals ≡ 1 → AllOver w.locals → IsWithin c most w → IsWithin c (most + sum_by length calls) (with_callers c calls w)
 within_joins c calls most w one over is = record {

@@ -1,8 +1,8 @@
 -- What the sections that take up a part again, or take out fragmented blocks, do to blocks and parts.
-use Rattle.std.proofs.Common.{◌≡◌, ℕ, zero, suc, ◌+◌, ◌≤◌, Bool, true, false, not, ◌&&◌, ◌==◌, nat_lt, List, [], ◌∷◌, ◌++◌, filter, slice_get, Option, refl, ap, sym, ◌∙◌, subst, arith}
+use Rattle.std.proofs.Common.{◌≡◌, ℕ, suc, ◌+◌, ◌≤◌, Bool, true, false, not, ◌&&◌, ◌==◌, nat_lt, List, [], ◌∷◌, ◌++◌, filter, slice_get, Option, refl, ap, sym, ◌∙◌, subst, arith}
 use Rattle.vm_model.specs.Space.{one_if, is_among}
 use Rattle.vm_model.specs.Setup.{Setup}
-use Rattle.vm_model.specs.PlainMap.{PlainMap, Block, Part, Life, InHand, Lives, Ended, is_live, lives_as}
+use Rattle.vm_model.specs.PlainMap.{PlainMap, Block, Part, Life, InHand, is_live, lives_as}
 use Rattle.vm_model.specs.Blocks.{PartAt, first_page, parts_size, free_of, dirty_of, is_fragmented, blocks_of, queue_of, is_named, named_in, fragmented, with_life}
 use Rattle.vm_model.specs.Legal.{IsLegalAs}
 use Rattle.vm_model.specs.Events.{BeginUnmap, Fragment}
@@ -21,16 +21,10 @@ use Rattle.map_laws.proofs.BlockChanges.{changed_starts, blocks_only, lived_bloc
 use Rattle.map_laws.proofs.BlockMoves.{next_out, IsBlockMoved}
 
 none_counted : (start : ℕ) (xs : List ℕ) → is_among xs start ≡ false → count_of start xs ≡ 0
-none_counted start xs e = zero_or (count_of start xs) refl
-  where
-    zero_or : (n : ℕ) → count_of start xs ≡ n → count_of start xs ≡ 0
-    zero_or zero f = f
-    zero_or (suc n) f = (let yes = count_among start xs (omega arith) in cc)
+none_counted start xs e = grind (arith, count_among)
 
 lives_live : (serial : ℕ) (life : Life) → lives_as serial life ≡ true → is_live life ≡ true
-lives_live serial (InHand k) h = cc
-lives_live serial (Lives own) h = refl
-lives_live serial Ended h = cc
+lives_live serial life h = grind arith
 
 module _ (c : Setup) (m : PlainMap) (k : ℕ) (all : (b : Block) → IsIn b m.blocks → IsBlockFine c m b) (once : (start : ℕ) → count_of start (block_starts m.blocks) ≤ 1) where
   -- A live part is taken up again.
@@ -166,11 +160,7 @@ module _ (c : Setup) (m : PlainMap) (k : ℕ) (all : (b : Block) → IsIn b m.bl
         by_side false e = gone_out start (count_among start g (let n = among_count start (gone ++ g) h in omega (arith, count_append start gone g, none_counted start gone e)))
 
     left_hand : (j : ℕ) (at : PartAt) (is : IsPartIn m j at) (t : Bool) → is_among g is.block.start ≡ t → not ((is.block.cpu == cpu) && is_among g is.block.start) ≡ true
-    left_hand j at is false e = ap (λ t. not ((is.block.cpu == cpu) && t)) e ∙ and_false (is.block.cpu == cpu)
-      where
-        and_false : (b : Bool) → not (b && false) ≡ true
-        and_false true = refl
-        and_false false = refl
+    left_hand j at is false e = grind arith
     left_hand j at is true e =
         let out = gone_block is.block.start e in
         let one : out.block ≡ is.block = same_block m.blocks is.block.start out.there.place is.there.place out.block is.block (once is.block.start) out.there.at is.there.at out.start_is refl in

@@ -6,11 +6,11 @@ use Rattle.vm_model.specs.Setup.{Setup}
 use Rattle.vm_model.specs.PlainMap.{PlainMap}
 use Rattle.vm_model.specs.Events.{Section, Event}
 use Rattle.vm_model.specs.Places.{Place, Over, ask}
-use Rattle.vm_model.specs.Next.{Next, Go, Answer, next}
+use Rattle.vm_model.specs.Next.{Next, next}
 use Rattle.vm_model.specs.Calls.{Answered, begin}
 use Rattle.vm_model.specs.Given.{given}
 use Rattle.vm_model.specs.History.{Local, World, started, answered, answered_of, moved_to, made_by, opening_world, opening_answers, callers_from, with_callers}
-use Rattle.vm_model.specs.LegalHistory.{IsNext, IsNextOf, IsRun, IsReached, AllOver, after_event, after_event_of, world_after, callers_world}
+use Rattle.vm_model.specs.LegalHistory.{IsNext, IsRun, IsReached, AllOver, after_event, world_after, callers_world}
 use Rattle.vm_model.proofs.OneNext.{one_next}
 use Rattle.map_laws.proofs.Lists.{set_cases, append_cases, append_first, same_or, set_other, set_same}
 
@@ -47,12 +47,10 @@ module _ (c : Setup) (k : ℕ) (l : Local) (own : IsOwn c k l) where
   }
 
   own_answered_of : (answer : Call → Answered) (o : Option Call) → slice_get l.calls (length l.answers) ≡ o → IsOwn c k (answered_of l o answer)
-  own_answered_of answer None h = own
-  own_answered_of answer (Some call) h = own_answered (answer call) _ refl
+  own_answered_of answer o h = grind (arith, own_answered)
 
   pub own_moved : l.place ≢ Over → (n : Next) → IsOwn c k (moved_to l n)
-  own_moved n (Go place) = record { setup = own.setup; caller = own.caller; call = inr (has_call n) }
-  own_moved n (Answer reply made) = own_answered_of _ _ refl
+  own_moved n n' = grind (arith, has_call, own_answered_of)
 
 pub framed_step : (c : Setup) (w : World) (k : ℕ) (l : Local) (s : Section) → IsFramed c w → IsStep w k l s → IsFramed c (made_by w l s)
 framed_step c w k l s framed step = record {
@@ -90,13 +88,8 @@ framed_callers c calls w one framed = record {
   ];
 }
 
--- an event that comes next is the section that the map gives
-after_option : (w : World) (e : Event) (o : Option Local) → slice_get w.locals e.caller ≡ o → IsNextOf w e o → (l : Local) × IsStep w e.caller l e.section × (after_event_of w e o ≡ made_by w l e.section)
-after_option w e None h next = absurd next
-after_option w e (Some l) h next = (l, record { here = h; gives = one_next l.setup w.map e.caller (ask l.setup l.place) e.section next.0 next.1 }, refl)
-
 pub event_steps : (w : World) (e : Event) → IsNext w e → (l : Local) × IsStep w e.caller l e.section × (after_event w e ≡ made_by w l e.section)
-event_steps w e next = after_option w e _ refl next
+event_steps w e next = grind (arith, one_next)
 
 -- what each section keeps
 abbrev pub IsKeptBySteps : (World → Type 0) → Type 0
@@ -104,9 +97,7 @@ IsKeptBySteps P = (w : World) (k : ℕ) (l : Local) (s : Section) → P w → Is
 
 pub run_keeps : (P : World → Type 0) → IsKeptBySteps P → (w : World) (es : List Event) → P w → IsRun w es → P (world_after w es)
 run_keeps P keeps w [] first run = first
-run_keeps P keeps w (e ∷ es) first run =
-    let step = event_steps w e run.0 in
-    run_keeps P keeps (after_event w e) es (subst P (sym step.2) (keeps w e.caller step.0 e.section first step.1)) run.1
+run_keeps P keeps w (e ∷ es) first run = grind (arith, run_keeps P keeps (after_event w e) es, event_steps)
 
 -- a fact of the opening's worlds, and one of the callers' worlds that it leads to
 pub reached_have : (P Q : World → Type 0) (c : Setup) (opening : List Call) (calls : List (List Call)) → P (opening_world c opening calls) → IsKeptBySteps P

@@ -20,19 +20,12 @@ count_first (n ∷ counts) = n
 
 longer_is : (counts : List ℕ) → one_longer counts ≡ suc (count_first counts) ∷ counts
 unfolding count_first
-longer_is [] = refl
-longer_is (n ∷ counts) = refl
+longer_is counts = grind (arith, nat_tests)
 
 begins_by : (n : ℕ) (taken : List Bool) → n ≤ count_first (free_from taken) → begins_free n taken ≡ true
 unfolding count_first
-begins_by zero taken h = refl
-begins_by (suc n) [] h = absurd (omega arith)
-begins_by (suc n) (true ∷ taken) h = absurd (omega arith)
 begins_by (suc n) (false ∷ taken) h = begins_by n taken (let e : count_first (one_longer (free_from taken)) ≡ suc (count_first (free_from taken)) = ap count_first (longer_is (free_from taken)) in omega arith)
-
-free_tail : (b : Bool) (taken : List Bool) (k : ℕ) → slice_index (free_from (b ∷ taken)) (suc k) ≡ slice_index (free_from taken) k
-free_tail true taken k = refl
-free_tail false taken k = ap (λ l. slice_index l (suc k)) (longer_is (free_from taken))
+begins_by _ _ h = grind arith
 
 -- the count at a place is that of what is left there
 count_at : (taken : List Bool) (k : ℕ) → slice_index (free_from taken) k ≡ count_first (free_from (drop k taken))
@@ -41,7 +34,7 @@ count_at [] zero = refl
 count_at [] (suc k) = refl
 count_at (true ∷ taken) zero = refl
 count_at (false ∷ taken) zero = ap (λ l. slice_index l 0) (longer_is (free_from taken)) ∙ sym (ap count_first (longer_is (free_from taken)))
-count_at (b ∷ taken) (suc k) = free_tail b taken k ∙ count_at taken k
+count_at (b ∷ taken) (suc k) = grind (arith, count_at taken k, longer_is, nat_tests)
 
 fit_begins : (taken : List Bool) (s : Span) → nat_le s.pages (slice_index (free_from taken) s.start) ≡ true → begins_free s.pages (drop s.start taken) ≡ true
 fit_begins taken s h = let low : s.pages ≤ slice_index (free_from taken) s.start = grind (arith, nat_tests) in begins_by s.pages (drop s.start taken) (omega (arith, count_at taken s.start))
@@ -91,19 +84,14 @@ shifted base page (g ∷ groups) low = omega (
 
 below_none : (base page : ℕ) (groups : List Span) → page < base → times page (map (λ (g : Span). span (base + g.start) g.pages) groups) ≡ 0
 below_none base page [] low = refl
-below_none base page (g ∷ groups) low = omega (arith, times-cons page (span (base + g.start) g.pages) (map (λ (g : Span). span (base + g.start) g.pages) groups), below_none base page groups low, none_here (holds (span (base + g.start) g.pages) page) refl)
-  where
-    none_here : (t : Bool) → holds (span (base + g.start) g.pages) page ≡ t → one_if (holds (span (base + g.start) g.pages) page) ≡ 0
-    none_here true e = absurd (let r = holds_to (span (base + g.start) g.pages) page e in omega arith)
-    none_here false e = ap one_if e
+below_none base page (g ∷ groups) low = grind (arith, below_none base page groups low, times-cons, holds_to, nat_tests)
 
 pub groups_once : (c : Setup) (base page : ℕ) → AreGroups c → (t : Bool) → nat_le base page ≡ t → times page (groups_at c base) ≤ 1
 groups_once c base page groups true e = let low : base ≤ page = grind (arith, nat_tests) in omega (arith, shifted base page c.groups low, apart_once c.groups (page - base) groups.apart)
 groups_once c base page groups false e = let high : page < base = grind (arith, nat_tests) in omega (arith, below_none base page c.groups high)
 
 free_or : (page : ℕ) (spans : List Span) (free n : ℕ) → times page spans ≡ n → times page spans ≤ 1 → (1 ≤ times page spans → 1 ≤ free) → times page spans ≤ free
-free_or page spans free zero e once h = omega arith
-free_or page spans free (suc n) e once h = let f = h (omega arith) in omega arith
+free_or page spans free n e once h = grind (arith, nat_tests)
 
 -- the groups that a search finds are free, each page in one of them
 pub groups_free : (c : Setup) (m : PlainMap) (base page : ℕ) → AreGroups c → highest c (taken m) ≡ Some base → times page (groups_at c base) ≤ as_free (slice_get m.marks page)

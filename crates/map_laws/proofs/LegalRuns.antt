@@ -1,14 +1,13 @@
 -- A history whose sections are all legal is one legal history.
-use Rattle.std.proofs.Common.{◌≡◌, ℕ, zero, suc, inl, inr, List, [], ◌∷◌, ◌++◌, length, slice_get, Option, Some, None, refl, ap, sym, ◌∙◌, subst, append_assoc, append-nil, length-set}
+use Rattle.std.proofs.Common.{◌≡◌, ℕ, zero, suc, inl, List, [], ◌∷◌, ◌++◌, length, slice_get, Option, Some, None, refl, ap, sym, ◌∙◌, subst, append_assoc, append-nil, length-set, arith}
 use Rattle.vm_model.specs.declared.calls.Call.{Call}
 use Rattle.vm_model.specs.Setup.{Setup}
 use Rattle.vm_model.specs.Events.{Section, Event}
-use Rattle.vm_model.specs.Legal.{IsLegalAs}
 use Rattle.vm_model.specs.Places.{ask}
 use Rattle.vm_model.specs.Given.{given}
 use Rattle.vm_model.specs.Next.{next}
 use Rattle.vm_model.specs.History.{moved_to, World, Local, made_by, made_if, step, step_of, pick_all, first_mover, finish, most_events, history_of, opening_world, with_callers}
-use Rattle.vm_model.specs.LegalHistory.{IsNextOf, IsRun, IsReached, IsLegalHistory, AllOver, after_event, after_event_of, world_after, callers_world}
+use Rattle.vm_model.specs.LegalHistory.{IsRun, IsReached, IsLegalHistory, AllOver, after_event, world_after, callers_world}
 use Rattle.vm_model.specs.Rules.{IsTrace}
 use Rattle.vm_model.specs.Laws.{IsOneLegalHistory}
 use Rattle.map_laws.proofs.Frames.{IsFramed, IsStep, framed_opening, framed_callers, framed_step}
@@ -30,28 +29,9 @@ pub after_append : (w : World) (xs ys : List Event) → world_after w (xs ++ ys)
 after_append w [] ys = refl
 after_append w (x ∷ xs) ys = after_append (after_event w x) xs ys
 
-run_none : (w : World) → IsRunTo w w
-run_none w = record { made = []; run = tt; ends = refl; events = sym (append-nil w.events) }
-
-run_then : (u v w : World) → IsRunTo u v → IsRunTo v w → IsRunTo u w
-run_then u v w a b = record {
-  made = a.made ++ b.made;
-  run = run_append u a.made b.made a.run (subst (λ x. IsRun x b.made) a.ends b.run);
-  ends = b.ends ∙ ap (λ x. world_after x b.made) a.ends ∙ sym (after_append u a.made b.made);
-  events = b.events ∙ ap (λ l. l ++ b.made) a.events ∙ append_assoc u.events a.made b.made;
-}
-
 -- the section of a legal step as a run
 run_one : (w : World) (k : ℕ) (l : Local) (s : Section) → l.caller ≡ k → IsLegalStep w k l s → IsRunTo w (made_by w l s)
-run_one w k l s own step =
-    let here : slice_get w.locals l.caller ≡ Some l = subst (λ i. slice_get w.locals i ≡ Some l) (sym own) step.step.here in
-    let legal : IsLegalAs l.setup w.map l.caller s = subst (λ i. IsLegalAs l.setup w.map i s) (sym own) step.legal in
-    record {
-      made = (record { caller = l.caller; section = s }) ∷ [];
-      run = (subst (IsNextOf w (record { caller = l.caller; section = s })) (sym here) (step.meets, legal), tt);
-      ends = sym (ap (after_event_of w (record { caller = l.caller; section = s })) here);
-      events = refl;
-    }
+run_one w k l s own step = grind arith
 
 -- a fact that makes each section legal that the map gives
 module _ (c : Setup) (calls : List (List Call)) (P : World → Type 0) (lasts : IsLegallyLasting c calls P)
@@ -64,10 +44,10 @@ module _ (c : Setup) (calls : List (List Call)) (P : World → Type 0) (lasts : 
     pub same : length v.locals ≡ length w.locals
 
   stays : (w : World) → IsFramed c w → P w → IsLed w w
-  stays w framed kept = record { runs = run_none w; framed = framed; kept = kept; same = refl }
+  stays w framed kept = grind (arith, append-nil)
 
   led_then : (u v w : World) → IsLed u v → IsLed v w → IsLed u w
-  led_then u v w a b = record { runs = run_then u v w a.runs b.runs; framed = b.framed; kept = b.kept; same = b.same ∙ a.same }
+  led_then u v w a b = grind (arith, run_append, after_append, append_assoc)
 
   made_led : (w : World) (k : ℕ) (l : Local) (s : Section) → IsFramed c w → P w → IsStep w k l s → IsLed w (made_by w l s)
   made_led w k l s framed kept step = let legal = legal_of w k l s framed kept step in record {
@@ -123,12 +103,7 @@ module _ (c : Setup) (calls : List (List Call)) (P : World → Type 0) (lasts : 
       over_first = subst (λ (v : World). AllOver v.locals) opened.runs.ends opened_over
 
       pub picked_reached : IsReached c opening calls (pick_all (with_callers c calls (finish most_events (opening_world c opening calls))) picks)
-      picked_reached = inr (
-        opened.runs.made,
-        picked.runs.made,
-        (opened.runs.run, over_first, subst (λ v. IsRun v picked.runs.made) same_start picked.runs.run),
-        picked.runs.ends ∙ ap (λ v. world_after v picked.runs.made) same_start,
-      )
+      picked_reached = grind (arith, opened, picked, over_first, same_start)
 
       whole : IsLed (with_callers c calls (finish most_events (opening_world c opening calls))) (finish most_events (pick_all (with_callers c calls (finish most_events (opening_world c opening calls))) picks))
       whole = led_then (with_callers c calls (finish most_events (opening_world c opening calls))) (pick_all (with_callers c calls (finish most_events (opening_world c opening calls))) picks) _ picked

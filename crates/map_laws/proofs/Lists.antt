@@ -22,11 +22,9 @@ set_cases (x ∷ xs) (suc k) zero y z h = inr ((λ e. omega arith), h)
 set_cases (x ∷ xs) (suc k) (suc j) y z h = elim (set_cases xs k j y z h) [ inl e ↦ inl (ap suc e.0, e.1) | inr e ↦ inr ((λ f. e.0 (omega arith)), e.1) ]
 
 pub set_other : {X : Type 0} (xs : List X) (k j : ℕ) (y : X) → j ≢ k → slice_get (slice_set xs k y) j ≡ slice_get xs j
-set_other [] k j y n = refl
 set_other (x ∷ xs) zero zero y n = absurd (n refl)
-set_other (x ∷ xs) zero (suc j) y n = refl
-set_other (x ∷ xs) (suc k) zero y n = refl
 set_other (x ∷ xs) (suc k) (suc j) y n = set_other xs k j y (λ e. n (ap suc e))
+set_other _ _ _ y n = refl
 
 -- what stands in a longer list stood in the first part, or stands in the second
 pub append_cases : {X : Type 0} (xs ys : List X) (k : ℕ) (z : X) → slice_get (xs ++ ys) k ≡ Some z → (slice_get xs k ≡ Some z) ⊎ ((j : ℕ) × (k ≡ length xs + j) × (slice_get ys j ≡ Some z))

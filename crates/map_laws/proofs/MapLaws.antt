@@ -38,12 +38,7 @@ free_clean c opening calls w trace reached =
 
 before_all : (ps : List Part) (off page : ℕ) → AreStacked off ps → page < off → times page (map (λ (p : Part). span p.offset (size_of p)) ps) ≡ 0
 before_all [] off page st low = refl
-before_all (p ∷ ps) off page st low =
-    omega (arith, times-cons page (span p.offset (size_of p)) (map (λ (p : Part). span p.offset (size_of p)) ps), before_all ps (off + size_of p) page st.2 (omega arith), none_by (holds (span p.offset (size_of p)) page) refl)
-  where
-    none_by : (t : Bool) → holds (span p.offset (size_of p)) page ≡ t → one_if (holds (span p.offset (size_of p)) page) ≡ 0
-    none_by true e = absurd (let r = holds_to (span p.offset (size_of p)) page e in let a = st.0 in omega arith)
-    none_by false e = ap one_if e
+before_all (p ∷ ps) off page st low = grind (arith, before_all ps (off + size_of p) page st.2 (omega arith), times-cons, holds_to)
 
 parts_once : (ps : List Part) (off page : ℕ) → AreStacked off ps → times page (map (λ (p : Part). span p.offset (size_of p)) ps) ≤ 1
 parts_once [] off page st = omega arith

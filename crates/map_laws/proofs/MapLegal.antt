@@ -4,17 +4,17 @@ use Rattle.std.proofs.lemmas.Bool.Decides.{nat_tests}
 use Rattle.std.proofs.lemmas.List.Sums.{sum_by-cons}
 use Rattle.std.proofs.lemmas.Option.{get_or_from_slice_get}
 use Rattle.vm_model.specs.Areas.{areas_at, is_area, mapped_part, named_areas, spans_of}
-use Rattle.vm_model.specs.Blocks.{PartAt, blocks_of, first_page, is_named, life_of_part, mapped_pages, named_in, named_parts, part_to_cut, parts_size, rounded, size_of}
+use Rattle.vm_model.specs.Blocks.{PartAt, blocks_of, first_page, is_named, life_of_part, mapped_pages, named_in, named_parts, parts_size, rounded, size_of}
 use Rattle.vm_model.specs.Carried.{count_of, has_alloc, has_purge}
-use Rattle.vm_model.specs.Chunks.{ObjectAt, atomic_bits, atomic_fit, is_live_object, is_populated, life_of_object, new_chunk, object_pages, page_to_fill, pages_of_object, placement, plain_fit, spare_chunk}
-use Rattle.vm_model.specs.Events.{Fill, ForGroups, ForPages, MapPages, NoFrames, Populate, Section, TakeAlloc, TakePurge}
+use Rattle.vm_model.specs.Chunks.{ObjectAt, atomic_bits, atomic_fit, is_populated, life_of_object, new_chunk, object_pages, pages_of_object, placement, plain_fit}
+use Rattle.vm_model.specs.Events.{ForGroups, ForPages, MapPages, NoFrames, Section, TakeAlloc, TakePurge}
 use Rattle.vm_model.specs.Frames.{free_frames}
-use Rattle.vm_model.specs.Given.{beginning, carving, carving_groups, cutting, filling, freeing, given, placing, placing_atomic, placing_new, removal, sparing}
-use Rattle.vm_model.specs.Legal.{AreStarts, CanFill, CanMap, HasGroups, IsBare, IsLegalAs, IsMapped, IsMarked, OnEach, OnPages}
+use Rattle.vm_model.specs.Given.{beginning, given, placing_atomic, placing_new, removal}
+use Rattle.vm_model.specs.Legal.{AreStarts, CanFill, HasGroups, IsBare, IsLegalAs, IsMapped, IsMarked, OnEach, OnPages}
 use Rattle.vm_model.specs.Places.{Adding, AddingBlock, AddingChunk, BeginningUnmap, Choosing, ChoosingAtomic, CuttingPart, Depopulating, Dropping, Filling, Finding, FindingAgain, FreeingObject, GivingAlloc, LookingAtDirty, MappingArea, MappingPart, NextFill, NotingFilled, Over, Place, Populating, PurgeCollecting, PurgeFlushing, PurgeFragmenting, PurgeGiving, PurgeReturning, PurgeTaking, PurgeUnlinking, PurgeWaiting, Refusing, Removing, Retiring, SettlingArea, SettlingAtomic, SettlingBlock, SettlingGroups, SettlingObject, SettlingPart, Sparing, Summing, TakingAlloc, TakingToBalance, UnlinkingBlock, UnlinkingGroups, UnmappingArea, UnmappingPart, Unplacing, Waiting, Zeroing, ask, block_spans, group_starts}
-use Rattle.vm_model.specs.PlainMap.{Block, Chunk, Held, InHand, Lives, Part, PlainMap, lives_as, taken}
-use Rattle.vm_model.specs.Setup.{Setup, groups_at, highest, pages_in_units}
-use Rattle.vm_model.specs.Space.{covers, holds, hull, is_among, lowest, one_if, span, times}
+use Rattle.vm_model.specs.PlainMap.{Block, Held, InHand, Lives, Part, PlainMap, lives_as}
+use Rattle.vm_model.specs.Setup.{Setup, groups_at, pages_in_units}
+use Rattle.vm_model.specs.Space.{covers, holds, hull, is_among, one_if, span, times}
 use Rattle.vm_model.specs.declared.areas.Area.{Area}
 use Rattle.vm_model.specs.declared.areas.Span.{Span}
 use Rattle.map_laws.proofs.AreaFacts.{IsHolding, mapped_covers}
@@ -74,9 +74,8 @@ module _ (c : Setup) (m : PlainMap) (k : ℕ) (once : (page : ℕ) → times pag
       )
 
   removal_by : (start serial : ℕ) (list : List Area) → named_areas start serial m.areas ≡ list → IsLegalAs c m k (removal start serial list)
-  removal_by start serial [] e = e
-  removal_by start serial (a ∷ []) e = e
   removal_by start serial (a ∷ b ∷ list) e = absurd (two_never (is_area start serial) start a b list e (λ x h. to_same x.span.start start (and_both (x.span.start == start) (x.serial == serial) h).0))
+  removal_by start serial _ e = e
 
   pub one_at : (start : ℕ) (area : Area) → IsIn area m.areas → area.span.start ≡ start → (list : List Area) → areas_at start m.areas ≡ list → areas_at start m.areas ≡ area ∷ []
   one_at start area there e [] f = absurd (let kept = filter_in (λ (a : Area). a.span.start == start) m.areas area there.place there.at (let t : (area.span.start == start) ≡ true = grind (arith, nat_tests) in t) in
@@ -130,12 +129,7 @@ module _ (c : Setup) (m : PlainMap) (k : ℕ) (once : (page : ℕ) → times pag
         outside : (u : Bool) → holds (span (b.start + (off + size_of p)) (parts_size ps)) page ≡ u → one_if (holds (span (b.start + (off + size_of p)) (parts_size ps)) page) ≡ 0
         outside true f = absurd (let r = holds_to (span (b.start + (off + size_of p)) (parts_size ps)) page f in let first = to_same (b.start + p.offset) page (and_both (b.start + p.offset == page) (lives_as serial p.life) e).0 in let size = rounded_some p.pages in omega arith)
         outside false f = ap one_if f
-    named_by b page serial off p ps false e at rest = wider (holds (span (b.start + (off + size_of p)) (parts_size ps)) page) refl
-      where
-        wider : (u : Bool) → holds (span (b.start + (off + size_of p)) (parts_size ps)) page ≡ u → length (filter (is_named page serial b) ps) ≤ one_if (holds (span (b.start + off) (size_of p + parts_size ps)) page)
-        wider true f = let r = holds_to (span (b.start + (off + size_of p)) (parts_size ps)) page f in
-            omega (arith, ap one_if f, ap one_if (holds_from (span (b.start + off) (size_of p + parts_size ps)) page (omega arith) (omega arith)))
-        wider false f = omega (arith, ap one_if f)
+    named_by b page serial off p ps false e at rest = grind (arith, holds_to, holds_from, nat_tests)
 
     named_few : (b : Block) (page serial off : ℕ) (ps : List Part) → AreStacked off ps → length (filter (is_named page serial b) ps) ≤ one_if (holds (span (b.start + off) (parts_size ps)) page)
     named_few b page serial off [] st = omega arith
@@ -180,17 +174,8 @@ module _ (c : Setup) (m : PlainMap) (k : ℕ) (once : (page : ℕ) → times pag
         subst (λ n. named_parts n (first_page at) serial m.blocks ≡ at ∷ []) (sym is.0) (subst (λ n. named_parts cpu n serial m.blocks ≡ at ∷ []) (sym is.1) e)
     legal_beginning cpu page serial (at ∷ other ∷ list) e = absurd (let few = few_named cpu page serial in omega (arith, ap length e))
 
-    legal_cutting : (cpu pages : ℕ) (o : Option PartAt) → part_to_cut c cpu pages m.blocks ≡ o → IsLegalAs c m k (cutting cpu pages o)
-    legal_cutting cpu pages None e = e
-    legal_cutting cpu pages (Some at) e = let is = cut_of c cpu pages m.blocks at e in
-        subst (λ n. part_to_cut c n at.pages m.blocks ≡ Some at) (sym is.0) (subst (λ n. part_to_cut c cpu n m.blocks ≡ Some at) (sym is.1) e)
-
     told_legal : (s t : Section) → Some t ≡ Some s → IsLegalAs c m k t → IsLegalAs c m k s
     told_legal s t e h = let same : t ≡ s = cc in subst (IsLegalAs c m k) same h
-
-    carving_legal : (pages align : ℕ) (o : Option ℕ) → lowest (taken m) pages align ≡ o → IsLegalAs c m k (carving pages align o)
-    carving_legal pages align None e = e
-    carving_legal pages align (Some start) e = e
 
     frames_legal : (p : Span) (b : Bool) → nat_lt (length (free_frames c m.frames)) p.pages ≡ b → OnEach (p ∷ []) (IsBare m) → IsLegalAs c m k (if b then NoFrames p.pages else MapPages p)
     frames_legal p true e bare = grind (arith, nat_tests)
@@ -203,24 +188,10 @@ module _ (c : Setup) (m : PlainMap) (k : ℕ) (once : (page : ℕ) → times pag
     low_size at hand = let z = (part_within c m hand.block hand.part (all hand.block hand.there) hand.part_there).1 in let r = row_of m k at hand in omega (arith, r.1, r.2)
 
     module _ (wide : 8 ≤ c.unit_pages) where
-      groups_legal : (o : Option ℕ) → highest c (taken m) ≡ o → IsLegalAs c m k (carving_groups o)
-      groups_legal None e = e
-      groups_legal (Some base) e = e
-
-      filled_legal : (pages : List ℕ) (fills : Section) (b : Bool) → nat_lt (length (free_frames c m.frames)) (length pages) ≡ b → OnPages pages (IsBare m) → (CanMap c m pages → IsLegalAs c m k fills) → IsLegalAs c m k (if b then NoFrames (length pages) else fills)
-      filled_legal pages fills true e bare can = grind (arith, nat_tests)
-      filled_legal pages fills false e bare can = can (bare, (let enough : length pages ≤ length (free_frames c m.frames) = grind (arith, nat_tests) in enough))
-
-      placing_legal : (bytes align : ℕ) (o : Option (ObjectAt × List ℕ)) → placement c (plain_fit c bytes align) bytes m.chunks ≡ o → IsLegalAs c m k (placing bytes align m.next_chunk o)
-      placing_legal bytes align None e = (e, refl)
-      placing_legal bytes align (Some p) e = let is = placement_is c (plain_fit c bytes align) bytes m.chunks p.0 p.1 e in
-          subst (λ n. placement c (plain_fit c n align) n m.chunks ≡ Some p) (sym is.sized) e
-
       new_legal : (base chunk bytes align : ℕ) → HasGroups c m chunk base → chunk ≡ m.next_chunk → IsObjectSize bytes → (o : Option (ObjectAt × List ℕ)) → placement c (plain_fit c bytes align) bytes (m.chunks ++ new_chunk c chunk base ∷ []) ≡ o
           → IsLegalAs c m k (placing_new chunk base bytes align o)
       new_legal base chunk bytes align groups number size None e = (let room = new_chunk_has_room c chunk base bytes align m.chunks wide size.0 in let no = room.1 in cc)
-      new_legal base chunk bytes align groups number size (Some p) e = let is = placement_is c (plain_fit c bytes align) bytes (m.chunks ++ new_chunk c chunk base ∷ []) p.0 p.1 e in
-          (groups, number, subst (λ n. placement c (plain_fit c n align) n (m.chunks ++ new_chunk c chunk base ∷ []) ≡ Some p) (sym is.sized) e)
+      new_legal base chunk bytes align groups number size (Some p) e = grind (arith, placement_is, nat_tests)
 
       none_kept : (pages : List ℕ) (test : ℕ → Bool) → ((page : ℕ) → IsIn page pages → test page ≡ false) → filter test pages ≡ []
       none_kept [] test none = refl
@@ -236,23 +207,11 @@ module _ (c : Setup) (m : PlainMap) (k : ℕ) (once : (page : ℕ) → times pag
           ap not (get_or_from_slice_get is.chunk.populated page true false (atomic_pages c is.chunk p.0 sized (fitting p.0.bytes align p.0.off (atomic_bits c is.chunk) fits) page (in_among page (pages_of_object p.0) there)))) in
           subst (λ n. placement c (atomic_fit c n align) n m.chunks ≡ Some (p.0, [])) (sym is.sized) (subst (λ missing. placement c (atomic_fit c bytes align) bytes m.chunks ≡ Some (p.0, missing)) none e)
 
-      freeing_legal : (at : ObjectAt) (serial : ℕ) (b : Bool) → is_live_object at serial m.chunks ≡ b → IsLegalAs c m k (freeing at serial b)
-      freeing_legal at serial true e = e
-      freeing_legal at serial false e = e
-
-      sparing_legal : (o : Option Chunk) → spare_chunk m.chunks ≡ o → IsLegalAs c m k (sparing c o)
-      sparing_legal None e = e
-      sparing_legal (Some h) e = (h, e, refl, refl, refl)
-
-      filling_legal : (o : Option (Chunk × ℕ)) → page_to_fill c m.chunks ≡ o → IsLegalAs c m k (filling o)
-      filling_legal None e = e
-      filling_legal (Some p) e = (p.0, e, refl, refl)
-
       pub legal_section : (p : Place) (s : Section) → IsReady c m k p → IsProper c p → IsHolding c m k p → IsBlockAt c m k p → ((start : ℕ) → count_of start (block_out p) ≤ 1) → (has_purge p ≡ true → m.purge_turn ≡ Some k) → (has_alloc p ≡ true → m.alloc_turn ≡ Some k) → given c m (ask c p) ≡ Some s → IsLegalAs c m k s
       legal_section Over s is proper own at few turn alloc e = cc
       legal_section (Refusing r) s is proper own at few turn alloc e = told_legal s _ e tt
-      legal_section (Finding (ForPages pages align) aim) s is proper own at few turn alloc e = told_legal s _ e (carving_legal pages align (lowest (taken m) pages align) refl)
-      legal_section (FindingAgain (ForPages pages align) aim) s is proper own at few turn alloc e = told_legal s _ e (carving_legal pages align (lowest (taken m) pages align) refl)
+      legal_section (Finding (ForPages pages align) aim) s is proper own at few turn alloc e = grind (arith, nat_tests)
+      legal_section (FindingAgain (ForPages pages align) aim) s is proper own at few turn alloc e = grind (arith, nat_tests)
       legal_section (MappingArea place kd) s is proper own at few turn alloc e = told_legal s _ e (frames_legal (mapped_part kd place) _ refl (λ page h. own.bare page (mapped_covers kd place page h)))
       legal_section (Dropping place) s is proper own at few turn alloc e = told_legal s _ e (own.held, own.bare)
       legal_section (SettlingArea place kd) s is proper own at few turn alloc e = told_legal s _ e (own.held, refl)
@@ -267,7 +226,7 @@ module _ (c : Setup) (m : PlainMap) (k : ℕ) (once : (page : ℕ) → times pag
       legal_section (PurgeFlushing hull waited after) s is proper own at few turn alloc e = told_legal s _ e tt
       legal_section (PurgeReturning waited after) s is proper own at few turn alloc e = told_legal s _ e (own.flushed, own.bare)
       legal_section (PurgeGiving after) s is proper own at few turn alloc e = told_legal s _ e (turn refl)
-      legal_section (CuttingPart cpu pages) s is proper own at few turn alloc e = told_legal s _ e (legal_cutting cpu pages (part_to_cut c cpu pages m.blocks) refl)
+      legal_section (CuttingPart cpu pages) s is proper own at few turn alloc e = grind (arith, cut_of, nat_tests)
       legal_section (SettlingBlock place cpu pages) s is proper own at few turn alloc e = told_legal s _ e (own.held, refl)
       legal_section (AddingBlock part) s is proper own at few turn alloc e = told_legal s _ e
           ((at.0.area, block_at part.block at.0, ap (λ (v : Span). v.pages) at.0.span, at.0.kind ∙ ap (λ n. kind.Block n) at.1), proper.0)
@@ -279,26 +238,26 @@ module _ (c : Setup) (m : PlainMap) (k : ℕ) (once : (page : ℕ) → times pag
       legal_section (Retiring part r) s is proper own at few turn alloc e = told_legal s _ e (held_life part at.0, refl)
       legal_section (UnlinkingBlock start r) s is proper own at few turn alloc e = told_legal s _ e (legal_starts (start ∷ []) (λ n h. subst (IsOut c m) (only_one start n h) at) few)
       legal_section (LookingAtDirty cpu ranges) s is proper own at few turn alloc e = told_legal s _ e refl
-      legal_section (Finding ForGroups aim) s is proper own at few turn alloc e = told_legal s _ e (groups_legal (highest c (taken m)) refl)
-      legal_section (FindingAgain ForGroups aim) s is proper own at few turn alloc e = told_legal s _ e (groups_legal (highest c (taken m)) refl)
+      legal_section (Finding ForGroups aim) s is proper own at few turn alloc e = grind (arith, nat_tests)
+      legal_section (FindingAgain ForGroups aim) s is proper own at few turn alloc e = grind (arith, nat_tests)
       legal_section (TakingAlloc bytes align) s is proper own at few turn alloc e = let v = taking_is m.alloc_turn TakeAlloc s e in subst (IsLegalAs c m k) (sym v.1) v.0
       legal_section TakingToBalance s is proper own at few turn alloc e = let v = taking_is m.alloc_turn TakeAlloc s e in subst (IsLegalAs c m k) (sym v.1) v.0
       legal_section (GivingAlloc r made) s is proper own at few turn alloc e = told_legal s _ e (alloc refl)
-      legal_section (Choosing bytes align) s is proper own at few turn alloc e = told_legal s _ e (placing_legal bytes align (placement c (plain_fit c bytes align) bytes m.chunks) refl)
+      legal_section (Choosing bytes align) s is proper own at few turn alloc e = grind (arith, placement_is, nat_tests)
       legal_section (SettlingGroups base chunk bytes align) s is proper own at few turn alloc e = told_legal s _ e (subst (λ spans. OnEach spans (IsMarked m (Held k))) (sym (group_spans chunk 0 (groups_at c base))) own.held, refl)
       legal_section (AddingChunk base chunk bytes align) s is proper own at few turn alloc e = told_legal s _ e (new_legal base chunk bytes align is.0 is.1 proper (placement c (plain_fit c bytes align) bytes (m.chunks ++ new_chunk c chunk base ∷ [])) refl)
-      legal_section (Populating object missing) s is proper own at few turn alloc e = told_legal s _ e (filled_legal (pages_in_units c object.base missing) (Populate object missing) _ refl is (λ can. can))
+      legal_section (Populating object missing) s is proper own at few turn alloc e = grind (arith, nat_tests)
       legal_section (SettlingObject object) s is proper own at few turn alloc e = told_legal s _ e (is, refl)
       legal_section (Unplacing object) s is proper own at few turn alloc e = told_legal s _ e is
       legal_section (ChoosingAtomic bytes align) s is proper own at few turn alloc e = told_legal s _ e (atomic_legal bytes align proper (placement c (atomic_fit c bytes align) bytes m.chunks) refl)
       legal_section (Zeroing object) s is proper own at few turn alloc e = told_legal s _ e is
       legal_section (SettlingAtomic object) s is proper own at few turn alloc e = told_legal s _ e (is, refl)
-      legal_section (FreeingObject object serial) s is proper own at few turn alloc e = told_legal s _ e (freeing_legal object serial (is_live_object object serial m.chunks) refl)
+      legal_section (FreeingObject object serial) s is proper own at few turn alloc e = grind (arith, nat_tests)
       legal_section (Adding object serial cpu index amount) s is proper own at few turn alloc e = told_legal s _ e is
       legal_section (Summing object serial index) s is proper own at few turn alloc e = told_legal s _ e (is.0, is.1, refl)
-      legal_section Sparing s is proper own at few turn alloc e = told_legal s _ e (sparing_legal (spare_chunk m.chunks) refl)
+      legal_section Sparing s is proper own at few turn alloc e = grind (arith, nat_tests)
       legal_section (Depopulating base populated) s is proper own at few turn alloc e = told_legal s _ e is
       legal_section (UnlinkingGroups base) s is proper own at few turn alloc e = told_legal s _ e is
-      legal_section (NextFill filled) s is proper own at few turn alloc e = told_legal s _ e (filling_legal (page_to_fill c m.chunks) refl)
-      legal_section (Filling chunk base page filled) s is proper own at few turn alloc e = told_legal s _ e (filled_legal (pages_in_units c base (page ∷ [])) (Fill base page) _ refl is (λ can. can))
+      legal_section (NextFill filled) s is proper own at few turn alloc e = grind (arith, nat_tests)
+      legal_section (Filling chunk base page filled) s is proper own at few turn alloc e = grind (arith, nat_tests)
       legal_section (NotingFilled chunk page filled) s is proper own at few turn alloc e = told_legal s _ e is

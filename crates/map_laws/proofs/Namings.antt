@@ -6,7 +6,7 @@ use Rattle.vm_model.specs.Areas.{spans_of}
 use Rattle.vm_model.specs.Carried.{count_of, has_alloc, namings, starts_out}
 use Rattle.vm_model.specs.History.{Local, World}
 use Rattle.vm_model.specs.Next.{next}
-use Rattle.vm_model.specs.Places.{AddingBlock, AddingChunk, Depopulating, Place, PurgeFragmenting, PurgeUnlinking, UnlinkingBlock, UnlinkingGroups, group_starts}
+use Rattle.vm_model.specs.Places.{AddingChunk, Depopulating, Place, UnlinkingGroups, group_starts}
 use Rattle.vm_model.specs.PlainMap.{Chunk, PlainMap}
 use Rattle.vm_model.specs.Rules.{AreGroups}
 use Rattle.vm_model.specs.Setup.{Setup}
@@ -37,14 +37,7 @@ chunk_out c (UnlinkingGroups base) = group_starts c base
 chunk_out c _ = []
 
 pub outs_count : (c : Setup) (p : Place) (start : ℕ) → count_of start (starts_out c p) ≡ count_of start (block_out p) + count_of start (chunk_out c p)
-outs_count c (PurgeFragmenting cpu gone extra after) start = omega arith
-outs_count c (PurgeUnlinking gone extra after) start = omega arith
-outs_count c (AddingBlock at) start = omega arith
-outs_count c (UnlinkingBlock s reply) start = omega arith
-outs_count c (AddingChunk base chunk bytes align) start = omega arith
-outs_count c (Depopulating base populated) start = omega arith
-outs_count c (UnlinkingGroups base) start = omega arith
-outs_count c _ start = omega arith
+outs_count c p start = grind arith
 
 count_flat : {X : Type 0} (f : X → List ℕ) (n : ℕ) (xs : List X) → count_of n (flat_map f xs) ≡ sum_by (λ x. count_of n (f x)) xs
 count_flat f n [] = refl
@@ -117,10 +110,7 @@ module _ (c : Setup) (groups : AreGroups c) (w : World) (once : (page : ℕ) →
   out_in _ at next hit = absurd (omega arith)
 
   out_alloc : (p : Place) → 1 ≤ count_of start (chunk_out c p) → has_alloc p ≡ true
-  out_alloc (AddingChunk base chunk bytes align) hit = refl
-  out_alloc (Depopulating base populated) hit = refl
-  out_alloc (UnlinkingGroups base) hit = refl
-  out_alloc _ hit = absurd (omega arith)
+  out_alloc p hit = grind arith
 
   out_few : (p : Place) → count_of start (chunk_out c p) ≤ 1
   out_few (AddingChunk base chunk bytes align) = starts_once c groups base start

@@ -8,7 +8,7 @@ use Rattle.vm_model.specs.Frames.{pages_of_bytes}
 use Rattle.vm_model.specs.Given.{placing}
 use Rattle.vm_model.specs.PlainMap.{Chunk, InHand, Life, Lives, Object}
 use Rattle.vm_model.specs.Setup.{Setup, unit_bits}
-use Rattle.vm_model.specs.Space.{holds, is_among, one_if, span, times}
+use Rattle.vm_model.specs.Space.{holds, is_among, one_if, times}
 use Rattle.vm_model.specs.Told.{placed}
 use Rattle.map_laws.proofs.BlockFacts.{count_cons, same_test, to_same}
 use Rattle.map_laws.proofs.ChunkRows.{keyed_in, keyed_is, unkeyed_in, IsFitting, fitting_bit}
@@ -22,11 +22,7 @@ use Rattle.map_laws.proofs.Touched.{in_row, painted, painted_still}
 
 pub numbers_changed : (number : ℕ) (change : Chunk → Chunk) (chunks : List Chunk) → ((h : Chunk) → (change h).number ≡ h.number) → chunk_numbers (change_chunk number change chunks) ≡ chunk_numbers chunks
 numbers_changed number change [] same = refl
-numbers_changed number change (h ∷ chunks) same = ap (λ n. n ∷ chunk_numbers (change_chunk number change chunks)) (by_test (h.number == number)) ∙ ap (λ l. h.number ∷ l) (numbers_changed number change chunks same)
-  where
-    by_test : (t : Bool) → (if t then change h else h).number ≡ h.number
-    by_test true = same h
-    by_test false = refl
+numbers_changed number change (h ∷ chunks) same = grind (arith, numbers_changed number change chunks same, chunk_numbers)
 
 pub more_fine : (c : Setup) (placing placing' : ℕ → ℕ → Type 0) (h : Chunk) → ((off : ℕ) → placing h.number off → placing' h.number off) → AreObjectsFine c placing h → AreObjectsFine c placing' h
 more_fine c placing placing' h more fine = record { shaped = fine.shaped; bits = fine.bits; settled = λ o there. elim (fine.settled o there) [ inl done ↦ inl done | inr placed ↦ inr (more o.off placed) ] }
@@ -158,12 +154,10 @@ module _ (c : Setup) (placing placing' : ℕ → ℕ → Type 0) (k : ℕ) (at :
 
   alive_bits : (objects : List Object) → map object_bits (map alive objects) ≡ map object_bits objects
   alive_bits [] = refl
-  alive_bits (o ∷ objects) = let s = alive_same o (o.off == at.off) in
-      ap (λ x. x ∷ map object_bits (map alive objects)) (ap (λ n. span (n / 4) ((alive o).bytes / 4)) s.0 ∙ ap (λ n. span (o.off / 4) (n / 4)) s.1) ∙ ap (λ l. object_bits o ∷ l) (alive_bits objects)
+  alive_bits (o ∷ objects) = grind (arith, alive_bits objects, alive_same)
 
   was_object : (objects : List Object) (o : Object) → IsIn o (map alive objects) → (was : Object) × IsIn was objects × (o.off ≡ was.off) × (o.bytes ≡ was.bytes)
-  was_object objects o is = let was = mapped_at alive objects is.place o is.at in let s = alive_same was.0 (was.0.off == at.off) in
-      (was.0, record { place = is.place; at = was.1 }, ap (λ (x : Object). x.off) (sym was.2) ∙ s.0, ap (λ (x : Object). x.bytes) (sym was.2) ∙ s.1)
+  was_object objects o is = grind (arith, mapped_at, alive_same)
 
   module _ (long : (h : Chunk) → IsIn h chunks → length h.populated ≡ c.unit_pages) (more : (number off : ℕ) → placing number off → placing' number off ⊎ ((at.chunk ≡ number) × (at.off ≡ off))) where
     now_populated : (h : Chunk) (o was : Object) → IsIn h chunks → IsIn was h.objects → o.off ≡ was.off → o.bytes ≡ was.bytes → at.chunk ≡ h.number → at.off ≡ was.off → (page : ℕ) → is_among (pages_of_bytes o.off o.bytes) page ≡ true
@@ -312,34 +306,10 @@ module _ (c : Setup) (placing placing' : ℕ → ℕ → Type 0) (chunks : List 
       (λ h there apart. more_fine c placing placing' h (more h.number) (fine.each h there))
 
 pub grown_keeps : (c : Setup) (chunks : List Chunk) (number base : ℕ) (at : ObjectAt) (life : Life) → IsObject chunks at life → IsObject (chunks ++ new_chunk c number base ∷ []) at life
-grown_keeps c chunks number base at life is = record {
-  chunk = is.chunk;
-  there = record { place = is.there.place; at = append_first chunks (new_chunk c number base ∷ []) is.there.place is.chunk is.there.at };
-  numbered = is.numbered;
-  based = is.based;
-  object = is.object;
-  object_there = is.object_there;
-  off = is.off;
-  bytes = is.bytes;
-  lives = is.lives;
-}
+grown_keeps c chunks number base at life is = grind (arith, there, append_first)
 
 pub spared_keeps : (chunks : List Chunk) (number : ℕ) (at : ObjectAt) (life : Life) → at.chunk ≢ number → IsObject chunks at life → IsObject (filter (λ (h : Chunk). not (h.number == number)) chunks) at life
-spared_keeps chunks number at life apart is = record {
-  chunk = is.chunk;
-  there = filter_in (λ (h : Chunk). not (h.number == number)) chunks is.chunk is.there.place is.there.at (by_test (is.chunk.number == number) refl);
-  numbered = is.numbered;
-  based = is.based;
-  object = is.object;
-  object_there = is.object_there;
-  off = is.off;
-  bytes = is.bytes;
-  lives = is.lives;
-}
-  where
-    by_test : (t : Bool) → (is.chunk.number == number) ≡ t → not (is.chunk.number == number) ≡ true
-    by_test true e = absurd (apart (sym is.numbered ∙ to_same is.chunk.number number e))
-    by_test false e = ap not e
+spared_keeps chunks number at life apart is = grind (arith, there, filter_in, to_same)
 
 pub paged_keeps : (number page : ℕ) (chunks : List Chunk) (at : ObjectAt) (life : Life) → IsObject chunks at life → IsObject (change_chunk number (with_page page) chunks) at life
 paged_keeps number page chunks at life is = changed_object number (with_page page) (λ h. refl) (λ h. refl) chunks at life is (λ e. is.object_there)

@@ -1,6 +1,6 @@
 -- What is kept of the objects of chunks between two events, and of the objects that callers have in hand.
 -- whole words, within the units
-use Rattle.std.proofs.Common.{IfSome, List, None, Option, Some, [], ap, arith, find, flat_map, inl, inr, is_some, map, option_map, refl, slice_get, subst, suc, sum_by, sym, true, ℕ, ◌&&◌, ◌*◌, ◌+◌, ◌==◌, ◌∙◌, ◌∷◌, ◌≡◌, ◌≤◌, ◌⊎◌}
+use Rattle.std.proofs.Common.{IfSome, List, None, Option, Some, [], ap, arith, find, flat_map, is_some, map, option_map, refl, slice_get, subst, suc, sum_by, sym, true, ℕ, ◌&&◌, ◌*◌, ◌+◌, ◌==◌, ◌∙◌, ◌∷◌, ◌≡◌, ◌≤◌, ◌⊎◌}
 use Rattle.std.proofs.lemmas.List.Sums.{sum_by-cons}
 use Rattle.vm_model.specs.Carried.{count_of, object_in_hand}
 use Rattle.vm_model.specs.Chunks.{ObjectAt, chunks_numbered, is_live_object, life_of_object, object_bits}
@@ -8,7 +8,7 @@ use Rattle.vm_model.specs.Frames.{pages_of_bytes}
 use Rattle.vm_model.specs.Given.{placing}
 use Rattle.vm_model.specs.Next.{Answer, Go, Next, found}
 use Rattle.vm_model.specs.Places.{Place, Populating, SettlingObject, Unplacing}
-use Rattle.vm_model.specs.PlainMap.{Chunk, Ended, InHand, Life, Lives, Object, PlainMap, lives_as}
+use Rattle.vm_model.specs.PlainMap.{Chunk, InHand, Life, Lives, Object, PlainMap, lives_as}
 use Rattle.vm_model.specs.Setup.{Setup, unit_bits}
 use Rattle.vm_model.specs.Space.{holds, is_among, one_if, times}
 use Rattle.vm_model.specs.declared.areas.Span.{Span}
@@ -71,15 +71,10 @@ next_placed (Answer reply made) number off = ⊥
 -- Elements that count for the same.
 
 pub same_place : {X : Type 0} (f : X → ℕ) (xs : List X) (i j : ℕ) (x y : X) → sum_by f xs ≤ 1 → slice_get xs i ≡ Some x → slice_get xs j ≡ Some y → 1 ≤ f x → 1 ≤ f y → i ≡ j
-same_place f xs i j x y once h g a b = elim (same_or i j) [
-  | inl same ↦ same
-  | inr apart ↦ absurd (let two = sum_two f xs i j x y h g apart in omega arith)
-]
+same_place f xs i j x y once h g a b = grind (arith, same_or, sum_two)
 
 pub same_element : {X : Type 0} (f : X → ℕ) (xs : List X) (x y : X) → sum_by f xs ≤ 1 → IsIn x xs → IsIn y xs → 1 ≤ f x → 1 ≤ f y → x ≡ y
-same_element f xs x y once h g a b =
-    let i = same_place f xs h.place g.place x y once h.at g.at a b in let e = g.at in
-    let f : slice_get xs g.place ≡ Some x = ap (slice_get xs) (sym i) ∙ h.at in cc
+same_element f xs x y once h g a b = grind (arith, same_place)
 
 pub count_sum : {X : Type 0} (key : X → ℕ) (n : ℕ) (xs : List X) → count_of n (map key xs) ≡ sum_by (λ x. one_if (key x == n)) xs
 count_sum key n [] = refl
@@ -141,9 +136,7 @@ module _ (c : Setup) (placing : ℕ → ℕ → Type 0) (chunks : List Chunk) (f
   same_life life found is e = let f = object_life life is in cc
 
   lives_serial : (serial : ℕ) (life : Life) → lives_as serial life ≡ true → life ≡ Lives serial
-  lives_serial serial (InHand caller) e = cc
-  lives_serial serial (Lives own) e = ap (λ n. Lives n) (to_same own serial e)
-  lives_serial serial Ended e = cc
+  lives_serial serial life e = grind (arith, to_same)
 
   some_found : (serial : ℕ) (o : Option Object) → find (λ (o : Object). (o.off == at.off) && lives_as serial o.life) (flat_map (λ (h : Chunk). h.objects) (chunks_numbered at.chunk chunks)) ≡ o → is_some o ≡ true → (life : Life) → IsObject chunks at life → life ≡ Lives serial
   some_found serial None e f life is = cc

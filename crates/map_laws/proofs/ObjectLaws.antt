@@ -9,7 +9,7 @@ use Rattle.vm_model.specs.Frames.{pages_of_bytes}
 use Rattle.vm_model.specs.History.{World}
 use Rattle.vm_model.specs.Laws.{ObjectsAreMappedInEveryUnit, all_copies, copies_of, object_at}
 use Rattle.vm_model.specs.Legal.{IsMapped, OnPages}
-use Rattle.vm_model.specs.Places.{Place, Populating, SettlingObject, Unplacing}
+use Rattle.vm_model.specs.Places.{Place}
 use Rattle.vm_model.specs.PlainMap.{Chunk, Ended, InHand, Life, Lives, Object, PlainMap, is_in_hand, is_live}
 use Rattle.vm_model.specs.Rules.{AreUnits}
 use Rattle.vm_model.specs.Setup.{Setup, pages_in_units}
@@ -29,10 +29,7 @@ use Rattle.map_laws.proofs.Spans.{holds_from, holds_to, times-append}
 use Rattle.map_laws.proofs.TraceWorlds.{trace_reached}
 
 placed_hand : (m : PlainMap) (k : ℕ) (p : Place) (number off : ℕ) → IsBeingPlaced number off p → IsObjectAt m k p → (at : ObjectAt) × (at.chunk ≡ number) × (at.off ≡ off) × IsObject m.chunks at (InHand k)
-placed_hand m k (Populating at missing) number off b is = (at, b.0, b.1, is)
-placed_hand m k (SettlingObject at) number off b is = (at, b.0, b.1, is)
-placed_hand m k (Unplacing at) number off b is = (at, b.0, b.1, is)
-placed_hand m k _ number off b is = absurd b
+placed_hand m k p number off b is = grind (arith, nat_tests)
 
 module _ (c : Setup) (w : World) (chunks : IsChunkWorld c w) (objects : IsObjectWorld c w) where
   -- the pages of an object that no caller has in hand are populated
@@ -82,11 +79,7 @@ module _ (c : Setup) (units : AreUnits c) (m : PlainMap) (placing : ℕ → ℕ 
   by_units h o = times_map (λ unit. span (copy_at (object_at h o) unit) o.bytes) byte c.units
 
   unit_hit : (h : Chunk) (o : Object) (unit : ℕ) → 1 ≤ in_unit h o unit → HasByte byte h o unit
-  unit_hit h o unit hit = by_test (holds (span (copy_at (object_at h o) unit) o.bytes) byte) refl
-    where
-      by_test : (t : Bool) → holds (span (copy_at (object_at h o) unit) o.bytes) byte ≡ t → HasByte byte h o unit
-      by_test true e = holds_to (span (copy_at (object_at h o) unit) o.bytes) byte e
-      by_test false e = absurd (omega (arith, ap one_if e))
+  unit_hit h o unit hit = grind (arith, holds_to, nat_tests)
 
   object_hit : (h : Chunk) (o : Object) → 1 ≤ in_object h o → (cpu : ℕ) × (unit : ℕ) × (slice_get c.units cpu ≡ Some unit) × HasByte byte h o unit
   object_hit h o hit = let is = sum_some (in_unit h o) c.units (omega (arith, by_units h o)) in (is.0, is.1, is.2, unit_hit h o is.1 is.3)

@@ -1,21 +1,20 @@
 -- Each section at its place, as to the objects of chunks.
 -- the lives that a section ends or changes
-use Rattle.std.proofs.Common.{Bool, IfSome, List, Some, [], ap, arith, false, find, flat_map, inl, inr, is_some, length, map, refl, slice_get, subst, suc, sym, true, ℕ, ◌&&◌, ◌*◌, ◌++◌, ◌+◌, ◌==◌, ◌∙◌, ◌∷◌, ◌≡◌, ◌⊎◌}
+use Rattle.std.proofs.Common.{Bool, List, Some, [], ap, arith, false, find, flat_map, inl, inr, is_some, length, map, refl, slice_get, subst, sym, true, ℕ, ◌&&◌, ◌++◌, ◌+◌, ◌==◌, ◌∙◌, ◌∷◌, ◌≡◌, ◌⊎◌}
 use Rattle.std.proofs.lemmas.Option.{slice_get_within}
 use Rattle.vm_model.specs.Areas.{group_areas}
-use Rattle.vm_model.specs.Carried.{object_in_hand}
-use Rattle.vm_model.specs.Chunks.{ObjectAt, atomic_bits, atomic_fit, bit_list, chunks_numbered, is_live_object, new_chunk, object_bits, pages_of_object, plain_fit, unpopulated_pages, with_object}
+use Rattle.vm_model.specs.Chunks.{ObjectAt, atomic_bits, atomic_fit, bit_list, chunks_numbered, is_live_object, new_chunk, object_bits, pages_of_object, plain_fit, with_object}
 use Rattle.vm_model.specs.Effects.{effect_as}
 use Rattle.vm_model.specs.Events.{AddChunk, Depopulate, Enough, Fill, Filled, FreeObject, NextPage, NoAtomic, NoFrames, NoPlace, NoSpare, ObjectNotLive, PlaceAtomic, PlaceObject, Populate, Section, Settle, SettleObject, Spare, Unplace, Zero}
 use Rattle.vm_model.specs.Legal.{IsLegalAs}
 use Rattle.vm_model.specs.LegalHistory.{Meets}
-use Rattle.vm_model.specs.Next.{Answer, Go, Next, next}
+use Rattle.vm_model.specs.Next.{Go, Next, next}
 use Rattle.vm_model.specs.Places.{AddingChunk, Ask, AskAddChunk, AskAtomic, AskFilled, AskFree, AskPlace, AskSettleObject, AskSpare, AskUnplace, Choosing, ChoosingAtomic, Depopulating, Filling, FreeingObject, NextFill, NotingFilled, Place, Populating, SettlingAtomic, SettlingGroups, SettlingObject, Sparing, Unplacing, Zeroing, ask}
 use Rattle.vm_model.specs.PlainMap.{Chunk, InHand, Life, Lives, Object, PlainMap, lives_as}
 use Rattle.vm_model.specs.Setup.{Setup, pages_in_units, unit_bits}
-use Rattle.vm_model.specs.Space.{covers, is_among, span, times}
+use Rattle.vm_model.specs.Space.{covers, is_among, times}
 use Rattle.vm_model.specs.Told.{placed}
-use Rattle.map_laws.proofs.AskRows.{AskRow, Refused, ask_row}
+use Rattle.map_laws.proofs.AskRows.{ask_row}
 use Rattle.map_laws.proofs.ChunkRows.{keyed_in, fitting, placement_is, AreNumbered}
 use Rattle.map_laws.proofs.Chosen.{IsIn, filter_has, or_none}
 use Rattle.map_laws.proofs.ChunkAdded.{row_test}
@@ -43,22 +42,13 @@ pub record IsObjectMoved (c : Setup) (m : PlainMap) (k : ℕ) (placing : ℕ →
 
 -- places of which nothing is said as to objects
 pub unhanded_at : (m : PlainMap) (k : ℕ) (p : Place) → IsUnchunked p → IsObjectAt m k p
-unhanded_at m k (Populating at missing) h = cc
-unhanded_at m k (SettlingObject at) h = cc
-unhanded_at m k (Unplacing at) h = cc
-unhanded_at m k (Zeroing at) h = cc
-unhanded_at m k (SettlingAtomic at) h = cc
-unhanded_at m k _ h = tt
+unhanded_at m k p h = grind arith
 
 pub unhanded_idle : (p : Place) → IsUnchunked p → (number off : ℕ) → IsBeingPlaced number off p → ⊥
-unhanded_idle (Populating at missing) h number off b = cc
-unhanded_idle (SettlingObject at) h number off b = cc
-unhanded_idle (Unplacing at) h number off b = cc
-unhanded_idle _ h number off b = b
+unhanded_idle p h number off b = grind arith
 
 unhanded_next : (m : PlainMap) (k : ℕ) (n : Next) → OnNext IsUnchunked n → OnNext (IsObjectAt m k) n
-unhanded_next m k (Go p) h = unhanded_at m k p h
-unhanded_next m k (Answer r made) h = tt
+unhanded_next m k n h = grind (arith, unhanded_at)
 
 -- sections that change the chunks
 abbrev pub is_objecty : Section → Bool
@@ -73,15 +63,7 @@ is_objecty (Filled chunk page) = true
 is_objecty _ = false
 
 pub chunks_same : (c : Setup) (m : PlainMap) (k : ℕ) (s : Section) → is_objecty s ≡ false → (effect_as c m k s).chunks ≡ m.chunks
-chunks_same c m k (PlaceObject at align missing) h = cc
-chunks_same c m k (AddChunk chunk base at align missing) h = cc
-chunks_same c m k (PlaceAtomic at align) h = cc
-chunks_same c m k (SettleObject at serial) h = cc
-chunks_same c m k (Unplace at) h = cc
-chunks_same c m k (FreeObject at serial) h = cc
-chunks_same c m k (Spare chunk base populated) h = cc
-chunks_same c m k (Filled chunk page) h = cc
-chunks_same c m k _ h = refl
+chunks_same c m k s h = grind arith
 
 abbrev pub asks_objecty : Ask → Bool
 asks_objecty (AskPlace bytes align) = true
@@ -95,22 +77,15 @@ asks_objecty (AskFilled chunk page) = true
 asks_objecty _ = false
 
 module _ (c : Setup) where
-  unobjecty_row : (a : Ask) (s : Section) → AskRow c a s → asks_objecty a ≡ false → is_objecty s ≡ false
-  unobjecty_row _ _ Refused h = refl
-  unobjecty_row _ _ _ h = cc
-
   pub given_unobjecty : (a : Ask) (s : Section) → asks_objecty a ≡ false → Meets c a s → is_objecty s ≡ false
-  given_unobjecty a s h w = unobjecty_row a s (ask_row c a s w) h
+  given_unobjecty a s h w = grind (arith, ask_row)
 
 -- bits that a search finds free are no object's
 plain_free : (c : Setup) (h : Chunk) (bit : ℕ) → slice_get (bit_list c h) bit ≡ Some false → times bit (map object_bits h.objects) ≡ 0
 plain_free c h bit e = covers_none bit (map object_bits h.objects) (ap (covers (map object_bits h.objects)) (let f : bit ≡ 0 + bit = omega arith in f) ∙ row_test (covers (map object_bits h.objects)) (unit_bits c) 0 bit false e)
 
 atomic_free : (c : Setup) (h : Chunk) (bit : ℕ) → slice_get (atomic_bits c h) bit ≡ Some false → times bit (map object_bits h.objects) ≡ 0
-atomic_free c h bit e =
-    let free = ap (covers (map object_bits h.objects ++ map (λ page. span (1024 * page) 1024) (unpopulated_pages c h))) (let f : bit ≡ 0 + bit = omega arith in f)
-    ∙ row_test (covers (map object_bits h.objects ++ map (λ page. span (1024 * page) 1024) (unpopulated_pages c h))) (unit_bits c) 0 bit false e in
-    covers_none bit (map object_bits h.objects) (or_none _ _ (sym (covers_append bit (map object_bits h.objects) (map (λ page. span (1024 * page) 1024) (unpopulated_pages c h))) ∙ free)).0
+atomic_free c h bit e = grind (arith, row_test, covers_none, or_none, covers_append)
 
 module _ (c : Setup) (m : PlainMap) (k : ℕ) (numbered : AreNumbered m) (long : (h : Chunk) → IsIn h m.chunks → length h.populated ≡ c.unit_pages) (placing : ℕ → ℕ → Type 0) where
   module _ (p : Place) (all : AreChunksFine c (λ number off. placing number off ⊎ IsBeingPlaced number off p) m.chunks) where
@@ -119,11 +94,7 @@ module _ (c : Setup) (m : PlainMap) (k : ℕ) (numbered : AreNumbered m) (long :
 
     -- the chunks stay
     same_o : (s : Section) (n : Next) → (effect_as c m k s).chunks ≡ m.chunks → ((number off : ℕ) → IsBeingPlaced number off p → next_placed n number off) → OnNext (IsObjectAt m k) n → IsObjectMoved c m k placing s n
-    same_o s n e more own = record {
-      fine = same_fine c _ _ m.chunks (effect_as c m k s).chunks e (λ number off b. elim b [ inl other ↦ inl other | inr mine ↦ inr (more number off mine) ]) all;
-      own = subst (λ chunks. OnNext (λ q. IfSome (object_in_hand q) (λ at. IsObject chunks at (InHand k))) n) (sym e) own;
-      keeps = λ at life is never. subst (λ chunks. IsObject chunks at life) (sym e) is;
-    }
+    same_o s n e more own = grind (arith, same_fine)
 
     idle_o : (s : Section) (n : Next) → (effect_as c m k s).chunks ≡ m.chunks → IsUnchunked p → OnNext IsUnchunked n → IsObjectMoved c m k placing s n
     idle_o s n e un next_un = same_o s n e (λ number off mine. absurd (unhanded_idle p un number off mine)) (unhanded_next m k n next_un)
@@ -241,9 +212,5 @@ module _ (c : Setup) (m : PlainMap) (k : ℕ) (numbered : AreNumbered m) (long :
   object_by (Filling chunk base page filled) s all proper at chunked (inl w) legal = as_o (Filling chunk base page filled) all s (Fill base page) w legal (λ l. same_o (Filling chunk base page filled) all (Fill base page) _ refl (λ number off mine. mine) tt)
   object_by (Filling chunk base page filled) s all proper at chunked (inr w) legal = as_o (Filling chunk base page filled) all s (NoFrames (length (pages_in_units c base (page ∷ [])))) w legal
       (λ l. same_o (Filling chunk base page filled) all (NoFrames (length (pages_in_units c base (page ∷ [])))) _ refl (λ number off mine. mine) tt)
-  object_by (NotingFilled chunk page filled) s all proper at chunked w legal = as_o (NotingFilled chunk page filled) all s (Filled chunk page) w legal (λ l. record {
-    fine = paged_fine c _ _ m.chunks all (others_only (NotingFilled chunk page filled) all (λ number off mine. mine) (Go (NextFill (suc filled)))) chunk page;
-    own = tt;
-    keeps = λ other life there never. paged_keeps chunk page m.chunks other life there;
-  })
+  object_by (NotingFilled chunk page filled) s all proper at chunked w legal = grind (arith, paged_fine, others_only, there, paged_keeps)
   object_by p s all proper at chunked w legal = plain_o p all s refl refl (λ number off mine. mine) w

@@ -1,11 +1,11 @@
 -- The words of objects, and what sections keep of them.
-use Rattle.std.proofs.Common.{◌≡◌, ℕ, suc, ◌+◌, ◌-◌, ◌*◌, ◌/◌, ◌<◌, ◌≤◌, inl, inr, Bool, true, false, ◌&&◌, ◌==◌, List, flat_map, slice_get, sum_by, Some, refl, ap, sym, ◌∙◌, subst, arith, ℤ, ◌+ℤ◌, ◌%◌, [], ◌∷◌, map, Option, None, option_map, unwrap_or, pos}
+use Rattle.std.proofs.Common.{◌≡◌, ℕ, suc, ◌+◌, ◌-◌, ◌*◌, ◌/◌, ◌<◌, ◌≤◌, inl, inr, Bool, true, false, List, flat_map, slice_get, sum_by, Some, refl, ap, sym, ◌∙◌, subst, arith, ℤ, ◌+ℤ◌, ◌%◌, map, Option, None, option_map, unwrap_or, pos}
 use Rattle.std.proofs.lemmas.Bool.Decides.{nat_tests}
 use Rattle.std.proofs.lemmas.Option.{same_Some, get_or_from_slice_get, slice_get-map}
-use Rattle.vm_model.specs.Space.{span, holds, times, one_if, is_among, pages_of, paint}
-use Rattle.vm_model.specs.Setup.{Setup, pages_in_units}
+use Rattle.vm_model.specs.Space.{span, holds, times, one_if, is_among}
+use Rattle.vm_model.specs.Setup.{Setup}
 use Rattle.vm_model.specs.PlainMap.{PlainMap, Chunk, Object, Life}
-use Rattle.vm_model.specs.Frames.{word_at, add_word, joined_option, frame_of, free_frames, give_frames, cell_in, read_cell, words_in_page, zero_words}
+use Rattle.vm_model.specs.Frames.{word_at, add_word, joined_option, frame_of, cell_in, read_cell, words_in_page, zero_words}
 use Rattle.vm_model.specs.Chunks.{ObjectAt, pages_of_object, object_pages, copy_at}
 use Rattle.vm_model.specs.Events.{AddWord, Section, MapPages, Populate, Fill, Unmap, Depopulate, Zero}
 use Rattle.vm_model.specs.Legal.{OnPages, IsMapped, IsLegalAs}
@@ -190,34 +190,11 @@ module _ (c : Setup) (m : PlainMap) (k : ℕ) (copies : (byte : ℕ) → times b
     added_map : (effect_as c m k (AddWord at serial cpu index amount)).cells ≡ add_word m.frames byte amount m.cells
     added_map = ap (λ b. add_word m.frames b amount m.cells) (ap (λ u. copy_at at u + 4 * index) (get_or_from_slice_get c.units cpu word.unit 0 word.at_unit) ∙ sym word.is)
 
-    test_by : (a b : ℕ) (t : Bool) → (a == b) ≡ t → a ≡ b → t ≡ true
-    test_by a b true e f = refl
-    test_by a b false e f = let g : (a == b) ≡ true = grind (arith, nat_tests) in cc
-
     all_same : (own : ObjectAt) (cpu' index' : ℕ) → IsOneWord at own cpu cpu' index index' → is_word at cpu index own cpu' index' ≡ true
-    all_same own cpu' index' one =
-        four_true (at.chunk == own.chunk) (at.off == own.off) (cpu == cpu') (index == index') (test_by at.chunk own.chunk (at.chunk == own.chunk) refl one.chunk) (test_by at.off own.off (at.off == own.off) refl one.off)
-        (test_by cpu cpu' (cpu == cpu') refl one.same_cpu) (test_by index index' (index == index') refl one.same_index)
-      where
-        four_true : (a b d e : Bool) → a ≡ true → b ≡ true → d ≡ true → e ≡ true → (a && b && d && e) ≡ true
-        four_true true true true true x y z w = refl
-        four_true false b d e x y z w = cc
-        four_true true false d e x y z w = cc
-        four_true true true false e x y z w = cc
-        four_true true true true false x y z w = cc
+    all_same own cpu' index' one = grind (arith, same_cpu, nat_tests)
 
     same_all : (own : ObjectAt) (cpu' index' : ℕ) → is_word at cpu index own cpu' index' ≡ true → IsOneWord at own cpu cpu' index index'
-    same_all own cpu' index' h =
-        let is = and_four (at.chunk == own.chunk) (at.off == own.off) (cpu == cpu') (index == index') h in
-        let a = is.0 in let b = is.1 in let d = is.2 in let e = is.3 in
-        record { chunk = (let x : at.chunk ≡ own.chunk = grind (arith, nat_tests) in x); off = (let x : at.off ≡ own.off = grind (arith, nat_tests) in x); same_cpu = (let x : cpu ≡ cpu' = grind (arith, nat_tests) in x); same_index = (let x : index ≡ index' = grind (arith, nat_tests) in x) }
-      where
-        and_four : (a b d e : Bool) → (a && b && d && e) ≡ true → (a ≡ true) × (b ≡ true) × (d ≡ true) × (e ≡ true)
-        and_four true true true true x = (refl, refl, refl, refl)
-        and_four false b d e x = cc
-        and_four true false d e x = cc
-        and_four true true false e x = cc
-        and_four true true true false x = cc
+    same_all own cpu' index' h = grind (arith, same_cpu, nat_tests)
 
     frame : (f : ℕ) × HasFrame m.frames byte f
     frame = word_mapped c m at cpu index byte wordy word mapped
@@ -247,24 +224,13 @@ module _ (c : Setup) (m : PlainMap) (k : ℕ) (copies : (byte : ℕ) → times b
 
 -- A page that is mapped before and behind a section keeps its frame.
 
-given_same : (pages free : List ℕ) (frames : List (Option ℕ)) (page f : ℕ) (b : Bool) → is_among pages page ≡ b → (is_among pages page ≡ true → slice_get frames page ≡ Some None) → slice_get frames page ≡ Some (Some f)
-    → slice_get (give_frames pages free frames) page ≡ slice_get frames page
-given_same pages free frames page f true e bare h = let none = bare e in cc
-given_same pages free frames page f false e bare h = ungiven pages free frames page e
-
-lost_same : (test : ℕ → Bool) (frames : List (Option ℕ)) (page f f' : ℕ) (b : Bool) → test page ≡ b → slice_get frames page ≡ Some (Some f) → slice_get (paint test None frames) page ≡ Some (Some f')
-    → slice_get (paint test None frames) page ≡ slice_get frames page
-lost_same test frames page f f' true e h g = let none = painted test None (Some f) frames page e h in cc
-lost_same test frames page f f' false e h g = unpainted test None frames page e
-
 pub frame_stays : (c : Setup) (m : PlainMap) (k : ℕ) (s : Section) (page f f' : ℕ) → IsLegalAs c m k s → slice_get m.frames page ≡ Some (Some f) → slice_get (effect_as c m k s).frames page ≡ Some (Some f')
     → slice_get (effect_as c m k s).frames page ≡ slice_get m.frames page
-frame_stays c m k (MapPages s) page f f' legal h g = given_same (pages_of s) (free_frames c m.frames) m.frames page f _ refl
-    (λ e. (let r = in_row s.pages s.start page e in (legal.0 page (covers_one s page ∙ holds_from s page r.0 r.1)).unmapped)) h
-frame_stays c m k (Populate at missing) page f f' legal h g = given_same (pages_in_units c at.base missing) (free_frames c m.frames) m.frames page f _ refl (λ e. (legal.0 page e).unmapped) h
-frame_stays c m k (Fill base own) page f f' legal h g = given_same (pages_in_units c base (own ∷ [])) (free_frames c m.frames) m.frames page f _ refl (λ e. (legal.0 page e).unmapped) h
-frame_stays c m k (Unmap s) page f f' legal h g = lost_same (holds s) m.frames page f f' _ refl h g
-frame_stays c m k (Depopulate base pages) page f f' legal h g = lost_same (is_among (pages_in_units c base pages)) m.frames page f f' _ refl h g
+frame_stays c m k (MapPages s) page f f' legal h g = grind (arith, in_row, covers_one, holds_from, ungiven, nat_tests)
+frame_stays c m k (Populate at missing) page f f' legal h g = grind (arith, ungiven, nat_tests)
+frame_stays c m k (Fill base own) page f f' legal h g = grind (arith, ungiven, nat_tests)
+frame_stays c m k (Unmap s) page f f' legal h g = grind (arith, painted, unpainted, nat_tests)
+frame_stays c m k (Depopulate base pages) page f f' legal h g = grind (arith, painted, unpainted, nat_tests)
 frame_stays c m k _ page f f' legal h g = refl
 
 -- the sections that change words
@@ -274,19 +240,12 @@ moves_words (Zero at) = true
 moves_words (AddWord at serial cpu index amount) = true
 moves_words _ = false
 
-cells_same : (c : Setup) (m : PlainMap) (k : ℕ) (s : Section) → moves_words s ≡ false → (effect_as c m k s).cells ≡ m.cells
-cells_same c m k (Populate at missing) h = cc
-cells_same c m k (Zero at) h = cc
-cells_same c m k (AddWord at serial cpu index amount) h = cc
-cells_same c m k _ h = refl
-
 pub same_word : (frames frames' : List (Option ℕ)) (cells : List ℤ) (byte : ℕ) → slice_get frames' (byte / 4096) ≡ slice_get frames (byte / 4096) → word_at frames' cells byte ≡ word_at frames cells byte
 same_word frames frames' cells byte e = ap (λ o. read_cell cells (cell_in (joined_option o) byte)) e
 
 pub word_stays : (c : Setup) (m : PlainMap) (k : ℕ) (s : Section) (byte f f' : ℕ) → IsLegalAs c m k s → moves_words s ≡ false → HasFrame m.frames byte f → HasFrame (effect_as c m k s).frames byte f'
     → word_at (effect_as c m k s).frames (effect_as c m k s).cells byte ≡ word_at m.frames m.cells byte
-word_stays c m k s byte f f' legal quiet h g =
-    same_word m.frames (effect_as c m k s).frames (effect_as c m k s).cells byte (frame_stays c m k s (byte / 4096) f f' legal h g) ∙ ap (λ cells. word_at m.frames cells byte) (cells_same c m k s quiet)
+word_stays c m k s byte f f' legal quiet h g = grind (arith, same_word, frame_stays, nat_tests)
 
 -- Where an object is zeroed.
 

@@ -3,12 +3,12 @@ use Rattle.std.proofs.Common.{List, None, Some, [], arith, inl, inr, length, ref
 use Rattle.vm_model.specs.Calls.{Answered}
 use Rattle.vm_model.specs.Chunks.{ObjectAt}
 use Rattle.vm_model.specs.Effects.{effect_as}
-use Rattle.vm_model.specs.Events.{Event, FreeObject, Section, SettleObject, Unplace}
+use Rattle.vm_model.specs.Events.{Event, Section}
 use Rattle.vm_model.specs.History.{Local, World, callers_from, moved_to, opening_answers, opening_world, started, with_callers}
 use Rattle.vm_model.specs.Legal.{IsLegalAs}
 use Rattle.vm_model.specs.LegalHistory.{Meets}
 use Rattle.vm_model.specs.Next.{Answer, Go, Next, next}
-use Rattle.vm_model.specs.Places.{Place, Populating, SettlingAtomic, SettlingObject, Unplacing, Zeroing, ask}
+use Rattle.vm_model.specs.Places.{Place, ask}
 use Rattle.vm_model.specs.PlainMap.{InHand, PlainMap}
 use Rattle.vm_model.specs.Setup.{Setup}
 use Rattle.vm_model.specs.declared.calls.Call.{Call}
@@ -42,18 +42,10 @@ unnumbered_begins c _ _ = refl
 
 -- another caller's object outlives a section
 hand_lives : (k j : ℕ) (s : Section) → j ≢ k → Kills k s (InHand j) → ⊥
-hand_lives k j (SettleObject at serial) apart e = apart cc
-hand_lives k j (Unplace at) apart e = apart cc
-hand_lives k j (FreeObject at serial) apart e = cc
-hand_lives k j _ apart e = absurd e
+hand_lives k j s apart e = grind arith
 
 hand_stays : (m m' : PlainMap) (j : ℕ) (q : Place) → ((at : ObjectAt) → IsObject m.chunks at (InHand j) → IsObject m'.chunks at (InHand j)) → IsObjectAt m j q → IsObjectAt m' j q
-hand_stays m m' j (Populating at missing) keeps is = keeps at is
-hand_stays m m' j (SettlingObject at) keeps is = keeps at is
-hand_stays m m' j (Unplacing at) keeps is = keeps at is
-hand_stays m m' j (Zeroing at) keeps is = keeps at is
-hand_stays m m' j (SettlingAtomic at) keeps is = keeps at is
-hand_stays m m' j _ keeps is = tt
+hand_stays m m' j q keeps is = grind arith
 
 -- the other callers that are placing objects
 abbrev pub OthersPlace : World → ℕ → (number off : ℕ) → Type 0
@@ -72,8 +64,7 @@ module _ (c : Setup) (w : World) (l : Local) (s : Section) (kept : IsObjectWorld
   after_world events = record { map = effect_as c w.map l.caller s; locals = slice_set w.locals l.caller after_local; events = events }
 
   moved_placed : (n : Next) (number off : ℕ) → next_placed n number off → IsBeingPlaced number off (moved_to l n).place
-  moved_placed (Go p) number off b = b
-  moved_placed (Answer r made) number off b = absurd b
+  moved_placed n number off b = grind arith
 
   joined_placed : (events : List Event) (number off : ℕ) → OthersPlace w l.caller number off ⊎ next_placed (next c l.place s) number off → SomeonePlaces (after_world events) number off
   joined_placed events number off b = others_still (IsBeingPlaced number off) w l.caller l here after_local (effect_as c w.map l.caller s) events

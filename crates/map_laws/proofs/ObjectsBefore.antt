@@ -1,7 +1,7 @@
 -- Where a live object comes from: it was live, or its caller settled it.
-use Rattle.std.proofs.Common.{◌≡◌, ◌≢◌, ℕ, zero, suc, ◌⊎◌, inl, inr, not, ◌==◌, List, [], ◌∷◌, ◌++◌, filter, slice_get, Some, refl, ap, sym, ◌∙◌, subst}
+use Rattle.std.proofs.Common.{◌≡◌, ◌≢◌, ℕ, ◌⊎◌, inl, inr, not, ◌==◌, List, [], ◌∷◌, ◌++◌, filter, refl, ap, sym, ◌∙◌, subst, arith}
 use Rattle.vm_model.specs.Setup.{Setup}
-use Rattle.vm_model.specs.PlainMap.{PlainMap, Chunk, Object, Life, InHand, Lives}
+use Rattle.vm_model.specs.PlainMap.{PlainMap, Chunk, Object, Life, Lives}
 use Rattle.vm_model.specs.Chunks.{ObjectAt, new_chunk, change_chunk, with_object, without_object, with_live_object, with_page}
 use Rattle.vm_model.specs.Events.{Section, PlaceObject, AddChunk, PlaceAtomic, SettleObject, Unplace, FreeObject, Spare, Filled}
 use Rattle.vm_model.specs.Effects.{effect_as}
@@ -22,17 +22,7 @@ pub record IsObjectOf (chunks : List Chunk) (h : Chunk) (at : ObjectAt) (life : 
   pub lives : object.life ≡ life
 
 object_of : (chunks : List Chunk) (h : Chunk) (at : ObjectAt) (life : Life) → IsObjectOf chunks h at life → IsObject chunks at life
-object_of chunks h at life is = record {
-  chunk = h;
-  there = is.there;
-  numbered = is.numbered;
-  based = is.based;
-  object = is.object;
-  object_there = is.object_there;
-  off = is.off;
-  bytes = is.bytes;
-  lives = is.lives;
-}
+object_of chunks h at life is = grind arith
 
 -- chunks of one number whose objects are others: each of the live ones was there
 changed_before : (chunks : List Chunk) (number : ℕ) (change : Chunk → Chunk) (at : ObjectAt) (serial : ℕ) → ((h : Chunk) → (change h).number ≡ h.number) → ((h : Chunk) → (change h).base ≡ h.base)
@@ -64,45 +54,17 @@ changed_before chunks number change at serial numbers bases back is =
 
 -- an object that is placed is in a caller's hand
 placed_back : (k : ℕ) (own : ObjectAt) (serial : ℕ) (h : Chunk) (o : Object) → IsIn o (with_object k own h).objects → o.life ≡ Lives serial → IsIn o h.objects
-placed_back k own serial h o there lives = elim (put_in (λ (o : Object). o.off) (record { off = own.off; bytes = own.bytes; caller = k; life = InHand k }) h.objects o there) [
-  | inl e ↦ absurd (let hand : o.life ≡ InHand k = ap (λ (x : Object). x.life) e in cc)
-  | inr was ↦ was
-]
+placed_back k own serial h o there lives = grind (arith, put_in)
 
 removed_back : (own : ObjectAt) (h : Chunk) (o : Object) → IsIn o (without_object own h).objects → IsIn o h.objects
 removed_back own h o there = (filter_has (λ (o : Object). not (o.off == own.off)) h.objects there.place o there.at).there
 
 -- a new chunk has no object
 new_before : (c : Setup) (chunks : List Chunk) (number base : ℕ) (at : ObjectAt) (life : Life) → IsObject (chunks ++ new_chunk c number base ∷ []) at life → IsObject chunks at life
-new_before c chunks number base at life is = elim (append_cases chunks (new_chunk c number base ∷ []) is.there.place is.chunk is.there.at) [
-  | inl old ↦ object_of chunks is.chunk at life (record {
-    there = record { place = is.there.place; at = old };
-    numbered = is.numbered;
-    based = is.based;
-    object = is.object;
-    object_there = is.object_there;
-    off = is.off;
-    bytes = is.bytes;
-    lives = is.lives;
-  })
-  | inr new ↦ absurd (by_place new.0 new.2)
-]
-  where
-    by_place : (j : ℕ) → slice_get (new_chunk c number base ∷ []) j ≡ Some is.chunk → ⊥
-    by_place zero e = let same : new_chunk c number base ≡ is.chunk = cc in let there = subst (λ (h : Chunk). IsIn is.object h.objects) (sym same) is.object_there in let none = there.at in cc
-    by_place (suc j) e = cc
+new_before c chunks number base at life is = grind (arith, append_cases, object_of)
 
 spared_before : (chunks : List Chunk) (number : ℕ) (at : ObjectAt) (life : Life) → IsObject (filter (λ (h : Chunk). not (h.number == number)) chunks) at life → IsObject chunks at life
-spared_before chunks number at life is = object_of chunks is.chunk at life (record {
-  there = (filter_has (λ (h : Chunk). not (h.number == number)) chunks is.there.place is.chunk is.there.at).there;
-  numbered = is.numbered;
-  based = is.based;
-  object = is.object;
-  object_there = is.object_there;
-  off = is.off;
-  bytes = is.bytes;
-  lives = is.lives;
-})
+spared_before chunks number at life is = grind (arith, object_of, filter_has)
 
 -- an object that was live, or that was settled just now
 pub data CameFrom (chunks : List Chunk) (at : ObjectAt) (serial : ℕ) : Section → Type 0 where

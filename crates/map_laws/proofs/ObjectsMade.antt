@@ -1,17 +1,17 @@
 -- Objects that were made and not freed by their section are live.
-use Rattle.std.proofs.Common.{Bool, List, None, Option, Some, [], ap, arith, false, inl, inr, length, length-append, nat_lt, refl, slice_get, slice_set, subst, suc, sum_by, sym, true, zero, ℕ, ◌&&◌, ◌++◌, ◌+◌, ◌-◌, ◌<◌, ◌==◌, ◌||◌, ◌∙◌, ◌∷◌, ◌≡◌, ◌≢◌, ◌≤◌, ◌⊎◌}
+use Rattle.std.proofs.Common.{Bool, List, Option, Some, [], ap, arith, false, inl, inr, length, length-append, nat_lt, refl, slice_get, slice_set, subst, suc, sum_by, sym, true, zero, ℕ, ◌&&◌, ◌++◌, ◌+◌, ◌-◌, ◌<◌, ◌==◌, ◌||◌, ◌∙◌, ◌∷◌, ◌≡◌, ◌≢◌, ◌≤◌, ◌⊎◌}
 use Rattle.std.proofs.lemmas.Bool.Decides.{nat_tests}
 use Rattle.std.proofs.lemmas.List.Sums.{sum_by-append, sum_by-cons, sum_by-set}
 use Rattle.std.proofs.lemmas.Option.{get_or_from_slice_get, slice_get_within}
 use Rattle.vm_model.specs.Calls.{Answered, is_done, is_free_of, made_in, was_freed}
 use Rattle.vm_model.specs.Chunks.{ObjectAt}
 use Rattle.vm_model.specs.Effects.{effect_as}
-use Rattle.vm_model.specs.Events.{Event, FreeObject, GiveAlloc, Section, SettleObject, Unplace}
+use Rattle.vm_model.specs.Events.{Event, FreeObject, Section, SettleObject}
 use Rattle.vm_model.specs.History.{Local, World, answered, callers_from, moved_to, opening_answers, opening_world, started, with_callers}
 use Rattle.vm_model.specs.Legal.{IsLegalAs}
 use Rattle.vm_model.specs.LegalHistory.{AllOver, Meets}
 use Rattle.vm_model.specs.Next.{Answer, Go, Next, next}
-use Rattle.vm_model.specs.Places.{Adding, AskNothing, FreeingObject, GivingAlloc, Made, MadeArea, MadeNothing, MadeObject, MadePart, Over, Place, SettlingAtomic, SettlingObject, Summing, ask}
+use Rattle.vm_model.specs.Places.{FreeingObject, GivingAlloc, Made, MadeNothing, MadeObject, Over, Place, SettlingAtomic, SettlingObject, ask}
 use Rattle.vm_model.specs.PlainMap.{Life, Lives, PlainMap}
 use Rattle.vm_model.specs.Setup.{Setup}
 use Rattle.vm_model.specs.Space.{one_if}
@@ -60,32 +60,13 @@ pub record AreObjectsMade (w : World) : Type 0 where
 -- What is made.
 
 no_count : (serial : ℕ) (made : Made) → IsNoObject made → is_made serial made ≡ 0
-no_count serial MadeNothing is = refl
-no_count serial (MadeArea start own) is = refl
-no_count serial (MadePart cpu page own) is = refl
-no_count serial (MadeObject at own) is = absurd is
-
-no_live : (m : PlainMap) (made : Made) → IsNoObject made → IsMadeLive m made
-no_live m MadeNothing is = tt
-no_live m (MadeArea start own) is = tt
-no_live m (MadePart cpu page own) is = tt
-no_live m (MadeObject at own) is = absurd is
-
-same_live : (m m' : PlainMap) (made : Made) → m'.chunks ≡ m.chunks → IsMadeLive m made → IsMadeLive m' made
-same_live m m' MadeNothing e is = tt
-same_live m m' (MadeArea start own) e is = tt
-same_live m m' (MadePart cpu page own) e is = tt
-same_live m m' (MadeObject at own) e is = subst (λ chunks. IsObject chunks at (Lives own)) (sym e) is
+no_count serial made is = grind (arith, nat_tests)
 
 none_made : (n : Next) → IsMakingNone n → IsNoObject (next_made n)
-none_made (Go p) is = is.1
-none_made (Answer r made) is = is
+none_made n is = grind (arith, nat_tests)
 
 unusing_now : (l : Local) (p : Place) → is_using p ≡ false → IsNow l p
-unusing_now l (FreeingObject at serial) e = cc
-unusing_now l (Adding at serial cpu index amount) e = cc
-unusing_now l (Summing at serial index) e = cc
-unusing_now l _ e = tt
+unusing_now l p e = grind (arith, nat_tests)
 
 abbrev IsGrounded : Place → Type 0
 IsGrounded p = flight p ≡ MadeNothing
@@ -99,13 +80,6 @@ abbrev gives : ℕ → Section → ℕ
 gives serial (SettleObject at own) = one_if (own == serial)
 gives serial _ = 0
 
--- a section that ends a live object
-killed_is : (k : ℕ) (s : Section) (serial : ℕ) → Kills k s (Lives serial) → (at : ObjectAt) × (s ≡ FreeObject at serial)
-killed_is k (SettleObject at own) serial e = cc
-killed_is k (Unplace at) serial e = cc
-killed_is k (FreeObject at own) serial e = (at, let same : serial ≡ own = cc in ap (λ n. FreeObject at n) (sym same))
-killed_is k _ serial e = absurd e
-
 made_one : (at : ObjectAt) (serial : ℕ) (made : Made) → made ≡ MadeObject at serial → is_made serial made ≡ 1
 made_one at serial made e = ap (is_made serial) e ∙ ap one_if (same_test serial)
 
@@ -117,8 +91,7 @@ freed_append [] a n = or_false (is_free_of n a.call && is_done a.reply)
 freed_append (x ∷ answers) a n = ap (λ b. (is_free_of n x.call && is_done x.reply) || b) (freed_append answers a n) ∙ or_assoc (is_free_of n x.call && is_done x.reply) (was_freed answers n) (is_free_of n a.call && is_done a.reply)
 
 pub made_some : (o : Option Answered) (at : ObjectAt) (serial : ℕ) → made_in o ≡ MadeObject at serial → (a : Answered) × (o ≡ Some a) × (a.made ≡ MadeObject at serial)
-made_some None at serial e = cc
-made_some (Some a) at serial e = (a, refl, e)
+made_some o at serial e = grind (arith, nat_tests)
 
 -- a caller that frees an object which it made
 pub record IsFreeing (l : Local) (s : Section) (serial : ℕ) : Type 0 where
@@ -148,15 +121,7 @@ module _ (c : Setup) (w : World) (l : Local) (s : Section) (kept : AreObjectsMad
   next_count serial _ true e v = cc
 
   given_more : (serial : ℕ) (x : Section) → IsLegalAs c w.map l.caller x → one_if (nat_lt serial w.map.next_object) + gives serial x ≤ one_if (nat_lt serial (effect_as c w.map l.caller x).next_object)
-  given_more serial (SettleObject at own) legal = by_test (own == serial) refl (nat_lt serial w.map.next_object) refl
-    where
-      by_test : (t : Bool) → (own == serial) ≡ t → (b : Bool) → nat_lt serial w.map.next_object ≡ b → one_if (nat_lt serial w.map.next_object) + one_if (own == serial) ≤ one_if (nat_lt serial (suc own))
-      by_test true e true f = absurd (let same = to_same own serial e in let less : serial < w.map.next_object = grind (arith, nat_tests) in let is = legal.1 in omega arith)
-      by_test true e false f = let same = to_same own serial e in let less : nat_lt serial (suc own) ≡ true = (let l : serial < suc own = omega arith in grind (arith, nat_tests)) in omega (arith, ap one_if e, ap one_if f, ap one_if less)
-      by_test false e true f = let less : nat_lt serial (suc own) ≡ true = (let l : serial < w.map.next_object = grind (arith, nat_tests) in let is = legal.1 in let m : serial < suc own = omega arith in grind (arith, nat_tests)) in
-          omega (arith, ap one_if e, ap one_if f, ap one_if less)
-      by_test false e false f = omega (arith, ap one_if e, ap one_if f)
-  given_more serial x legal = omega arith
+  given_more serial x legal = grind (arith, to_same, nat_tests)
 
   abbrev after_answer : Call → Reply → Made → Answered
   after_answer own r made = record { call = own; reply = r; made = made; own_event = suc l.events }
@@ -180,18 +145,10 @@ module _ (c : Setup) (w : World) (l : Local) (s : Section) (kept : AreObjectsMad
   -- What stays live.
 
   freeing : (serial : ℕ) → Kills l.caller s (Lives serial) → IsFreeing l s serial
-  freeing serial kill =
-      let is = killed_is l.caller s serial kill in
-      let place = freeing_place c l.place is.0 serial (subst (Meets c (ask c l.place)) is.1 meets) in
-      let now = subst (IsNow l) place (kept.now l.caller l here) in
-      let made = made_some (slice_get l.answers (now.0.call - 1)) is.0 serial now.3 in
-      record { at = is.0; target = now.0; some = now.1; call = now.2; answer = made.0; there = made.1; made = made.2; section = is.1; place = place }
+  freeing serial kill = grind (arith, freeing_place, made_some, there, nat_tests)
 
   keep_made : (made : Made) → IsMadeLive w.map made → ((at : ObjectAt) (serial : ℕ) → made ≡ MadeObject at serial → Kills l.caller s (Lives serial) → ⊥) → IsMadeLive after_map made
-  keep_made MadeNothing is never = tt
-  keep_made (MadeArea start own) is never = tt
-  keep_made (MadePart cpu page own) is never = tt
-  keep_made (MadeObject at own) is never = keeps at (Lives own) is (never at own refl)
+  keep_made made is never = grind (arith, nat_tests)
 
   -- another caller made another object
   other_apart : (j : ℕ) (x : Local) (serial : ℕ) → slice_get w.locals j ≡ Some x → j ≢ l.caller → 1 ≤ made_count serial x → Kills l.caller s (Lives serial) → ⊥
@@ -218,10 +175,10 @@ module _ (c : Setup) (w : World) (l : Local) (s : Section) (kept : AreObjectsMad
 
   -- the object that a section makes is live
   made_live : (p : Place) (b : Bool) → makes_object p ≡ b → Meets c (ask c p) s → IsObjectAt w.map l.caller p → IsMadeLive w.map (flight p) → IsMadeLive after_map (next_made (next c p s))
-  made_live p false e v at is = no_live after_map (next_made (next c p s)) (none_made (next c p s) (making_none c p s e))
+  made_live p false e v at is = grind (arith, next_made, none_made, making_none, nat_tests)
   made_live (SettlingObject object) true e v at is = subst (λ (x : Section). IsMadeLive (effect_as c w.map l.caller x) (next_made (next c (SettlingObject object) x))) (sym v.1) (lived_object c placing placing l.caller object v.0 w.map.chunks fine at)
   made_live (SettlingAtomic object) true e v at is = subst (λ (x : Section). IsMadeLive (effect_as c w.map l.caller x) (next_made (next c (SettlingAtomic object) x))) (sym v.1) (lived_object c placing placing l.caller object v.0 w.map.chunks fine at)
-  made_live (GivingAlloc r made) true e v at is = subst (λ (x : Section). IsMadeLive (effect_as c w.map l.caller x) made) (sym v) (same_live w.map (effect_as c w.map l.caller GiveAlloc) made refl is)
+  made_live (GivingAlloc r made) true e v at is = grind (arith, nat_tests)
   made_live _ true e v at is = cc
 
   next_live : (n : Next) → next c l.place s ≡ n → IsMadeLive after_map (next_made n)
@@ -260,23 +217,17 @@ module _ (c : Setup) (w : World) (l : Local) (s : Section) (kept : AreObjectsMad
   -- What stays of the caller.
 
   next_unusing : (p : Place) (b : Bool) → makes_object p ≡ b → OnNext (λ q. is_using q ≡ false) (next c p s)
-  next_unusing p false e = of_next (next c p s) (making_none c p s e)
-    where
-      of_next : (n : Next) → IsMakingNone n → OnNext (λ q. is_using q ≡ false) n
-      of_next (Go q) is = is.0
-      of_next (Answer r made) is = tt
+  next_unusing p false e = grind (arith, making_none, is_using, nat_tests)
   next_unusing (SettlingObject at) true e = refl
   next_unusing (SettlingAtomic at) true e = tt
   next_unusing (GivingAlloc r made) true e = tt
   next_unusing _ true e = cc
 
   own_calls : (n : Next) → (moved_to l n).calls ≡ l.calls
-  own_calls (Go p) = refl
-  own_calls (Answer r made) = ap (λ (x : Local). x.calls) (answers_call l r made call).2
+  own_calls n = grind (arith, answers_call, nat_tests)
 
   own_opening : (n : Next) → (moved_to l n).opening ≡ l.opening
-  own_opening (Go p) = refl
-  own_opening (Answer r made) = ap (λ (x : Local). x.opening) (answers_call l r made call).2
+  own_opening n = grind (arith, answers_call, nat_tests)
 
   own_now : (n : Next) → next c l.place s ≡ n → IsNow (moved_to l n) (moved_to l n).place
   own_now (Go p) e = unusing_now (moved_to l (Go p)) p (subst (OnNext (λ q. is_using q ≡ false)) e (next_unusing l.place (makes_object l.place) refl))
@@ -289,8 +240,7 @@ module _ (c : Setup) (w : World) (l : Local) (s : Section) (kept : AreObjectsMad
 
   -- the first caller has ended, and so isn't this one
   opened_stays : (events : List Event) (answers : List Answered) → IsOpened w answers → IsOpened (after_world events) answers
-  opened_stays events answers (inl none) = inl none
-  opened_stays events answers (inr is) = inr (is.0, set_other w.locals l.caller 0 after_local (λ e. moves (let at = is.1 in let f : slice_get w.locals 0 ≡ Some l = ap (slice_get w.locals) e ∙ here in let same : is.0 ≡ l = cc in ap (λ (x : Local). x.place) (sym same) ∙ is.2)) ∙ is.1, is.2, is.3)
+  opened_stays events answers x2 = grind (arith, set_other, nat_tests)
 
   pub made_step : (m' : PlainMap) → m' ≡ after_map → (locals : List Local) → locals ≡ slice_set w.locals l.caller after_local → (events : List Event) → AreObjectsMade (record { map = m'; locals = locals; events = events })
   made_step m' e locals f events = subst (λ m. AreObjectsMade (record { map = m; locals = locals; events = events })) (sym e) (subst (λ ls. AreObjectsMade (record { map = after_map; locals = ls; events = events })) (sym f) (record {
@@ -344,17 +294,9 @@ module _ (c : Setup) (answers : List Answered) where
     now = begun_now (started c answers k own) c named (slice_get own 0) refl;
   }
 
-over_place : (c : Setup) (p : Place) → ask c p ≡ AskNothing → p ≡ Over
-over_place c Over e = refl
-over_place c _ e = cc
-
 module _ (c : Setup) (opening : List Call) (calls : List (List Call)) (named : (k : ℕ) (own : List Call) → slice_get calls k ≡ Some own → AreWellNamed own) where
   first_opened : (w : World) → length w.locals ≡ 1 → AllOver w.locals → IsOpened (with_callers c calls w) (opening_answers w.locals)
-  first_opened w one over = by_locals w.locals refl one over
-    where
-      by_locals : (locals : List Local) → w.locals ≡ locals → length locals ≡ 1 → AllOver locals → IsOpened (with_callers c calls w) (opening_answers locals)
-      by_locals [] e one over = inl refl
-      by_locals (l ∷ locals) e one over = inr (l, append_first w.locals _ 0 l (ap (λ ls. slice_get ls 0) e), over_place l.setup l.place over.0, refl)
+  first_opened w one over = grind (arith, append_first, nat_tests)
 
   pub made_joins : (w : World) → length w.locals ≡ 1 → AreObjectsMade w → AllOver w.locals → AreObjectsMade (with_callers c calls w)
   made_joins w one is over = record {

@@ -1,9 +1,8 @@
 -- What a section needs of chunks and objects holds at its place, so that every history is legal.
-use Rattle.std.proofs.Common.{Bool, List, Some, [], ap, arith, false, if◌then◌else◌, inl, inr, refl, slice_get, subst, suc, sym, true, ℕ, ◌+◌, ◌-◌, ◌<◌, ◌==◌, ◌||◌, ◌∙◌, ◌∷◌, ◌≡◌, ◌≤◌, ◌⊎◌}
+use Rattle.std.proofs.Common.{Bool, List, Some, [], ap, arith, false, inl, inr, refl, slice_get, subst, sym, true, ℕ, ◌+◌, ◌<◌, ◌==◌, ◌∙◌, ◌∷◌, ◌≡◌, ◌≤◌, ◌⊎◌}
 use Rattle.std.proofs.lemmas.Option.{slice_get_within}
 use Rattle.std.specs.List.{list_any}
 use Rattle.vm_model.specs.Areas.{areas_at, spans_of}
-use Rattle.vm_model.specs.Calls.{Answered, made_in, was_freed}
 use Rattle.vm_model.specs.Carried.{IsBeingPopulated, count_of, has_alloc}
 use Rattle.vm_model.specs.Chunks.{ObjectAt, chunks_numbered, life_of_object, object_pages, pages_of_object, touches}
 use Rattle.vm_model.specs.Events.{Section}
@@ -13,14 +12,13 @@ use Rattle.vm_model.specs.History.{Local, World, step}
 use Rattle.vm_model.specs.Laws.{HistoriesAreLegal}
 use Rattle.vm_model.specs.Legal.{AreStarts, CanFill, IsBare, IsLegalAs, IsMapped, IsUnmapped, OnPages}
 use Rattle.vm_model.specs.Next.{next}
-use Rattle.vm_model.specs.Places.{Adding, AddingChunk, Depopulating, Filling, MadeObject, NotingFilled, Place, Populating, SettlingAtomic, SettlingObject, Summing, UnlinkingGroups, Unplacing, Zeroing, ask, group_starts}
+use Rattle.vm_model.specs.Places.{Adding, AddingChunk, Depopulating, Filling, NotingFilled, Place, Populating, SettlingAtomic, SettlingObject, Summing, UnlinkingGroups, Unplacing, Zeroing, ask, group_starts}
 use Rattle.vm_model.specs.PlainMap.{Chunk, InHand, Life, Lives, Object, is_in_hand}
 use Rattle.vm_model.specs.Rules.{IsSetup}
 use Rattle.vm_model.specs.Setup.{Setup, groups_at, pages_in_units}
 use Rattle.vm_model.specs.Space.{covers, is_among, times}
 use Rattle.vm_model.specs.declared.areas.Area.{Area}
 use Rattle.vm_model.specs.declared.areas.Span.{Span}
-use Rattle.vm_model.specs.declared.calls.Target.{Target}
 use Rattle.map_laws.proofs.AreaFacts.{IsHolding}
 use Rattle.map_laws.proofs.AreaWorlds.{IsLegalStep}
 use Rattle.map_laws.proofs.BlockFacts.{IsBlockAt, among_count, block_out, block_starts, same_test, to_same}
@@ -39,7 +37,7 @@ use Rattle.map_laws.proofs.Namings.{starts_once}
 use Rattle.map_laws.proofs.ObjectFacts.{AreChunksFine, IsBeingPlaced, IsObject, IsObjectAt, object_life, same_chunk}
 use Rattle.map_laws.proofs.ObjectLaws.{object_done, populated_mapped}
 use Rattle.map_laws.proofs.ObjectWorlds.{OthersPlace, SomeonePlaces, objects_here}
-use Rattle.map_laws.proofs.ObjectsMade.{IsMadeLive, made_some}
+use Rattle.map_laws.proofs.ObjectsMade.{made_some}
 use Rattle.map_laws.proofs.StepFalls.{has_room}
 use Rattle.map_laws.proofs.TraceWorlds.{IsTraceWorld, areas_once, holding_here, own_names, proper_here, trace_first, trace_lasts}
 use Rattle.vm_model.specs.declared.areas.AreaKind.TheVariants as kind
@@ -50,17 +48,10 @@ first_in x (y ∷ xs) there = (y, refl)
 
 any_in : (test : Object → Bool) (xs : List Object) → list_any test xs ≡ true → (o : Object) × IsIn o xs × (test o ≡ true)
 any_in test [] e = cc
-any_in test (x ∷ xs) e = by_test (test x) refl e (any_in test xs)
-  where
-    by_test : (t : Bool) → test x ≡ t → (t || list_any test xs) ≡ true → (list_any test xs ≡ true → (o : Object) × IsIn o xs × (test o ≡ true)) → (o : Object) × IsIn o (x ∷ xs) × (test o ≡ true)
-    by_test true f g more = (x, record { place = 0; at = refl }, f)
-    by_test false f g more = let is = more g in (is.0, in_more is.0 x xs is.1, is.2)
+any_in test (x ∷ xs) e = grind (arith, any_in test xs, in_more)
 
 placed_alloc : (p : Place) (number off : ℕ) → IsBeingPlaced number off p → has_alloc p ≡ true
-placed_alloc (Populating at missing) number off b = refl
-placed_alloc (SettlingObject at) number off b = refl
-placed_alloc (Unplacing at) number off b = refl
-placed_alloc _ number off b = absurd b
+placed_alloc p number off b = grind arith
 
 module _ (c : Setup) (setup : IsSetup c) (w : World) (framed : IsFramed c w) (is : IsTraceWorld c w) (k : ℕ) (l : Local) (here : slice_get w.locals k ≡ Some l) where
   once_page : (page : ℕ) → times page (spans_of w.map.areas) ≤ 1
@@ -93,23 +84,8 @@ module _ (c : Setup) (setup : IsSetup c) (w : World) (framed : IsFramed c w) (is
         (ap (λ n. is_among (pages_of_bytes n object.object.bytes) page) object.off ∙ ap (λ n. is_among (pages_of_bytes at.off n) page) object.bytes ∙ e)),
   )
 
-  -- an object that a call names is live
-  target_live : (answers : List Answered) (t : Target) (at : ObjectAt) (serial : ℕ) → ((i : ℕ) (a : Answered) → slice_get answers i ≡ Some a → was_freed answers (suc i) ≡ false → IsMadeLive w.map a.made) → 1 ≤ t.call
-      → made_in (slice_get answers (t.call - 1)) ≡ MadeObject at serial → was_freed answers t.call ≡ false → IsObject w.map.chunks at (Lives serial)
-  target_live answers t at serial live some made free =
-      let a = made_some (slice_get answers (t.call - 1)) at serial made in
-      let number : suc (t.call - 1) ≡ t.call = omega arith in
-      subst (IsMadeLive w.map) a.2 (live (t.call - 1) a.0 a.1 (ap (was_freed answers) number ∙ free))
-
-  named_by : (t : Target) (at : ObjectAt) (serial : ℕ) (b : Bool) → 1 ≤ t.call → made_in (slice_get (if b then l.opening else l.answers) (t.call - 1)) ≡ MadeObject at serial → was_freed (if b then l.opening else l.answers) t.call ≡ false → IsObject w.map.chunks at (Lives serial)
-  named_by t at serial false some made free = target_live l.answers t at serial (λ i a e f. is.uses.live k i l a here e f) some made free
-  named_by t at serial true some made free = elim (is.uses.opening k l here) [
-    | inl none ↦ (let nothing : made_in (slice_get [] (t.call - 1)) ≡ MadeObject at serial = ap (λ answers. made_in (slice_get answers (t.call - 1))) (sym none) ∙ made in cc)
-    | inr first ↦ target_live first.0.answers t at serial (λ i a e f. is.uses.live 0 i first.0 a first.1 e f) some (ap (λ answers. made_in (slice_get answers (t.call - 1))) (sym first.3) ∙ made) (ap (λ answers. was_freed answers t.call) (sym first.3) ∙ free)
-  ]
-
   pub named_live : (at : ObjectAt) (serial : ℕ) → IsNamedObject l at serial → IsObject w.map.chunks at (Lives serial)
-  named_live at serial now = named_by now.0 at serial now.0.opening now.1 now.2 now.3
+  named_live at serial now = grind (arith, made_some)
 
   -- no object has a byte in a page that isn't populated, while nobody is placing one
   untouched_page : has_alloc l.place ≡ true → ((number off : ℕ) → IsBeingPlaced number off l.place → ⊥) → (h : Chunk) → IsIn h w.map.chunks → (page : ℕ) → slice_get h.populated page ≡ Some false → list_any (touches page) h.objects ≡ false

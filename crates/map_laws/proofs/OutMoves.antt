@@ -1,5 +1,5 @@
 -- What the sections that settle, remove and unlink areas do to pages, and those inside of blocks and chunks.
-use Rattle.std.proofs.Common.{Bool, List, Some, [], ap, arith, false, filter, if◌then◌else◌, inl, inr, length, map, not, option_map, refl, slice_get, suc, sum_by, sym, true, zero, ℕ, ◌+◌, ◌||◌, ◌∙◌, ◌∷◌, ◌≡◌, ◌≢◌, ◌≤◌, ◌⊎◌, Option, subst}
+use Rattle.std.proofs.Common.{Bool, List, Some, [], ap, arith, false, filter, if◌then◌else◌, inl, inr, length, map, not, option_map, refl, slice_get, suc, sum_by, sym, true, zero, ℕ, ◌+◌, ◌∙◌, ◌∷◌, ◌≡◌, ◌≢◌, ◌≤◌, ◌⊎◌, Option, subst}
 use Rattle.std.proofs.lemmas.List.Sums.{sum_by-cons}
 use Rattle.vm_model.proofs.Paint.{slice_get-paint}
 use Rattle.vm_model.specs.Areas.{areas_of, areas_starting, mapped_part, mark_live, spans_of, with_areas, is_area, named_areas}
@@ -23,7 +23,7 @@ use Rattle.map_laws.proofs.Lists.{same_or, there}
 use Rattle.map_laws.proofs.Quiet.{area_times, held_fine, live_fine, page_by, painted_free, times_areas, times_both}
 use Rattle.map_laws.proofs.PlaceMoves.{IsMoved, unbearing_own, unbearing_uses}
 use Rattle.map_laws.proofs.Places.{IsPlainKind, OnNext}
-use Rattle.map_laws.proofs.Spans.{InSpans, Inside, Outside, covers_one, covers_times, in_spans, none_covers, times-cons, times-one}
+use Rattle.map_laws.proofs.Spans.{covers_one, covers_times, in_spans, none_covers, times-cons, times-one}
 use Rattle.map_laws.proofs.Touched.{IsSame, painted, spans_of-areas_of, touch, unmarked_live, untouched}
 
 -- What the sections that settle, remove and unlink areas do to the pages that their caller holds, and to the map.
@@ -31,11 +31,7 @@ use Rattle.map_laws.proofs.Touched.{IsSame, painted, spans_of-areas_of, touch, u
 -- Areas put among others.
 
 pub times_in : (page : ℕ) (spans : List Span) → 1 ≤ times page spans → covers spans page ≡ true
-times_in page spans h = by_in (in_spans page spans)
-  where
-    by_in : InSpans page spans → covers spans page ≡ true
-    by_in (Inside e n) = e
-    by_in (Outside e n) = absurd (omega arith)
+times_in page spans h = grind (arith, in_spans)
 
 pub with_in : (xs areas : List Area) (a : Area) → IsIn a (with_areas xs areas) → IsIn a xs ⊎ IsIn a areas
 with_in [] areas a h = inr h
@@ -53,15 +49,10 @@ with_times page xs areas = omega (arith, times_areas page (with_areas xs areas),
 
 -- Marks of settled areas.
 
-cover_by : (page : ℕ) (x : Area) (xs : List Area) (b : Bool) → holds x.span page ≡ b → (b || covers (spans_of xs) page) ≡ true → (covers (spans_of xs) page ≡ true → (a : Area) × IsIn a xs × (holds a.span page ≡ true))
-    → (a : Area) × IsIn a (x ∷ xs) × (holds a.span page ≡ true)
-cover_by page x xs true e h more = (x, record { place = 0; at = refl }, e)
-cover_by page x xs false e h more = let is = more h in (is.0, in_more is.0 x xs is.1, is.2)
-
 -- a page of the spans is in one of the areas
 pub covering : (page : ℕ) (xs : List Area) → covers (spans_of xs) page ≡ true → (a : Area) × IsIn a xs × (holds a.span page ≡ true)
 covering page [] h = cc
-covering page (x ∷ xs) h = cover_by page x xs _ refl h (covering page xs)
+covering page (x ∷ xs) h = grind (arith, covering page xs, in_more)
 
 some_painted : (test : ℕ → Bool) (mark : Mark) (marks : List Mark) (page : ℕ) (old : Mark) → slice_get marks page ≡ Some old → (new : Mark) × (slice_get (paint test mark marks) page ≡ Some new)
 some_painted test mark marks page old h = ((if test page then mark else old), slice_get-paint test mark marks page ∙ ap (option_map (λ y. if test page then mark else y)) h)
@@ -69,32 +60,22 @@ some_painted test mark marks page old h = ((if test page then mark else old), sl
 pub live_in : (xs : List Area) (marks : List Mark) (page : ℕ) (old : Mark) (i : ℕ) (a : Area) → times page (spans_of xs) ≤ 1 → slice_get xs i ≡ Some a → holds a.span page ≡ true → slice_get marks page ≡ Some old
     → slice_get (mark_live xs marks) page ≡ Some (Live a.serial)
 live_in [] marks page old i a once h e there = cc
-live_in (x ∷ xs) marks page old zero a once h e there =
-    let same : x ≡ a = cc in
-    let t : holds x.span page ≡ true = ap (λ (y : Area). holds y.span page) same ∙ e in
-    let others : covers (spans_of xs) page ≡ false = none_covers page (spans_of xs) (omega (arith, times-cons page x.span (spans_of xs), ap one_if t)) in
-    unmarked_live xs (paint (holds x.span) (Live x.serial) marks) page others ∙ painted (holds x.span) (Live x.serial) old marks page t there ∙ ap (λ (y : Area). Some (Live y.serial)) same
+live_in (x ∷ xs) marks page old zero a once h e there = grind (arith, none_covers, times-cons, unmarked_live, painted, there)
 live_in (x ∷ xs) marks page old (suc i) a once h e there =
     let new = some_painted (holds x.span) (Live x.serial) marks page old there in
     live_in xs (paint (holds x.span) (Live x.serial) marks) page new.0 i a (omega (arith, times-cons page x.span (spans_of xs))) h e new.1
-
-sum_first : {X : Type 0} (f : X → ℕ) (x : X) (xs : List X) (b : X) (j : ℕ) → slice_get xs j ≡ Some b → f x + f b ≤ sum_by f (x ∷ xs)
-sum_first f x xs b j h = omega (arith, sum_has f xs b j h, sum_by-cons f x xs)
 
 -- two elements at different places
 pub sum_two : {X : Type 0} (f : X → ℕ) (xs : List X) (i j : ℕ) (a b : X) → slice_get xs i ≡ Some a → slice_get xs j ≡ Some b → i ≢ j → f a + f b ≤ sum_by f xs
 sum_two f [] i j a b h g n = cc
 sum_two f (x ∷ xs) zero zero a b h g n = absurd (n refl)
-sum_two f (x ∷ xs) zero (suc j) a b h g n = let same : x ≡ a = cc in omega (arith, sum_first f x xs b j g, ap f same)
-sum_two f (x ∷ xs) (suc i) zero a b h g n = let same : x ≡ b = cc in omega (arith, sum_first f x xs a i h, ap f same)
+sum_two f (x ∷ xs) zero (suc j) a b h g n = grind (arith, sum_has, sum_by-cons)
+sum_two f (x ∷ xs) (suc i) zero a b h g n = grind (arith, sum_has, sum_by-cons)
 sum_two f (x ∷ xs) (suc i) (suc j) a b h g n = omega (arith, sum_two f xs i j a b h g (λ e. n (ap suc e)), sum_by-cons f x xs)
 
 -- two areas with one page are the same
 pub same_area : (page : ℕ) (areas : List Area) (i j : ℕ) (a b : Area) → times page (spans_of areas) ≤ 1 → slice_get areas i ≡ Some a → slice_get areas j ≡ Some b → holds a.span page ≡ true → holds b.span page ≡ true → i ≡ j
-same_area page areas i j a b once h g e f = elim (same_or i j) [
-  | inl same ↦ same
-  | inr n ↦ absurd (omega (arith, sum_two (λ (a : Area). one_if (holds a.span page)) areas i j a b h g n, times_areas page areas, ap one_if e, ap one_if f))
-]
+same_area page areas i j a b once h g e f = grind (arith, same_or, sum_two, times_areas)
 
 -- what is in an area that is neither plain nor about to be
 pub record IsInside (m : PlainMap) (page : ℕ) : Type 0 where
@@ -190,11 +171,7 @@ module _ (c : Setup) (m : PlainMap) (k : ℕ) (fine : IsMapFine m) where
     out_source page t = let a = removed page t in omega (arith, times_both page q r other m.areas)
 
     pub out_free : (test : ℕ → Bool) → (effect_as c m k s).marks ≡ paint test (Held k) m.marks → (page : ℕ) → as_free (slice_get (effect_as c m k s).marks page) ≤ as_free (slice_get m.marks page)
-    out_free test e page = let now = ap (λ l. as_free (slice_get l page)) e in omega (arith, painted_free test (Held k) m.marks page refl, zero_or (test page) (as_free (slice_get m.marks page)))
-      where
-        zero_or : (b : Bool) (n : ℕ) → (if b then 0 else n) ≤ n
-        zero_or true n = omega arith
-        zero_or false n = omega arith
+    out_free test e page = grind (arith, painted_free)
 
 -- What the sections that take areas out, and those inside blocks and chunks, do to the pages that their caller holds, and to the map.
 
@@ -271,25 +248,10 @@ module _ (c : Setup) (m : PlainMap) (k : ℕ) (fine : IsMapFine m) where
     }
 
     pub to_purge : (extra : Option Span) (after : Then) (gone : List ℕ) → spans ≡ block_spans c gone → IsReceiver (PurgeWaiting gone extra after)
-    to_purge extra after gone e = record {
-      held_is = sym e;
-      flushed_is = refl;
-      own = λ marked unmapped. record {
-        held = λ page h. marked page (ap (λ l. covers l page) e ∙ h);
-        flushed = λ page h. cc;
-        bare = λ page h. cc;
-        mapped = λ page h. cc;
-        unmapped = λ page h. unmapped page (ap (λ l. covers l page) e ∙ h);
-        hull = tt;
-      };
-    }
+    to_purge extra after gone e = grind arith
 
     pub to_waiting : (after : Then) → IsReceiver (Waiting spans after)
-    to_waiting after = record {
-      held_is = refl;
-      flushed_is = refl;
-      own = λ marked unmapped. record { held = marked; flushed = λ page h. cc; bare = λ page h. cc; mapped = λ page h. cc; unmapped = unmapped; hull = tt };
-    }
+    to_waiting after = grind arith
 
   -- Frames inside blocks and chunks.
 

@@ -1,12 +1,12 @@
 -- A frame is one page's, and a stale page has none.
-use Rattle.std.proofs.Common.{◌≡◌, ◌≢◌, ℕ, zero, suc, ◌≤◌, inl, inr, Bool, true, false, not, ◌||◌, ◌==◌, cond, if◌then◌else◌, List, [], ◌∷◌, length, filter, slice_get, slice_set, replicate, Option, Some, None, option_map, refl, ap, sym, ◌∙◌, subst, arith}
+use Rattle.std.proofs.Common.{◌≡◌, ◌≢◌, ℕ, zero, suc, ◌≤◌, Bool, true, false, not, ◌||◌, ◌==◌, cond, List, [], ◌∷◌, length, filter, slice_get, slice_set, replicate, Option, Some, None, refl, sym, ◌∙◌, arith}
 use Rattle.std.proofs.lemmas.Bool.Decides.{nat_tests}
 use Rattle.vm_model.specs.declared.calls.Call.{Call}
-use Rattle.vm_model.specs.Space.{holds, is_among, count_from, pages_of, paint}
-use Rattle.vm_model.specs.Setup.{Setup, pages_in_units}
+use Rattle.vm_model.specs.Space.{holds, count_from, paint}
+use Rattle.vm_model.specs.Setup.{Setup}
 use Rattle.vm_model.specs.PlainMap.{PlainMap}
 use Rattle.vm_model.specs.Frames.{is_used, free_frames, give_frames}
-use Rattle.vm_model.specs.Legal.{IsUnmapped, IsBare, IsLegalAs}
+use Rattle.vm_model.specs.Legal.{IsUnmapped, IsLegalAs}
 use Rattle.vm_model.specs.Events.{Section, MapPages, Populate, Fill, Unmap, Depopulate, Flush}
 use Rattle.vm_model.specs.Effects.{effect_as}
 use Rattle.vm_model.specs.History.{opening_world}
@@ -16,8 +16,6 @@ use Rattle.map_laws.proofs.Spans.{covers_one, holds_from}
 use Rattle.map_laws.proofs.Touched.{painted, unpainted, ungiven, in_row}
 use Rattle.std.proofs.lemmas.List.{length-replicate}
 use Rattle.std.proofs.lemmas.Option.{slice_get_within}
-use Rattle.vm_model.specs.declared.areas.Span.{Span}
-use Rattle.vm_model.specs.Space.{covers}
 use Rattle.map_laws.proofs.PlaceMoves.{length-give_frames}
 use Rattle.map_laws.proofs.AreaWorlds.{IsLegallyLasting}
 
@@ -30,13 +28,9 @@ rising_low : (low high : ℕ) (xs : List ℕ) → low ≤ high → AreRising hig
 rising_low low high [] h r = tt
 rising_low low high (x ∷ xs) h r = let a = r.0 in ((omega arith), r.1)
 
-rising_if : (p : ℕ → Bool) (low x : ℕ) (xs : List ℕ) (b : Bool) → low ≤ x → AreRising (suc x) (filter p xs) → AreRising low (cond b (x ∷ filter p xs) (filter p xs))
-rising_if p low x xs true h r = (h, r)
-rising_if p low x xs false h r = rising_low low (suc x) (filter p xs) (omega arith) r
-
 rising_filter : (p : ℕ → Bool) (low : ℕ) (xs : List ℕ) → AreRising low xs → AreRising low (filter p xs)
 rising_filter p low [] r = tt
-rising_filter p low (x ∷ xs) r = rising_if p low x xs (p x) r.0 (rising_filter p (suc x) xs r.1)
+rising_filter p low (x ∷ xs) r = grind (arith, rising_filter p (suc x) xs r.1, rising_low, nat_tests)
 
 rising_row : (n first : ℕ) → AreRising first (count_from n first)
 rising_row zero first = tt
@@ -52,11 +46,10 @@ used_by f own frames true e h = cc
 used_by f own frames false e h = ((λ same. (let no : own ≡ f = same in grind (arith, nat_tests))), h)
 
 unused_nowhere : (f : ℕ) (frames : List (Option ℕ)) → is_used f frames ≡ false → (page : ℕ) → slice_get frames page ≡ Some (Some f) → ⊥
-unused_nowhere f [] h page e = cc
-unused_nowhere f (None ∷ frames) h zero e = cc
 unused_nowhere f (None ∷ frames) h (suc page) e = unused_nowhere f frames h page e
 unused_nowhere f (Some own ∷ frames) h zero e = let apart = (used_by f own frames _ refl h).0 in apart cc
 unused_nowhere f (Some own ∷ frames) h (suc page) e = unused_nowhere f frames (used_by f own frames _ refl h).1 page e
+unused_nowhere f _ h _ e = cc
 
 unused_if : (frames : List (Option ℕ)) (x : ℕ) (xs : List ℕ) (b : Bool) → is_used x frames ≡ b → AreUnused xs frames → AreUnused (cond (not b) (x ∷ xs) xs) frames
 unused_if frames x xs true e more = more
@@ -73,75 +66,32 @@ pub record AreOwn (frames : List (Option ℕ)) : Type 0 where
 -- a frame that comes later isn't the one that is given now
 later_apart : (f : ℕ) (free : List ℕ) (frames : List (Option ℕ)) (p : ℕ) → AreRising (suc f) free → AreUnused free frames → AreUnused free (slice_set frames p (Some f))
 later_apart f [] frames p r u = tt
-later_apart f (g ∷ free) frames p r u = (
-  (λ page e. elim (set_cases frames p page (Some f) (Some g) e) [ inl is ↦ (let same : g ≡ f = cc in let a = r.0 in absurd (omega arith)) | inr is ↦ u.0 page is.1 ]),
-  later_apart f free frames p (rising_low (suc f) (suc g) free (let a = r.0 in omega arith) r.1) u.1,
-)
+later_apart f (g ∷ free) frames p r u = grind (arith, later_apart f free frames p, set_cases, rising_low, nat_tests)
 
 set_own : (frames : List (Option ℕ)) (p f : ℕ) → ((page : ℕ) → slice_get frames page ≡ Some (Some f) → ⊥) → AreOwn frames → AreOwn (slice_set frames p (Some f))
-set_own frames p f unused is = record {
-  own = λ page other frame a b. elim (set_cases frames p page (Some f) (Some frame) a) [
-    | inl here ↦ elim (set_cases frames p other (Some f) (Some frame) b) [ inl too ↦ here.0 ∙ sym too.0 | inr there ↦ absurd (unused other (let same : frame ≡ f = cc in there.1 ∙ ap (λ n. Some (Some n)) same)) ]
-    | inr here ↦ elim (set_cases frames p other (Some f) (Some frame) b) [ inl too ↦ absurd (unused page (let same : frame ≡ f = cc in here.1 ∙ ap (λ n. Some (Some n)) same)) | inr there ↦ is.own page other frame here.1 there.1 ]
-  ];
-}
+set_own frames p f unused is = grind (arith, set_cases, there, nat_tests)
 
 give_own : (pages free : List ℕ) (low : ℕ) (frames : List (Option ℕ)) → AreRising low free → AreUnused free frames → AreOwn frames → AreOwn (give_frames pages free frames)
-give_own [] free low frames r u is = is
-give_own (p ∷ pages) [] low frames r u is = is
 give_own (p ∷ pages) (f ∷ free) low frames r u is = give_own pages free (suc f) (slice_set frames p (Some f)) r.1 (later_apart f free frames p r.1 u.1) (set_own frames p f u.0 is)
+give_own _ _ low frames r u is = is
 
 given_own : (c : Setup) (pages : List ℕ) (frames : List (Option ℕ)) → AreOwn frames → AreOwn (give_frames pages (free_frames c frames) frames)
 given_own c pages frames is = give_own pages (free_frames c frames) 0 frames (rising_filter (λ frame. not (is_used frame frames)) 0 (count_from c.frames 0) (rising_row c.frames 0)) (unused_filter frames (count_from c.frames 0)) is
 
 -- what is still mapped was mapped
 pub still_mapped : (test : ℕ → Bool) (frames : List (Option ℕ)) (page f : ℕ) → slice_get (paint test None frames) page ≡ Some (Some f) → slice_get frames page ≡ Some (Some f)
-still_mapped test frames page f h = by_test (test page) refl
-  where
-    painted_none : (o : Option (Option ℕ)) → option_map (λ (y : Option ℕ). if true then None else y) o ≡ Some (Some f) → ⊥
-    painted_none None e = cc
-    painted_none (Some x) e = cc
-
-    by_test : (b : Bool) → test page ≡ b → slice_get frames page ≡ Some (Some f)
-    by_test true e = absurd (painted_none (slice_get frames page) (sym (slice_get-paint test None frames page ∙ ap (λ b. option_map (λ (y : Option ℕ). if b then None else y) (slice_get frames page)) e) ∙ h))
-    by_test false e = sym (unpainted test None frames page e) ∙ h
+still_mapped test frames page f h = grind (arith, slice_get-paint, unpainted, nat_tests)
 
 unmapped_own : (test : ℕ → Bool) (frames : List (Option ℕ)) → AreOwn frames → AreOwn (paint test None frames)
 unmapped_own test frames is = record { own = λ page other f a b. is.own page other f (still_mapped test frames page f a) (still_mapped test frames other f b) }
 
 pub own_section : (c : Setup) (m : PlainMap) (k : ℕ) (s : Section) → AreOwn m.frames → AreOwn (effect_as c m k s).frames
-own_section c m k (MapPages s) is = given_own c (pages_of s) m.frames is
-own_section c m k (Populate at missing) is = given_own c (pages_in_units c at.base missing) m.frames is
-own_section c m k (Fill base page) is = given_own c (pages_in_units c base (page ∷ [])) m.frames is
-own_section c m k (Unmap s) is = unmapped_own (holds s) m.frames is
-own_section c m k (Depopulate base pages) is = unmapped_own (is_among (pages_in_units c base pages)) m.frames is
-own_section c m k _ is = is
+own_section c m k s is = grind (arith, given_own, unmapped_own, nat_tests)
 
 -- Stale pages.
 
 pub record IsStaleUnmapped (m : PlainMap) : Type 0 where
   pub stale : (page : ℕ) → slice_get m.stale page ≡ Some true → IsUnmapped m page
-
--- pages that are mapped weren't stale
-mapped_clean : (c : Setup) (m : PlainMap) (pages : List ℕ) → ((page : ℕ) → is_among pages page ≡ true → IsBare m page) → IsStaleUnmapped m → (page : ℕ) → slice_get m.stale page ≡ Some true
-    → slice_get (give_frames pages (free_frames c m.frames) m.frames) page ≡ Some None
-mapped_clean c m pages bare is page h = by_test (is_among pages page) refl
-  where
-    by_test : (b : Bool) → is_among pages page ≡ b → slice_get (give_frames pages (free_frames c m.frames) m.frames) page ≡ Some None
-    by_test true e = let clean = (bare page e).not_stale in cc
-    by_test false e = ungiven pages (free_frames c m.frames) m.frames page e ∙ is.stale page h
-
-pages_bare : (m : PlainMap) (s : Span) → ((page : ℕ) → covers (s ∷ []) page ≡ true → IsBare m page) → (page : ℕ) → is_among (pages_of s) page ≡ true → IsBare m page
-pages_bare m s bare page h = let r = in_row s.pages s.start page h in bare page (covers_one s page ∙ holds_from s page r.0 r.1)
-
--- pages that lose their frames
-lost_clean : (test : ℕ → Bool) (m : PlainMap) → length m.stale ≡ length m.frames → IsStaleUnmapped m → (page : ℕ) → slice_get (paint test true m.stale) page ≡ Some true → (b : Bool) → test page ≡ b
-    → slice_get (paint test None m.frames) page ≡ Some None
-lost_clean test m long is page h true e =
-    let within = slice_get_within (paint test true m.stale) page true h in
-    let was = there m.frames page (omega (arith, length-paint_from test true m.stale 0)) in
-    painted test None was.0 m.frames page e was.1
-lost_clean test m long is page h false e = unpainted test None m.frames page e ∙ is.stale page (sym (unpainted test true m.stale page e) ∙ h)
 
 -- what is stale after a flush was stale
 still_stale : (test : ℕ → Bool) (stale : List Bool) (page : ℕ) → slice_get (paint test false stale) page ≡ Some true → (b : Bool) → test page ≡ b → slice_get stale page ≡ Some true
@@ -152,22 +102,16 @@ still_stale test stale page h true e =
 still_stale test stale page h false e = sym (unpainted test false stale page e) ∙ h
 
 pub stale_section : (c : Setup) (m : PlainMap) (k : ℕ) (s : Section) → length m.stale ≡ length m.frames → IsLegalAs c m k s → IsStaleUnmapped m → IsStaleUnmapped (effect_as c m k s)
-stale_section c m k (MapPages s) long legal is = record { stale = λ page h. mapped_clean c m (pages_of s) (pages_bare m s legal.0) is page h }
-stale_section c m k (Populate at missing) long legal is = record { stale = λ page h. mapped_clean c m (pages_in_units c at.base missing) legal.0 is page h }
-stale_section c m k (Fill base own) long legal is = record { stale = λ page h. mapped_clean c m (pages_in_units c base (own ∷ [])) legal.0 is page h }
-stale_section c m k (Unmap s) long legal is = record { stale = λ page h. lost_clean (holds s) m long is page h _ refl }
-stale_section c m k (Depopulate base pages) long legal is = record { stale = λ page h. lost_clean (is_among (pages_in_units c base pages)) m long is page h _ refl }
+stale_section c m k (MapPages s) long legal is = grind (arith, ungiven, in_row, covers_one, holds_from, nat_tests)
+stale_section c m k (Populate at missing) long legal is = grind (arith, ungiven, nat_tests)
+stale_section c m k (Fill base own) long legal is = grind (arith, ungiven, nat_tests)
+stale_section c m k (Unmap s) long legal is = grind (arith, slice_get_within, there, length-paint_from, painted, unpainted, nat_tests)
+stale_section c m k (Depopulate base pages) long legal is = grind (arith, slice_get_within, there, length-paint_from, painted, unpainted, nat_tests)
 stale_section c m k (Flush s) long legal is = record { stale = λ page h. is.stale page (still_stale (holds s) m.stale page h _ refl) }
 stale_section c m k _ long legal is = record { stale = λ page h. is.stale page h }
 
 pub long_section : (c : Setup) (m : PlainMap) (k : ℕ) (s : Section) → length m.stale ≡ length m.frames → length (effect_as c m k s).stale ≡ length (effect_as c m k s).frames
-long_section c m k (MapPages s) e = e ∙ sym (length-give_frames (pages_of s) (free_frames c m.frames) m.frames)
-long_section c m k (Populate at missing) e = e ∙ sym (length-give_frames (pages_in_units c at.base missing) (free_frames c m.frames) m.frames)
-long_section c m k (Fill base page) e = e ∙ sym (length-give_frames (pages_in_units c base (page ∷ [])) (free_frames c m.frames) m.frames)
-long_section c m k (Unmap s) e = length-paint_from (holds s) true m.stale 0 ∙ e ∙ sym (length-paint_from (holds s) None m.frames 0)
-long_section c m k (Depopulate base pages) e = length-paint_from _ true m.stale 0 ∙ e ∙ sym (length-paint_from _ None m.frames 0)
-long_section c m k (Flush s) e = length-paint_from (holds s) false m.stale 0 ∙ e
-long_section c m k _ e = e
+long_section c m k s e = grind (arith, length-give_frames, length-paint_from, nat_tests)
 
 -- of the frames of every reached world
 pub record AreFramesClean (m : PlainMap) : Type 0 where
@@ -179,21 +123,11 @@ pub clean_section : (c : Setup) (m : PlainMap) (k : ℕ) (s : Section) → IsLeg
 clean_section c m k s legal is = record { own = own_section c m k s is.own; stale = stale_section c m k s is.long legal is.stale; long = long_section c m k s is.long }
 
 pub replicate-at : {X : Type 0} (n : ℕ) (x y : X) (i : ℕ) → slice_get (replicate n x) i ≡ Some y → y ≡ x
-replicate-at zero x y i h = cc
-replicate-at (suc n) x y zero h = cc
 replicate-at (suc n) x y (suc i) h = replicate-at n x y i h
+replicate-at _ x y _ h = cc
 
 pub clean_lasts : (c : Setup) (calls : List (List Call)) → IsLegallyLasting c calls (λ w. AreFramesClean w.map)
-clean_lasts c calls = record {
-  steps = λ w k l s framed kept step.
-      let own = framed.own k l step.step.here in
-      clean_section l.setup w.map l.caller s (subst (λ i. IsLegalAs l.setup w.map i s) (sym own.caller) step.legal) kept;
-  joins = λ w framed one kept over. kept;
-}
+clean_lasts c calls = grind (arith, clean_section, nat_tests)
 
 pub clean_first : (c : Setup) (opening : List Call) (calls : List (List Call)) → AreFramesClean (opening_world c opening calls).map
-clean_first c opening calls = record {
-  own = record { own = λ page other frame a b. (let no = replicate-at c.space None (Some frame) page a in cc) };
-  stale = record { stale = λ page h. (let no = replicate-at c.space false true page h in cc) };
-  long = length-replicate c.space false ∙ sym (length-replicate c.space None);
-}
+clean_first c opening calls = grind (arith, replicate-at, length-replicate, nat_tests)

@@ -1,5 +1,5 @@
 -- What the sections that cut, add, settle, take up and retire parts do to blocks and parts.
-use Rattle.std.proofs.Common.{◌≡◌, ◌≢◌, ℕ, zero, suc, ◌+◌, ◌-◌, ◌<◌, ◌≤◌, ◌⊎◌, inl, inr, Bool, true, false, not, ◌&&◌, ◌==◌, nat_lt, nat_le, if◌then◌else◌, List, [], ◌∷◌, ◌++◌, filter, find, slice_get, sum_by, Option, Some, None, is_some, option_map, refl, ap, sym, ◌∙◌, subst, arith}
+use Rattle.std.proofs.Common.{◌≡◌, ◌≢◌, ℕ, ◌+◌, ◌-◌, ◌<◌, ◌≤◌, ◌⊎◌, inl, inr, Bool, true, false, not, ◌&&◌, ◌==◌, nat_lt, nat_le, if◌then◌else◌, List, [], ◌∷◌, ◌++◌, filter, find, sum_by, Option, Some, None, is_some, option_map, refl, ap, sym, ◌∙◌, subst, arith}
 use Rattle.std.proofs.lemmas.Bool.Decides.{nat_tests}
 use Rattle.std.proofs.lemmas.List.Sums.{sum_by-cons, sum_by-append}
 use Rattle.vm_model.specs.Space.{one_if}
@@ -43,11 +43,7 @@ in_last [] y = record { place = 0; at = refl }
 in_last (x ∷ xs) y = in_more y x (xs ++ y ∷ []) (in_last xs y)
 
 in_either : {X : Type 0} (xs : List X) (y z : X) → IsIn z (xs ++ y ∷ []) → IsIn z xs ⊎ (z ≡ y)
-in_either xs y z there = elim (append_cases xs (y ∷ []) there.place z there.at) [ inl e ↦ inl (record { place = there.place; at = e }) | inr e ↦ inr (only e.0 e.2) ]
-  where
-    only : (j : ℕ) → slice_get (y ∷ []) j ≡ Some z → z ≡ y
-    only zero h = (let same : y ≡ z = cc in sym same)
-    only (suc j) h = cc
+in_either xs y z there = grind (arith, append_cases, nat_tests)
 
 -- A part is cut from a block with room.
 
@@ -73,8 +69,7 @@ module _ (c : Setup) (m : PlainMap) (k : ℕ) (all : (b : Block) → IsIn b m.bl
   module _ (cpu pages : ℕ) (at : PartAt) (named : (start : ℕ) → count_of start (block_starts m.blocks) + count_of start (block_out (CuttingPart cpu pages)) ≤ 1) (few : at.pages ≤ 1048576)
       (legal : IsLegalAs c m k (CutPart at)) where
     cut_is : (o : Option Block) → first_with_room c at.cpu at.pages m.blocks ≡ o → option_map (cut_from c at.pages) o ≡ Some at → (b : Block) × (first_with_room c at.cpu at.pages m.blocks ≡ Some b) × (cut_from c at.pages b ≡ at)
-    cut_is None e h = cc
-    cut_is (Some b) e h = (b, e, cc)
+    cut_is o e h = grind (arith, nat_tests)
 
     -- the block that it is cut from
     pub record IsCutFrom : Type 0 where
@@ -152,17 +147,7 @@ module _ (c : Setup) (m : PlainMap) (k : ℕ) (all : (b : Block) → IsIn b m.bl
     added_block = with_part k at (record { start = at.block; cpu = at.cpu; parts = [] })
 
     added_fine : IsBlockFine c m (with_part k at (record { start = at.block; cpu = at.cpu; parts = [] }))
-    added_fine =
-        let size : parts_size ((record { offset = at.offset; pages = at.pages; caller = k; life = InHand k }) ∷ []) ≡ rounded at.pages = (let e = size_cons (record { offset = at.offset; pages = at.pages; caller = k; life = InHand k }) [] in omega arith) in record {
-          area = area;
-          stacked = (zero_off, rounded_low at.pages (omega arith), tt);
-          within = omega arith;
-          parts = λ q qs. elim (in_either [] (record { offset = at.offset; pages = at.pages; caller = k; life = InHand k }) q qs) [
-            | inl old ↦ (let no = old.at in cc)
-            | inr e ↦ subst (IsPartFine m at.block) (sym e) (new_fine at at.block (λ page low high. bare page (omega arith) (omega arith)))
-          ];
-          rest = λ page low high. bare page (omega arith) high;
-        }
+    added_fine = grind (arith, size_cons, rounded_low, in_either, new_fine, nat_tests)
 
     add_fine : (b : Block) → IsIn b (m.blocks ++ with_part k at (record { start = at.block; cpu = at.cpu; parts = [] }) ∷ []) → IsBlockFine c m b
     add_fine b there = elim (in_either m.blocks (with_part k at (record { start = at.block; cpu = at.cpu; parts = [] })) b there) [ inl old ↦ all b old | inr e ↦ subst (IsBlockFine c m) (sym e) added_fine ]

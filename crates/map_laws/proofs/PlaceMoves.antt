@@ -1,23 +1,23 @@
 -- What the sections of searches, areas and waits do to the pages that their caller holds, and to the map.
-use Rattle.std.proofs.Common.{◌≡◌, ℕ, zero, suc, ◌+◌, ◌-◌, ◌<◌, ◌≤◌, ◌⊎◌, inl, inr, Bool, true, false, not, ◌||◌, ◌==◌, if◌then◌else◌, List, [], ◌∷◌, length, slice_get, slice_set, Option, Some, None, option_map, refl, ap, sym, ◌∙◌, arith, drop, length-set}
+use Rattle.std.proofs.Common.{◌≡◌, ℕ, zero, suc, ◌+◌, ◌-◌, ◌<◌, ◌≤◌, ◌⊎◌, inl, inr, Bool, true, false, not, if◌then◌else◌, List, [], ◌∷◌, length, slice_get, slice_set, Option, Some, option_map, refl, ap, sym, ◌∙◌, arith, drop, length-set}
 use Rattle.std.proofs.lemmas.Bool.Decides.{nat_tests}
 use Rattle.std.proofs.lemmas.Option.{slice_get-map}
 use Rattle.vm_model.specs.declared.areas.Span.{Span}
 use Rattle.vm_model.specs.declared.areas.AreaKind.{AreaKind}
 use Rattle.vm_model.specs.Space.{span, holds, covers, is_among, one_if, times, paint, pages_of, count_from, lowest, begins_free}
 use Rattle.vm_model.specs.Setup.{Setup, groups_at}
-use Rattle.vm_model.specs.PlainMap.{PlainMap, Mark, Free, Held, Live, Waits, Flushing, is_free, taken}
+use Rattle.vm_model.specs.PlainMap.{PlainMap, Mark, Free, Held, is_free, taken}
 use Rattle.vm_model.specs.Areas.{spans_of}
 use Rattle.vm_model.specs.Legal.{OnEach, IsMarked, IsBare, IsLegalAs}
 use Rattle.vm_model.specs.Events.{Section, Carve, CarveGroups, Drop, Return}
 use Rattle.vm_model.specs.Effects.{effect_as}
 use Rattle.vm_model.specs.Places.{Place, MappingArea, Dropping, SettlingBlock, SettlingGroups, PurgeReturning, Then}
-use Rattle.vm_model.specs.Next.{Next, Go, Answer}
+use Rattle.vm_model.specs.Next.{Next, Go}
 use Rattle.vm_model.specs.Laws.{as_free}
 use Rattle.vm_model.specs.Frames.{give_frames}
 use Rattle.map_laws.proofs.Lists.{same_or, set_same, set_other}
 use Rattle.map_laws.proofs.Places.{OnNext}
-use Rattle.map_laws.proofs.Spans.{times-one, covers_times, in_spans, InSpans, Inside, Outside, covers_one, holds_to}
+use Rattle.map_laws.proofs.Spans.{times-one, covers_times, in_spans, InSpans, covers_one, holds_to}
 use Rattle.map_laws.proofs.Touched.{touch, painted}
 use Rattle.map_laws.proofs.AreaFacts.{IsHolding, IsMapFine, own_uses, next_uses, holds_nothing, nothing_claimed, IsUnbearing}
 use Rattle.map_laws.proofs.Quiet.{IsOuter, outer_map, held_fine, free_fine, free_one, painted_free, freed_le, is_quiet, quiet}
@@ -38,19 +38,11 @@ slice_get-drop (suc n) [] i = refl
 slice_get-drop (suc n) (x ∷ xs) i = slice_get-drop n xs i ∙ ap (slice_get (x ∷ xs)) (let e : suc (n + i) ≡ suc n + i = omega arith in e)
 
 pub begins_free-at : (n : ℕ) (taken : List Bool) (i : ℕ) → begins_free n taken ≡ true → i < n → slice_get taken i ≡ Some false
-begins_free-at zero taken i h l = absurd (omega arith)
-begins_free-at (suc n) [] i h l = cc
-begins_free-at (suc n) (true ∷ taken) i h l = cc
-begins_free-at (suc n) (false ∷ taken) zero h l = refl
 begins_free-at (suc n) (false ∷ taken) (suc i) h l = begins_free-at n taken i h (omega arith)
+begins_free-at _ _ _ h l = grind arith
 
 free_mark : (o : Option Mark) → option_map (λ mark. not (is_free mark)) o ≡ Some false → o ≡ Some Free
-free_mark None h = cc
-free_mark (Some Free) h = refl
-free_mark (Some (Held k)) h = cc
-free_mark (Some (Live serial)) h = cc
-free_mark (Some Waits) h = cc
-free_mark (Some (Flushing k)) h = cc
+free_mark o h = grind (arith, nat_tests)
 
 -- a row of free places in the map
 pub free_row : (m : PlainMap) (start n page : ℕ) → begins_free n (drop start (taken m)) ≡ true → holds (span start n) page ≡ true → IsMarked m Free page
@@ -64,28 +56,17 @@ pub place_free : (m : PlainMap) (place : Span) (align page : ℕ) → lowest (ta
 place_free m place align page e h = free_row m place.start place.pages page (lowest_fit (taken m) place.pages align place.start e).1 h
 
 pub free_there : (o : Option Mark) → 1 ≤ as_free o → o ≡ Some Free
-free_there None h = absurd (omega arith)
-free_there (Some Free) h = refl
-free_there (Some (Held k)) h = absurd (omega arith)
-free_there (Some (Live serial)) h = absurd (omega arith)
-free_there (Some Waits) h = absurd (omega arith)
-free_there (Some (Flushing k)) h = absurd (omega arith)
+free_there o h = grind (arith, nat_tests)
 
 -- frames that pages get
 pub given_still : (pages free : List ℕ) (frames : List (Option ℕ)) (page f : ℕ) → slice_get frames page ≡ Some (Some f) → (g : ℕ) × (slice_get (give_frames pages free frames) page ≡ Some (Some g))
 given_still [] free frames page f h = (f, h)
 given_still (p ∷ pages) [] frames page f h = (f, h)
-given_still (p ∷ pages) (frame ∷ free) frames page f h = elim (same_or page p) [
-  | inl e ↦ given_still pages free (slice_set frames p (Some frame)) page frame (ap (slice_get (slice_set frames p (Some frame))) e ∙ set_same frames p (Some f) (Some frame) (ap (slice_get frames) (sym e) ∙ h))
-  | inr n ↦ given_still pages free (slice_set frames p (Some frame)) page f (set_other frames p page (Some frame) n ∙ h)
-]
+given_still (p ∷ pages) (frame ∷ free) frames page f h =
+    grind (arith, given_still pages free (slice_set frames p (Some frame)) page frame, given_still pages free (slice_set frames p (Some frame)) page f, same_or, set_same, set_other, nat_tests)
 
 in_cons : (page p : ℕ) (pages : List ℕ) → is_among (p ∷ pages) page ≡ true → (page ≡ p) ⊎ (is_among pages page ≡ true)
-in_cons page p pages h = by_test (p == page) refl h
-  where
-    by_test : (b : Bool) → (p == page) ≡ b → (b || is_among pages page) ≡ true → (page ≡ p) ⊎ (is_among pages page ≡ true)
-    by_test true e g = inl (let same : page ≡ p = grind (arith, nat_tests) in same)
-    by_test false e g = inr g
+in_cons page p pages h = grind (arith, nat_tests)
 
 pub given_all : (pages free : List ℕ) (frames : List (Option ℕ)) (page : ℕ) (x : Option ℕ) → is_among pages page ≡ true → length pages ≤ length free → slice_get frames page ≡ Some x
     → (g : ℕ) × (slice_get (give_frames pages free frames) page ≡ Some (Some g))
@@ -97,17 +78,12 @@ given_all (p ∷ pages) (frame ∷ free) frames page x h l e = elim (same_or pag
 ]
 
 pub length-give_frames : (pages free : List ℕ) (frames : List (Option ℕ)) → length (give_frames pages free frames) ≡ length frames
-length-give_frames [] free frames = refl
-length-give_frames (p ∷ pages) [] frames = refl
 length-give_frames (p ∷ pages) (frame ∷ free) frames = length-give_frames pages free (slice_set frames p (Some frame)) ∙ length-set frames p (Some frame)
-
-row_by : (n first page : ℕ) (t : Bool) → (first == page) ≡ t → (suc first ≤ page → is_among (count_from n (suc first)) page ≡ true) → first ≤ page → (t || is_among (count_from n (suc first)) page) ≡ true
-row_by n first page true e more a = refl
-row_by n first page false e more a = more (let apart : suc first ≤ page = grind (arith, nat_tests) in apart)
+length-give_frames _ _ frames = refl
 
 row_in : (n first page : ℕ) → first ≤ page → page < first + n → is_among (count_from n first) page ≡ true
 row_in zero first page a b = absurd (omega arith)
-row_in (suc n) first page a b = row_by n first page (first == page) refl (λ more. row_in n (suc first) page more (omega arith)) a
+row_in (suc n) first page a b = grind (arith, row_in n (suc first) page, nat_tests)
 
 pub held_in_row : (s : Span) (page : ℕ) → holds s page ≡ true → is_among (pages_of s) page ≡ true
 held_in_row s page h = let r = holds_to s page h in row_in s.pages s.start page r.0 r.1
@@ -116,22 +92,14 @@ module _ (c : Setup) (m : PlainMap) (k : ℕ) (fine : IsMapFine m) where
   -- Nothing held behind the section.
 
   pub unbearing_uses : (m' : PlainMap) (n : Next) (page : ℕ) → OnNext IsUnbearing n → next_uses c m' n page ≡ times page (spans_of m'.areas) + times page m'.waiting + as_free (slice_get m'.marks page)
-  unbearing_uses m' (Go p) page h = let z = nothing_claimed c p page h in omega arith
-  unbearing_uses m' (Answer reply made) page h = omega arith
+  unbearing_uses m' n page h = grind (arith, nothing_claimed, nat_tests)
 
   pub unbearing_own : (m' : PlainMap) (n : Next) → OnNext IsUnbearing n → OnNext (IsHolding c m' k) n
-  unbearing_own m' (Go p) h = holds_nothing c m' k p h
-  unbearing_own m' (Answer reply made) h = tt
+  unbearing_own m' n h = grind (arith, holds_nothing, nat_tests)
 
   module _ (p : Place) (once : (page : ℕ) → own_uses c m p page ≤ 1) where
     quiet_outer : (s : Section) → is_quiet s ≡ true → IsOuter c m k p s fine once
-    quiet_outer s h = let is = quiet c m k s h in record {
-      areas = is.areas;
-      waiting = is.waiting;
-      long = is.long fine.long;
-      source = λ page t. (let no = is.untouching page in cc);
-      touched = λ page t. (let no = is.untouching page in cc);
-    }
+    quiet_outer s h = grind (arith, quiet, nat_tests)
 
     pub quiet_moved : (s : Section) (n : Next) → is_quiet s ≡ true → OnNext IsUnbearing n → IsMoved c m k p s n
     quiet_moved s n h none = let is = quiet c m k s h in record {
@@ -186,8 +154,7 @@ module _ (c : Setup) (m : PlainMap) (k : ℕ) (fine : IsMapFine m) where
 
     groups_uses : (spans : List Span) (page : ℕ) → InSpans page spans → times page spans ≤ as_free (slice_get m.marks page)
         → times page spans + as_free (slice_get (paint (covers spans) (Held k) m.marks) page) ≤ as_free (slice_get m.marks page)
-    groups_uses spans page (Inside e n) free = omega (arith, painted_free (covers spans) (Held k) m.marks page refl, ap (λ b. if b then 0 else as_free (slice_get m.marks page)) e)
-    groups_uses spans page (Outside e n) free = omega (arith, painted_free (covers spans) (Held k) m.marks page refl, ap (λ b. if b then 0 else as_free (slice_get m.marks page)) e)
+    groups_uses spans page x2 free = grind (arith, painted_free, nat_tests)
 
     group_free : (spans : List Span) (page : ℕ) → times page spans ≤ as_free (slice_get m.marks page) → covers spans page ≡ true → IsMarked m Free page
     group_free spans page free e = let n = covers_times page spans e in free_there (slice_get m.marks page) (omega arith)
@@ -219,13 +186,7 @@ module _ (c : Setup) (m : PlainMap) (k : ℕ) (fine : IsMapFine m) where
   -- Pages given back.
 
   drop_outer : (s : Span) (once : (page : ℕ) → own_uses c m (Dropping s) page ≤ 1) → IsLegalAs c m k (Drop s) → IsOuter c m k (Dropping s) (Drop s) fine once
-  drop_outer s once legal = record {
-    areas = refl;
-    waiting = refl;
-    long = fine.long;
-    source = λ page t. omega (arith, times-one page s, ap one_if t);
-    touched = λ page t. (let bare = legal.1 page (covers_one s page ∙ t) in free_fine _ page (painted (holds s) Free (Held k) m.marks page t (legal.0 page (covers_one s page ∙ t))) (record { unmapped = bare.unmapped; not_stale = bare.not_stale }));
-  }
+  drop_outer s once legal = grind (arith, times-one, covers_one, free_fine, painted, nat_tests)
 
   pub drop_moved : (s : Span) (once : (page : ℕ) → own_uses c m (Dropping s) page ≤ 1) (n : Next) → OnNext IsUnbearing n → IsLegalAs c m k (Drop s) → IsMoved c m k (Dropping s) (Drop s) n
   drop_moved s once n none legal = record {
@@ -236,17 +197,10 @@ module _ (c : Setup) (m : PlainMap) (k : ℕ) (fine : IsMapFine m) where
   }
 
   return_outer : (waited : List Span) (after : Then) (once : (page : ℕ) → own_uses c m (PurgeReturning waited after) page ≤ 1) → IsLegalAs c m k (Return waited) → IsOuter c m k (PurgeReturning waited after) (Return waited) fine once
-  return_outer waited after once legal = record {
-    areas = refl;
-    waiting = refl;
-    long = fine.long;
-    source = λ page t. (let n = covers_times page waited t in omega arith);
-    touched = λ page t. (let bare = legal.1 page t in free_fine _ page (painted (covers waited) Free (Flushing k) m.marks page t (legal.0 page t)) (record { unmapped = bare.unmapped; not_stale = bare.not_stale }));
-  }
+  return_outer waited after once legal = grind (arith, covers_times, free_fine, painted, nat_tests)
 
   covers_le : (page : ℕ) (spans : List Span) → InSpans page spans → one_if (covers spans page) ≤ times page spans
-  covers_le page spans (Inside e n) = omega (arith, ap one_if e)
-  covers_le page spans (Outside e n) = omega (arith, ap one_if e)
+  covers_le page spans x2 = grind (arith, nat_tests)
 
   pub return_moved : (waited : List Span) (after : Then) (once : (page : ℕ) → own_uses c m (PurgeReturning waited after) page ≤ 1) (n : Next) → OnNext IsUnbearing n
       → IsLegalAs c m k (Return waited) → IsMoved c m k (PurgeReturning waited after) (Return waited) n

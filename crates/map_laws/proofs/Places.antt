@@ -10,7 +10,7 @@ use Rattle.vm_model.specs.PlainMap.{PlainMap, taken}
 use Rattle.vm_model.specs.Chunks.{ObjectAt}
 use Rattle.vm_model.specs.Events.{Section, Search, ForPages, ForGroups}
 use Rattle.vm_model.specs.Told.{carved, carved_base}
-use Rattle.vm_model.specs.Places.{Place, Over, Refusing, Adding, Summing, TakingToBalance, Finding, FindingAgain, MappingArea, SettlingArea, Removing, Waiting, PurgeTaking, PurgeFragmenting, PurgeUnlinking, PurgeWaiting, PurgeCollecting, PurgeFlushing, PurgeReturning, PurgeGiving, CuttingPart, AddingBlock, BeginningUnmap, LookingAtDirty, SettlingBlock, TakingAlloc, Choosing, SettlingGroups, AddingChunk, ChoosingAtomic, FreeingObject, Made, MadeNothing, MadeArea, MadePart, MadeObject, Aim, ForArea, ForBlock, ForChunk, Then, SearchAgain, ReplyWith, SpareAgain, AskSearch, ask}
+use Rattle.vm_model.specs.Places.{Place, Over, Refusing, Adding, Summing, TakingToBalance, Finding, FindingAgain, MappingArea, SettlingArea, Removing, Waiting, PurgeTaking, PurgeFragmenting, PurgeUnlinking, PurgeWaiting, PurgeCollecting, PurgeFlushing, PurgeReturning, PurgeGiving, CuttingPart, AddingBlock, BeginningUnmap, LookingAtDirty, SettlingBlock, TakingAlloc, Choosing, SettlingGroups, AddingChunk, ChoosingAtomic, FreeingObject, Made, MadeArea, MadePart, MadeObject, Aim, ForArea, ForBlock, ForChunk, Then, SearchAgain, ReplyWith, SpareAgain, AskSearch, ask}
 use Rattle.vm_model.specs.Next.{Next, Go, Answer, next, found, without_space}
 use Rattle.vm_model.specs.Calls.{pages_for, align_pages, Answered, begin, begin_call, begin_alloc, begin_free_area, begin_unmap_ram, begin_free_percpu, begin_add, begin_sum, target_of, was_freed, answers_in, words_for, is_bad_vmalloc_size, is_bad_vmalloc_align, is_bad_map_size, is_bad_object_size, is_bad_object_align}
 use Rattle.vm_model.specs.Given.{given, carving, carving_groups}
@@ -87,14 +87,10 @@ either_place P false x y p q = q refl
 
 -- What a search tells.
 
-groups_told : (o : Option ℕ) (s : Section) → Some (carving_groups o) ≡ Some s → carved s ≡ None
-groups_told None s e = let same : carving_groups None ≡ s = cc in ap carved (sym same)
-groups_told (Some base) s e = let same : carving_groups (Some base) ≡ s = cc in ap carved (sym same)
-
 module _ (c : Setup) (m : PlainMap) where
   -- a search for groups carves no single span
   pub no_span : (s : Section) → given c m (AskSearch ForGroups) ≡ Some s → carved s ≡ None
-  no_span s e = groups_told (highest c (taken m)) s e
+  no_span s e = grind (arith, nat_tests)
 
   found_pages : (pages align : ℕ) (aim : Aim) (otherwise : Next) (o : Option ℕ) → lowest (taken m) pages align ≡ o → IsAimed c (ForPages pages align) aim → OnNext (IsProper c) otherwise
       → OnNext (IsProper c) (found aim (carved (carving pages align o)) (carved_base (carving pages align o)) otherwise)
@@ -114,15 +110,10 @@ module _ (c : Setup) (m : PlainMap) where
 
   found_proper : (search : Search) (aim : Aim) (s : Section) (otherwise : Next) → IsAimed c search aim → given c m (AskSearch search) ≡ Some s → OnNext (IsProper c) otherwise
       → OnNext (IsProper c) (found aim (carved s) (carved_base s) otherwise)
-  found_proper (ForPages pages align) aim s otherwise is e q = told_proper aim otherwise s _ e (found_pages pages align aim otherwise (lowest (taken m) pages align) refl is q)
-  found_proper ForGroups (ForArea k) s otherwise is e q = absurd is
-  found_proper ForGroups (ForBlock cpu asked) s otherwise is e q = absurd is
-  found_proper ForGroups (ForChunk chunk bytes to) s otherwise is e q = told_proper (ForChunk chunk bytes to) otherwise s _ e (found_groups chunk bytes to otherwise (highest c (taken m)) refl is q)
+  found_proper search aim s otherwise is e q = grind (arith, told_proper, found_pages, found_groups, nat_tests)
 
   no_space_proper : (aim : Aim) → OnNext (IsProper c) (without_space aim)
-  no_space_proper (ForArea k) = tt
-  no_space_proper (ForBlock cpu asked) = tt
-  no_space_proper (ForChunk chunk bytes to) = tt
+  no_space_proper aim = grind (arith, nat_tests)
 
   -- a section leads from a proper place to a proper one
   proper_row : (s : Section) (p : Place) (n : Next) → PlaceRow c s p n → IsProper c p → given c m (ask c p) ≡ Some s → n ≡ next c p s → OnNext (IsProper c) n
@@ -172,34 +163,25 @@ module _ (P : Place → Type 0) (c : Setup) (have : HaveBeginnings P c) where
       (λ e. either_place P (is_bad_object_align align) _ _ (λ f. have _ (AtRefusing reply.BadAlign)) (λ f. h (4 * words_for bytes) (max align 4) (accepted_size bytes e)))
 
   free_begins : (made : Made) → P (begin_free_area made)
-  free_begins MadeNothing = have _ (AtRefusing reply.Unbound)
   free_begins (MadeArea start serial) = have _ (AtRemove start serial)
-  free_begins (MadePart cpu page serial) = have _ (AtRefusing reply.Unbound)
-  free_begins (MadeObject at serial) = have _ (AtRefusing reply.Unbound)
+  free_begins _ = have _ (AtRefusing reply.Unbound)
 
   unmap_begins : (made : Made) → P (begin_unmap_ram made)
-  unmap_begins MadeNothing = have _ (AtRefusing reply.Unbound)
   unmap_begins (MadeArea start serial) = have _ (AtRemove start serial)
   unmap_begins (MadePart cpu page serial) = have _ (AtUnmap cpu page serial)
-  unmap_begins (MadeObject at serial) = have _ (AtRefusing reply.Unbound)
+  unmap_begins _ = have _ (AtRefusing reply.Unbound)
 
   object_begins : (made : Made) → P (begin_free_percpu made)
-  object_begins MadeNothing = have _ (AtRefusing reply.Unbound)
-  object_begins (MadeArea start serial) = have _ (AtRefusing reply.Unbound)
-  object_begins (MadePart cpu page serial) = have _ (AtRefusing reply.Unbound)
   object_begins (MadeObject at serial) = have _ (AtFree at serial)
+  object_begins _ = have _ (AtRefusing reply.Unbound)
 
   add_begins : (freed : Bool) (cpu index : ℕ) (amount : ℤ) (made : Made) → P (begin_add freed cpu index amount made)
-  add_begins freed cpu index amount MadeNothing = have _ (AtRefusing reply.Unbound)
-  add_begins freed cpu index amount (MadeArea start serial) = have _ (AtRefusing reply.Unbound)
-  add_begins freed cpu index amount (MadePart own page serial) = have _ (AtRefusing reply.Unbound)
   add_begins freed cpu index amount (MadeObject at serial) = either_place P freed _ _ (λ e. have _ (AtRefusing reply.NotLive)) (λ e. have _ (AtAdd at serial cpu index amount))
+  add_begins freed cpu index amount _ = have _ (AtRefusing reply.Unbound)
 
   sum_begins : (freed : Bool) (index : ℕ) (made : Made) → P (begin_sum freed index made)
-  sum_begins freed index MadeNothing = have _ (AtRefusing reply.Unbound)
-  sum_begins freed index (MadeArea start serial) = have _ (AtRefusing reply.Unbound)
-  sum_begins freed index (MadePart own page serial) = have _ (AtRefusing reply.Unbound)
   sum_begins freed index (MadeObject at serial) = either_place P freed _ _ (λ e. have _ (AtRefusing reply.NotLive)) (λ e. have _ (AtSum at serial index))
+  sum_begins freed index _ = have _ (AtRefusing reply.Unbound)
 
   call_begins : (opening own : List Answered) (call : Call) → P (begin_call c opening own call)
   call_begins opening own (Vmalloc bytes align) = either_place P (is_bad_vmalloc_size c bytes) _ _ (λ e. have _ (AtRefusing reply.BadSize))
@@ -247,12 +229,7 @@ pub record AllStand (P : Setup → Place → Type 0) (w : World) : Type 0 where
   pub each : (k : ℕ) (l : Local) → slice_get w.locals k ≡ Some l → P l.setup l.place
 
 pub moved_setup : (l : Local) (n : Next) → (moved_to l n).setup ≡ l.setup
-moved_setup l (Go p) = refl
-moved_setup l (Answer r made) = of_option _
-  where
-    of_option : (o : Option Call) → (answered_of l o (λ call. record { call = call; reply = r; made = made; own_event = suc l.events })).setup ≡ l.setup
-    of_option None = refl
-    of_option (Some call) = refl
+moved_setup l n = grind (arith, nat_tests)
 
 -- such a fact lasts where each section keeps it and each beginning has it
 pub stand_lasts : (c : Setup) (calls : List (List Call)) (P : Setup → Place → Type 0) → HaveBeginnings (P c) c

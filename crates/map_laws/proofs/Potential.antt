@@ -1,5 +1,5 @@
 -- What all callers have left falls with each section.
-use Rattle.std.proofs.Common.{◌≡◌, ◌≢◌, ℕ, zero, suc, ◌+◌, ◌*◌, ◌-◌, ◌<◌, ◌≤◌, Bool, true, false, List, [], ◌∷◌, ◌++◌, length, slice_get, slice_set, sum_by, Option, Some, None, refl, ap, sym, ◌∙◌, subst, arith, get_or, length-append}
+use Rattle.std.proofs.Common.{◌≡◌, ℕ, zero, suc, ◌+◌, ◌*◌, ◌-◌, ◌<◌, ◌≤◌, Bool, true, false, List, [], ◌∷◌, ◌++◌, length, slice_get, slice_set, sum_by, Option, Some, None, refl, ap, sym, ◌∙◌, subst, arith, get_or, length-append}
 use Rattle.std.proofs.lemmas.List.Sums.{sum_by-set}
 use Rattle.std.proofs.lemmas.Option.{slice_get_within, get_or_from_slice_get}
 use Rattle.std.proofs.Math.Nat.{mul-suc}
@@ -8,10 +8,10 @@ use Rattle.vm_model.specs.Setup.{Setup}
 use Rattle.vm_model.specs.PlainMap.{Chunk}
 use Rattle.vm_model.specs.Events.{Section}
 use Rattle.vm_model.specs.Effects.{effect_as}
-use Rattle.vm_model.specs.Places.{Place, Over, Sparing, NextFill, Filling, NotingFilled, ask}
+use Rattle.vm_model.specs.Places.{Place, Over, ask}
 use Rattle.vm_model.specs.Given.{given}
 use Rattle.vm_model.specs.Next.{Next, Go, Answer, next}
-use Rattle.vm_model.specs.Calls.{Answered, begin}
+use Rattle.vm_model.specs.Calls.{Answered}
 use Rattle.vm_model.specs.History.{World, Local, answered, moved_to, made_by}
 use Rattle.vm_model.specs.Carried.{IsTurnKept, has_alloc}
 use Rattle.map_laws.proofs.Lists.{set_same, set_other}
@@ -67,10 +67,7 @@ one_rest b n m e = let z : b * n ≡ b * suc m = ap (λ i. b * i) e in omega (ar
 
 weight_answered : (l : Local) (answer : Answered) (o : Option Call) → slice_get l.calls (suc (length l.answers)) ≡ o
     → weight l.setup (answered l answer) ≤ per_call l.setup * (length l.calls - suc (length l.answers))
-weight_answered l answer None e =
-    let over : left l.setup (answered l answer).place ≡ 0 = ap (λ o. left l.setup (begin l.setup l.opening (l.answers ++ answer ∷ []) o)) e in
-    let past = past_end l.calls (suc (length l.answers)) e in
-    omega (arith, no_rest (per_call l.setup) (length l.calls - suc (length (l.answers ++ answer ∷ []))) (omega (arith, length-append l.answers (answer ∷ []))))
+weight_answered l answer None e = grind (arith, left, past_end, no_rest, per_call, length-append)
 weight_answered l answer (Some call) e =
     let within = slice_get_within l.calls (suc (length l.answers)) call e in
     let begun : left l.setup (answered l answer).place ≤ per_call l.setup =
@@ -86,11 +83,7 @@ weight_moved l (Answer r made) h = let e = answers_call l r made h in
 
 -- who fills or gives up has the alloc turn
 balancing_has : (p : Place) → has_alloc p ≡ false → is_balancing p ≡ false
-balancing_has Sparing h = cc
-balancing_has (NextFill filled) h = cc
-balancing_has (Filling chunk base page filled) h = cc
-balancing_has (NotingFilled chunk page filled) h = cc
-balancing_has _ h = refl
+balancing_has p h = grind arith
 
 module _ (w : World) (l : Local) (s : Section) (here : slice_get w.locals l.caller ≡ Some l) (call : length l.answers < length l.calls) (turn : IsTurnKept w w.map.alloc_turn has_alloc)
     (units : 8 ≤ l.setup.unit_pages) (sized : AreSized l.setup w.map.chunks) (proper : IsProper l.setup l.place) (gives : given l.setup w.map (ask l.setup l.place) ≡ Some s) where
@@ -114,29 +107,14 @@ module _ (w : World) (l : Local) (s : Section) (here : slice_get w.locals l.call
   no_own : has_alloc l.place ≡ false → credit_next now (next l.setup l.place s) ≡ 0
   no_own none = no_credit_next now (next l.setup l.place s) (no_filling_next l.setup l.place s (balancing_has l.place none))
 
-  -- another caller has the turn all along
-  other_holds : has_alloc l.place ≡ false → (j : ℕ) → w.map.alloc_turn ≡ Some j → Falls (Some j) (Some j)
-  other_holds none j is =
-      let at = turn.holder j is in
-      let apart : j ≢ l.caller = λ e. (let there : slice_get w.locals l.caller ≡ Some at.0 = subst (λ i. slice_get w.locals i ≡ Some at.0) e at.1 in
-      let same : l ≡ at.0 = cc in let yes : has_alloc l.place ≡ true = subst (λ (x : Local). has_alloc x.place ≡ true) (sym same) at.2 in cc) in
-      let old : credit_at w.map.chunks (slice_get w.locals j) ≡ credit w.map.chunks at.0.place = ap (credit_at w.map.chunks) at.1 in
-      let new : credit_at now (slice_get then_locals j) ≡ credit now at.0.place = ap (credit_at now) (set_other w.locals l.caller j (moved_to l (next l.setup l.place s)) apart ∙ at.1) in
-      record { less = omega (arith, old, new, credit_falls l.setup w.map l.caller units s at.0.place, plain none) }
-
   nobody_holds : has_alloc l.place ≡ false → Falls None None
   nobody_holds none = record { less = omega (arith, credit_falls l.setup w.map l.caller units s Over, plain none) }
 
   stays_by : (b : Bool) → has_alloc l.place ≡ b → (t : Option ℕ) → w.map.alloc_turn ≡ t → Falls t t
   stays_by false none None e = nobody_holds none
-  stays_by false none (Some j) e = other_holds none j e
+  stays_by false none (Some j) e = grind (arith, credit, set_other, credit_falls, plain)
   stays_by true has None e = let mine = turn.mine l.caller l here has in cc
-  stays_by true has (Some j) e =
-      let mine = turn.mine l.caller l here has in
-      let same : j ≡ l.caller = cc in
-      let old : credit_at w.map.chunks (slice_get w.locals j) ≡ credit w.map.chunks l.place = ap (λ i. credit_at w.map.chunks (slice_get w.locals i)) same ∙ ap (credit_at w.map.chunks) here in
-      let new : credit_at now (slice_get then_locals j) ≡ credit_next now (next l.setup l.place s) = ap (λ i. credit_at now (slice_get then_locals i)) same ∙ moved_credit in
-      record { less = omega (arith, old, new, place_falls l.setup w.map l.caller units sized l.place s proper gives) }
+  stays_by true has (Some j) e = grind (arith, credit, credit_next, moved_credit, place_falls)
 
   taken_falls : (b : Bool) → has_alloc l.place ≡ b → w.map.alloc_turn ≡ None → Falls None (Some l.caller)
   taken_falls true has e = let mine = turn.mine l.caller l here has in cc

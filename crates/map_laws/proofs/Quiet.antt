@@ -1,5 +1,5 @@
 -- Sections that leave areas and what waits, and the places that they lead to.
-use Rattle.std.proofs.Common.{◌≡◌, ℕ, ◌+◌, ◌≤◌, Bool, true, false, not, if◌then◌else◌, List, [], ◌∷◌, length, filter, slice_get, sum_by, Option, Some, None, option_map, refl, ap, sym, ◌∙◌, arith}
+use Rattle.std.proofs.Common.{◌≡◌, ℕ, ◌+◌, ◌≤◌, Bool, true, false, not, if◌then◌else◌, List, [], ◌∷◌, length, filter, slice_get, sum_by, Option, Some, refl, ap, sym, ◌∙◌, arith}
 use Rattle.std.proofs.lemmas.List.Sums.{sum_by-cons}
 use Rattle.std.proofs.lemmas.List.Filters.{sum_by-filter_both}
 use Rattle.vm_model.specs.declared.areas.Area.{Area}
@@ -18,10 +18,10 @@ use Rattle.map_laws.proofs.Chosen.{sum_has}
 use Rattle.map_laws.proofs.Spans.{times-cons, covers_times, covers_one}
 use Rattle.map_laws.proofs.Touched.{touch, IsSame, untouched}
 use Rattle.map_laws.proofs.AreaFacts.{IsPageFine, IsMapFine, own_uses, area_stays, page_stays, IsUnbearing}
-use Rattle.vm_model.specs.Next.{Next, next}
+use Rattle.vm_model.specs.Next.{next}
 use Rattle.vm_model.specs.LegalHistory.{Meets}
-use Rattle.map_laws.proofs.PlaceRows.{PlaceRow, Stays, place_row}
-use Rattle.map_laws.proofs.AskRows.{AskRow, Refused, ask_row}
+use Rattle.map_laws.proofs.PlaceRows.{place_row}
+use Rattle.map_laws.proofs.AskRows.{ask_row}
 use Rattle.map_laws.proofs.Places.{OnNext}
 
 -- What a section keeps of the map where it touches pages that its caller holds, flushes, or finds free.
@@ -44,12 +44,7 @@ pub flushing_fine : (m : PlainMap) (k page : ℕ) → IsMarked m (Flushing k) pa
 flushing_fine m k page h none = record { free = λ e. cc; waiting = λ e. cc; flushing = λ j e. none }
 
 as_free_le : (o : Option Mark) → as_free o ≤ 1
-as_free_le None = omega arith
-as_free_le (Some Free) = omega arith
-as_free_le (Some (Held k)) = omega arith
-as_free_le (Some (Live serial)) = omega arith
-as_free_le (Some Waits) = omega arith
-as_free_le (Some (Flushing k)) = omega arith
+as_free_le o = grind arith
 
 pub free_one : (m : PlainMap) (page : ℕ) → IsMarked m Free page → as_free (slice_get m.marks page) ≡ 1
 free_one m page h = ap as_free h
@@ -57,22 +52,11 @@ free_one m page h = ap as_free h
 -- painting with another mark than Free takes pages from the free ones
 pub painted_free : (test : ℕ → Bool) (mark : Mark) (marks : List Mark) (page : ℕ) → is_free mark ≡ false
     → as_free (slice_get (paint test mark marks) page) ≡ (if test page then 0 else as_free (slice_get marks page))
-painted_free test mark marks page e = ap as_free (slice_get-paint test mark marks page) ∙ of_option (slice_get marks page) (test page)
-  where
-    of_option : (o : Option Mark) (b : Bool) → as_free (option_map (λ y. if b then mark else y) o) ≡ (if b then 0 else as_free o)
-    of_option None true = refl
-    of_option None false = refl
-    of_option (Some old) true = ap one_if e
-    of_option (Some old) false = refl
+painted_free test mark marks page e = grind (arith, slice_get-paint)
 
 -- painting with Free frees at most the pages that are painted
 pub freed_le : (test : ℕ → Bool) (marks : List Mark) (page : ℕ) → as_free (slice_get (paint test Free marks) page) ≤ one_if (test page) + as_free (slice_get marks page)
-freed_le test marks page = let e = ap as_free (slice_get-paint test Free marks page) in omega (arith, of_option (slice_get marks page) (test page))
-  where
-    of_option : (o : Option Mark) (b : Bool) → as_free (option_map (λ y. if b then Free else y) o) ≤ one_if b + as_free o
-    of_option None b = omega arith
-    of_option (Some old) true = omega arith
-    of_option (Some old) false = omega arith
+freed_le test marks page = grind (arith, slice_get-paint)
 
 -- Areas.
 
@@ -81,20 +65,12 @@ times_areas page [] = refl
 times_areas page (a ∷ areas) = omega (arith, times-cons page a.span (spans_of areas), sum_by-cons (λ (a : Area). one_if (holds a.span page)) a areas, times_areas page areas)
 
 pub area_times : (page : ℕ) (areas : List Area) (i : ℕ) (a : Area) → slice_get areas i ≡ Some a → covers (a.span ∷ []) page ≡ true → 1 ≤ times page (spans_of areas)
-area_times page areas i a h e =
-    let here : one_if (holds a.span page) ≡ 1 = ap one_if (sym (covers_one a.span page) ∙ e) in
-    omega (arith, sum_has (λ (a : Area). one_if (holds a.span page)) areas a i h, times_areas page areas)
+area_times page areas i a h e = grind (arith, covers_one, sum_has, times_areas)
 
 -- what a filter keeps and what it leaves out
 pub times_both : (page : ℕ) (p q : Area → Bool) (other : (a : Area) → q a ≡ not (p a)) (areas : List Area)
     → times page (spans_of (filter p areas)) + times page (spans_of (filter q areas)) ≡ times page (spans_of areas)
-times_both page p q other areas = omega (
-  arith,
-  times_areas page (filter p areas),
-  times_areas page (filter q areas),
-  times_areas page areas,
-  sum_by-filter_both p q other (λ (a : Area). one_if (holds a.span page)) areas,
-)
+times_both page p q other areas = grind (arith, times_areas, sum_by-filter_both)
 
 -- Sections that leave the areas and what waits.
 
@@ -167,22 +143,8 @@ pub record IsQuiet (c : Setup) (m m' : PlainMap) (s : Section) : Type 0 where
   pub untouching : (page : ℕ) → touch c m s page ≡ false
 
 pub quiet : (c : Setup) (m : PlainMap) (k : ℕ) (s : Section) → is_quiet s ≡ true → IsQuiet c m (effect_as c m k s) s
-quiet c m k (Carve place align) h = cc
-quiet c m k (CarveGroups base) h = cc
-quiet c m k (Drop p) h = cc
-quiet c m k (Return spans) h = cc
-quiet c m k (Settle areas first) h = cc
-quiet c m k (Remove start serial area) h = cc
-quiet c m k (Unlink starts) h = cc
-quiet c m k (Wait spans waiting) h = cc
-quiet c m k (TakeWaiting all) h = cc
-quiet c m k (MapPages p) h = cc
-quiet c m k (Populate at missing) h = cc
-quiet c m k (Fill base page) h = cc
-quiet c m k (Unmap p) h = cc
-quiet c m k (Depopulate base pages) h = cc
 quiet c m k (Flush p) h = record { marks = refl; areas = refl; waiting = refl; long = λ e. length-paint_from (holds p) false m.stale 0 ∙ e; untouching = λ page. refl }
-quiet c m k _ h = record { marks = refl; areas = refl; waiting = refl; long = λ e. e; untouching = λ page. refl }
+quiet c m k _ h = grind arith
 
 abbrev pub asks_quiet : Ask → Bool
 asks_quiet (AskSearch search) = false
@@ -201,18 +163,8 @@ asks_quiet (AskDepopulate base pages) = false
 asks_quiet _ = true
 
 module _ (c : Setup) where
-  -- no other section leads to pages that are held or flushed
-  unbearing_row : (s : Section) (p : Place) (n : Next) → PlaceRow c s p n → leads_bearing p ≡ false → OnNext IsUnbearing n
-  unbearing_row s _ _ Stays h = refl
-  unbearing_row s _ _ _ h = cc
-
   pub unbearing_next : (p : Place) (s : Section) → leads_bearing p ≡ false → OnNext IsUnbearing (next c p s)
-  unbearing_next p s h = unbearing_row s p (next c p s) (place_row c s p) h
-
-  -- a section that meets such an ask
-  quiet_row : (a : Ask) (s : Section) → AskRow c a s → asks_quiet a ≡ true → is_quiet s ≡ true
-  quiet_row _ _ Refused h = refl
-  quiet_row _ _ _ h = cc
+  unbearing_next p s h = grind (arith, place_row)
 
   pub given_quiet : (a : Ask) (s : Section) → asks_quiet a ≡ true → Meets c a s → is_quiet s ≡ true
-  given_quiet a s h w = quiet_row a s (ask_row c a s w) h
+  given_quiet a s h w = grind (arith, ask_row)

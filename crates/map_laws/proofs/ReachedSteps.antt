@@ -1,9 +1,9 @@
 -- What a step of a reached world leads to is reached, and so is the start of the callers.
-use Rattle.std.proofs.Common.{ℕ, inl, inr, List, [], ◌++◌, ap, sym, ◌∙◌, subst}
+use Rattle.std.proofs.Common.{ℕ, List, [], arith}
 use Rattle.vm_model.specs.declared.calls.Call.{Call}
 use Rattle.vm_model.specs.Setup.{Setup}
 use Rattle.vm_model.specs.History.{World, step, finish, most_events, opening_world, with_callers}
-use Rattle.vm_model.specs.LegalHistory.{IsReached, IsRun, world_after, callers_world}
+use Rattle.vm_model.specs.LegalHistory.{IsReached}
 use Rattle.vm_model.specs.Rules.{IsTrace}
 use Rattle.map_laws.specs.Steps.{StepsAreReached}
 use Rattle.map_laws.proofs.LegalRuns.{IsRunTo, run_append, after_append, step_led, picked_reached}
@@ -12,17 +12,7 @@ use Rattle.map_laws.proofs.ObjectsReady.{trace_legal}
 
 -- a run on from a reached world leads to another
 runs_on : (c : Setup) (opening : List Call) (calls : List (List Call)) (w v : World) → IsReached c opening calls w → IsRunTo w v → IsReached c opening calls v
-runs_on c opening calls w v (inl r) on = inl (
-  r.0 ++ on.made,
-  run_append (opening_world c opening calls) r.0 on.made r.1 (subst (λ x. IsRun x on.made) r.2 on.run),
-  on.ends ∙ ap (λ x. world_after x on.made) r.2 ∙ sym (after_append (opening_world c opening calls) r.0 on.made),
-)
-runs_on c opening calls w v (inr r) on = inr (
-  r.0,
-  r.1 ++ on.made,
-  (r.2.0, r.2.1, run_append (callers_world c opening calls r.0) r.1 on.made r.2.2 (subst (λ x. IsRun x on.made) r.3 on.run)),
-  on.ends ∙ ap (λ x. world_after x on.made) r.3 ∙ sym (after_append (callers_world c opening calls r.0) r.1 on.made),
-)
+runs_on c opening calls w v x5 on = grind (arith, run_append, after_append)
 
 step_reached : (c : Setup) (opening : List Call) (calls : List (List Call)) (w : World) (k : ℕ) → IsTrace c opening calls → IsReached c opening calls w → IsReached c opening calls (step w k)
 step_reached c opening calls w k trace reached =

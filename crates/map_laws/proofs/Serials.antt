@@ -1,12 +1,10 @@
 -- What a call names as an area that it made is a plain one, as long as it lives.
-use Rattle.std.proofs.Common.{◌≡◌, ℕ, ℤ, zero, suc, ◌+◌, ◌-◌, ◌<◌, ◌≤◌, ◌⊎◌, inl, inr, Bool, true, false, ◌==◌, nat_le, if◌then◌else◌, List, [], ◌∷◌, ◌++◌, length, slice_get, Option, Some, None, refl, ap, sym, ◌∙◌, subst, arith}
+use Rattle.std.proofs.Common.{◌≡◌, ℕ, zero, suc, ◌+◌, ◌<◌, ◌≤◌, ◌⊎◌, inl, inr, Bool, true, false, ◌==◌, List, [], ◌∷◌, ◌++◌, length, slice_get, Option, Some, None, refl, ap, sym, ◌∙◌, subst, arith}
 use Rattle.vm_model.specs.declared.areas.Span.{Span}
 use Rattle.vm_model.specs.declared.areas.Area.{Area}
 use Rattle.vm_model.specs.declared.areas.AreaKind.{AreaKind}
 use Rattle.std.proofs.lemmas.Bool.Decides.{nat_tests}
-use Rattle.vm_model.specs.declared.calls.Target.{Target}
 use Rattle.vm_model.specs.declared.calls.Call.{Call}
-use Rattle.vm_model.specs.declared.calls.Call.TheVariants.{Vmalloc, Vfree, MapRam, UnmapRam, UnmapAliases, AllocPercpu, AllocAtomic, FreePercpu, Add, Sum, Balance}
 use Rattle.std.proofs.lemmas.Option.{slice_get_within}
 use Rattle.vm_model.specs.Setup.{Setup}
 use Rattle.vm_model.specs.PlainMap.{PlainMap}
@@ -14,13 +12,13 @@ use Rattle.vm_model.specs.Areas.{named_areas, is_area, areas_of}
 use Rattle.vm_model.specs.Legal.{IsLegalAs}
 use Rattle.vm_model.specs.Events.{Section, Settle, Remove, Unlink}
 use Rattle.vm_model.specs.Effects.{effect_as}
-use Rattle.vm_model.specs.Places.{Place, Made, MadeNothing, MadeArea, MadePart, MadeObject, GivingAlloc, SettlingArea, Removing, ask}
+use Rattle.vm_model.specs.Places.{Place, Made, MadeArea, GivingAlloc, SettlingArea, Removing, ask}
 use Rattle.vm_model.specs.Next.{Next, Go, Answer, next}
 use Rattle.vm_model.specs.Told.{serial_given}
-use Rattle.vm_model.specs.Calls.{Answered, begin, begin_call, begin_free_area, begin_unmap_ram, begin_free_percpu, begin_add, begin_sum, target_of, made_in, was_freed, answers_in, is_bad_vmalloc_size, is_bad_vmalloc_align, is_bad_map_size, is_bad_object_size, is_bad_object_align}
+use Rattle.vm_model.specs.Calls.{Answered, begin}
 use Rattle.vm_model.specs.History.{World, Local, started, moved_to, made_by, opening_world, opening_answers, callers_from, with_callers}
 use Rattle.vm_model.specs.LegalHistory.{Meets}
-use Rattle.map_laws.proofs.PlaceRows.{PlaceRow, Stays, place_row}
+use Rattle.map_laws.proofs.PlaceRows.{place_row}
 use Rattle.map_laws.proofs.Lists.{set_cases, append_cases}
 use Rattle.map_laws.proofs.Chosen.{IsIn, filter_has}
 use Rattle.map_laws.proofs.Fits.{and_both}
@@ -65,11 +63,7 @@ pub data IsOldOrNew (m m' : PlainMap) (a : Area) : Type 0 where
 
 module _ (c : Setup) (m : PlainMap) (k : ℕ) where
   new_area : (areas : List (Span × AreaKind)) (first : ℕ) (a : Area) → first ≡ m.next_area → IsIn a (areas_of k first areas) ⊎ IsIn a m.areas → IsOldOrNew m (effect_as c m k (Settle areas first)) a
-  new_area areas first a e (inr old) = IsOld old
-  new_area areas first a e (inl new) =
-      let within = slice_get_within (areas_of k first areas) new.place a new.at in
-      let serial = settled_serial k first areas new.place a new.at in
-      IsNew (omega arith) (omega (arith, length-areas_of k first areas))
+  new_area areas first a e x4 = grind (arith, slice_get_within, settled_serial, length-areas_of, nat_tests)
 
   pub old_or_new : (s : Section) → IsLegalAs c m k s → (a : Area) → IsIn a (effect_as c m k s).areas → IsOldOrNew m (effect_as c m k s) a
   old_or_new (Settle areas first) legal a there = new_area areas first a legal.1 (with_in (areas_of k first areas) m.areas a there)
@@ -78,8 +72,7 @@ module _ (c : Setup) (m : PlainMap) (k : ℕ) where
   old_or_new _ legal a there = IsOld there
 
   pub next_grows : (s : Section) → IsLegalAs c m k s → m.next_area ≤ (effect_as c m k s).next_area
-  next_grows (Settle areas first) legal = let e = legal.1 in omega arith
-  next_grows _ legal = omega arith
+  next_grows s legal = grind (arith, nat_tests)
 
   serial_by : (s : Section) → IsLegalAs c m k s → AreGiven m → (a : Area) → IsOldOrNew m (effect_as c m k s) a → a.serial < (effect_as c m k s).next_area
   serial_by s legal is a (IsOld old) = let low = is.below a old in let more = next_grows s legal in omega arith
@@ -88,21 +81,12 @@ module _ (c : Setup) (m : PlainMap) (k : ℕ) where
   pub given_after : (s : Section) → IsLegalAs c m k s → AreGiven m → AreGiven (effect_as c m k s)
   given_after s legal is = record { below = λ a there. serial_by s legal is a (old_or_new s legal a there) }
 
-  plain_by : (s : Section) (serial : ℕ) → IsPlainSerial m serial → (a : Area) → a.serial ≡ serial → IsOldOrNew m (effect_as c m k s) a → IsPlainKind a.kind
-  plain_by s serial is a e (IsOld old) = is.plain a old e
-  plain_by s serial is a e (IsNew low high) = absurd (let given = is.given in omega arith)
-
   pub plain_stays : (s : Section) → IsLegalAs c m k s → (serial : ℕ) → IsPlainSerial m serial → IsPlainSerial (effect_as c m k s) serial
-  plain_stays s legal serial is = record {
-    given = (let given = is.given in let more = next_grows s legal in omega arith);
-    plain = λ a there e. plain_by s serial is a e (old_or_new s legal a there);
-  }
+  plain_stays s legal serial is = grind (arith, next_grows, old_or_new, nat_tests)
 
   pub made_stays : (s : Section) → IsLegalAs c m k s → (made : Made) → IsPlainMade m made → IsPlainMade (effect_as c m k s) made
-  made_stays s legal MadeNothing is = tt
   made_stays s legal (MadeArea start serial) is = plain_stays s legal serial is
-  made_stays s legal (MadePart cpu page serial) is = tt
-  made_stays s legal (MadeObject at serial) is = tt
+  made_stays s legal _ is = tt
 
   pub place_stays : (s : Section) → IsLegalAs c m k s → (p : Place) → IsPlainPlace m p → IsPlainPlace (effect_as c m k s) p
   place_stays s legal (Removing start serial) is = plain_stays s legal serial is
@@ -112,11 +96,7 @@ module _ (c : Setup) (m : PlainMap) (k : ℕ) where
   -- an area that a caller settles is plain, and has the serial that it is told
   settled_plain : (place : Span) (kd : AreaKind) (first : ℕ) (a : Area) → IsPlainKind kd → AreGiven m → first ≡ m.next_area → a.serial ≡ first → IsIn a (areas_of k first ((place, kd) ∷ [])) ⊎ IsIn a m.areas → IsPlainKind a.kind
   settled_plain place kd first a plain is e f (inr old) = absurd (let low = is.below a old in omega arith)
-  settled_plain place kd first a plain is e f (inl new) = by_place new.place new.at
-    where
-      by_place : (i : ℕ) → slice_get (areas_of k first ((place, kd) ∷ [])) i ≡ Some a → IsPlainKind a.kind
-      by_place zero h = let same : kd ≡ a.kind = cc in subst IsPlainKind same plain
-      by_place (suc i) h = cc
+  settled_plain place kd first a plain is e f (inl new) = grind (arith, nat_tests)
 
   pub settles_plain : (place : Span) (kd : AreaKind) (first : ℕ) (s : Section) → s ≡ Settle ((place, kd) ∷ []) first → IsLegalAs c m k s → IsPlainKind kd → AreGiven m → IsPlainSerial (effect_as c m k s) (serial_given s)
   settles_plain place kd first s e legal plain is = subst (λ (x : Section). IsPlainSerial (effect_as c m k x) (serial_given x)) (sym e) (record {
@@ -135,23 +115,12 @@ makes_area (GivingAlloc r made) = true
 makes_area _ = false
 
 module _ (c : Setup) (m : PlainMap) where
-  -- no other section leads to an area's serial
-  plain_row : (s : Section) (p : Place) (n : Next) → PlaceRow c s p n → makes_area p ≡ false → IsPlainNext m n
-  plain_row s _ _ Stays h = tt
-  plain_row s _ _ _ h = cc
-
   pub plain_next : (p : Place) (s : Section) → makes_area p ≡ false → IsPlainNext m (next c p s)
-  plain_next p s h = plain_row s p (next c p s) (place_row c s p) h
+  plain_next p s h = grind (arith, place_row, nat_tests)
 
 module _ (c : Setup) (m : PlainMap) (k : ℕ) where
-  next_by : (p : Place) (s : Section) (b : Bool) → makes_area p ≡ b → IsProper c p → AreGiven m → IsPlainPlace m p → Meets c (ask c p) s → IsLegalAs c m k s → IsPlainNext (effect_as c m k s) (next c p s)
-  next_by p s false e proper is plain w legal = plain_next c (effect_as c m k s) p s e
-  next_by (SettlingArea place kd) s true e proper is plain w legal = settles_plain c m k place kd w.0 s w.1 legal proper.0 is
-  next_by (GivingAlloc r made) s true e proper is plain w legal = made_stays c m k s legal made plain
-  next_by _ s true e proper is plain w legal = cc
-
   pub plain_after : (p : Place) (s : Section) → IsProper c p → AreGiven m → IsPlainPlace m p → Meets c (ask c p) s → IsLegalAs c m k s → IsPlainNext (effect_as c m k s) (next c p s)
-  plain_after p s proper is plain w legal = next_by p s (makes_area p) refl proper is plain w legal
+  plain_after p s proper is plain w legal = grind (arith, plain_next, settles_plain, made_stays, nat_tests)
 
 -- of a caller: what its answers made, and those of the opening, and its place
 pub record IsPlainCaller (m : PlainMap) (l : Local) : Type 0 where
@@ -163,76 +132,14 @@ pub record IsPlainWorld (w : World) : Type 0 where
   pub given : AreGiven w.map
   pub each : (k : ℕ) (l : Local) → slice_get w.locals k ≡ Some l → IsPlainCaller w.map l
 
--- what a target names
-pick_by : (m : PlainMap) (answers : List Answered) → ((i : ℕ) (a : Answered) → slice_get answers i ≡ Some a → IsPlainMade m a.made) → (i : ℕ) (o : Option Answered) → slice_get answers i ≡ o → IsPlainMade m (made_in o)
-pick_by m answers all i None e = tt
-pick_by m answers all i (Some a) e = all i a e
-
-target_plain : (m : PlainMap) (opening own : List Answered) → ((i : ℕ) (a : Answered) → slice_get opening i ≡ Some a → IsPlainMade m a.made) → ((i : ℕ) (a : Answered) → slice_get own i ≡ Some a → IsPlainMade m a.made)
-    → (t : Target) → IsPlainMade m (target_of opening own t)
-target_plain m opening own p q t = by_side t.opening refl
-  where
-    by_side : (b : Bool) → t.opening ≡ b → IsPlainMade m (target_of opening own t)
-    by_side true e = subst (λ l. IsPlainMade m (made_in (slice_get l (t.call - 1)))) (sym (ap (λ b. if b then opening else own) e)) (pick_by m opening p (t.call - 1) _ refl)
-    by_side false e = subst (λ l. IsPlainMade m (made_in (slice_get l (t.call - 1)))) (sym (ap (λ b. if b then opening else own) e)) (pick_by m own q (t.call - 1) _ refl)
-
-free_plain : (m : PlainMap) (made : Made) → IsPlainMade m made → IsPlainPlace m (begin_free_area made)
-free_plain m MadeNothing is = tt
-free_plain m (MadeArea start serial) is = is
-free_plain m (MadePart cpu page serial) is = tt
-free_plain m (MadeObject at serial) is = tt
-
-unmap_plain : (m : PlainMap) (made : Made) → IsPlainMade m made → IsPlainPlace m (begin_unmap_ram made)
-unmap_plain m MadeNothing is = tt
-unmap_plain m (MadeArea start serial) is = is
-unmap_plain m (MadePart cpu page serial) is = tt
-unmap_plain m (MadeObject at serial) is = tt
-
-object_plain : (m : PlainMap) (made : Made) → IsPlainPlace m (begin_free_percpu made)
-object_plain m MadeNothing = tt
-object_plain m (MadeArea start serial) = tt
-object_plain m (MadePart cpu page serial) = tt
-object_plain m (MadeObject at serial) = tt
-
-add_plain : (m : PlainMap) (freed : Bool) (cpu index : ℕ) (amount : ℤ) (made : Made) → IsPlainPlace m (begin_add freed cpu index amount made)
-add_plain m true cpu index amount (MadeObject at serial) = tt
-add_plain m false cpu index amount (MadeObject at serial) = tt
-add_plain m freed cpu index amount MadeNothing = tt
-add_plain m freed cpu index amount (MadeArea start serial) = tt
-add_plain m freed cpu index amount (MadePart own page serial) = tt
-
-sum_plain : (m : PlainMap) (freed : Bool) (index : ℕ) (made : Made) → IsPlainPlace m (begin_sum freed index made)
-sum_plain m true index (MadeObject at serial) = tt
-sum_plain m false index (MadeObject at serial) = tt
-sum_plain m freed index MadeNothing = tt
-sum_plain m freed index (MadeArea start serial) = tt
-sum_plain m freed index (MadePart own page serial) = tt
-
 module _ (m : PlainMap) (c : Setup) (opening own : List Answered) (p : (i : ℕ) (a : Answered) → slice_get opening i ≡ Some a → IsPlainMade m a.made) (q : (i : ℕ) (a : Answered) → slice_get own i ≡ Some a → IsPlainMade m a.made) where
-  call_plain : (call : Call) → IsPlainPlace m (begin_call c opening own call)
-  call_plain (Vmalloc bytes align) = either_place (IsPlainPlace m) (is_bad_vmalloc_size c bytes) _ _ (λ e. tt) (λ e. either_place (IsPlainPlace m) (is_bad_vmalloc_align align) _ _ (λ f. tt) (λ f. tt))
-  call_plain (Vfree t) = free_plain m (target_of opening own t) (target_plain m opening own p q t)
-  call_plain (MapRam cpu pages) = either_place (IsPlainPlace m) (is_bad_map_size c pages) _ _ (λ e. tt) (λ e. either_place (IsPlainPlace m) (nat_le pages c.part_limit) _ _ (λ f. tt) (λ f. tt))
-  call_plain (UnmapRam t) = unmap_plain m (target_of opening own t) (target_plain m opening own p q t)
-  call_plain UnmapAliases = tt
-  call_plain (AllocPercpu bytes align) = either_place (IsPlainPlace m) (is_bad_object_size bytes) _ _ (λ e. tt) (λ e. either_place (IsPlainPlace m) (is_bad_object_align align) _ _ (λ f. tt) (λ f. tt))
-  call_plain (AllocAtomic bytes align) = either_place (IsPlainPlace m) (is_bad_object_size bytes) _ _ (λ e. tt) (λ e. either_place (IsPlainPlace m) (is_bad_object_align align) _ _ (λ f. tt) (λ f. tt))
-  call_plain (FreePercpu t) = object_plain m (target_of opening own t)
-  call_plain (Add t cpu index amount) = add_plain m (was_freed (answers_in opening own t) t.call) cpu index amount (target_of opening own t)
-  call_plain (Sum t index) = sum_plain m (was_freed (answers_in opening own t) t.call) index (target_of opening own t)
-  call_plain Balance = tt
-
   begin_plain : (o : Option Call) → IsPlainPlace m (begin c opening own o)
   begin_plain None = tt
-  begin_plain (Some call) = call_plain call
+  begin_plain (Some call) = grind (arith, either_place, nat_tests)
 
 plain_answers : (m : PlainMap) (answers : List Answered) (a : Answered) → ((i : ℕ) (b : Answered) → slice_get answers i ≡ Some b → IsPlainMade m b.made) → IsPlainMade m a.made
     → (i : ℕ) (b : Answered) → slice_get (answers ++ a ∷ []) i ≡ Some b → IsPlainMade m b.made
-plain_answers m answers a all is i b h = elim (append_cases answers (a ∷ []) i b h) [ inl e ↦ all i b e | inr e ↦ new_one e.0 e.2 ]
-  where
-    new_one : (j : ℕ) → slice_get (a ∷ []) j ≡ Some b → IsPlainMade m b.made
-    new_one zero e = let same : a ≡ b = cc in subst (λ (x : Answered). IsPlainMade m x.made) same is
-    new_one (suc j) e = cc
+plain_answers m answers a all is i b h = grind (arith, append_cases, nat_tests)
 
 moved_plain : (m : PlainMap) (l : Local) (n : Next) → length l.answers < length l.calls → IsPlainCaller m l → IsPlainNext m n → IsPlainCaller m (moved_to l n)
 moved_plain m l (Go p) call is to = record { answers = is.answers; opening = is.opening; place = to }

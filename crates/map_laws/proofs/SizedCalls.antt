@@ -1,14 +1,14 @@
 -- Calls for objects have places and answers of their size.
-use Rattle.std.proofs.Common.{◌≡◌, ℕ, ◌*◌, max, inl, inr, Bool, true, false, if◌then◌else◌, List, Option, Some, None, refl, sym, ◌∙◌, subst, zero, suc, ◌+◌, ◌<◌, nat_le, [], ◌∷◌, ◌++◌, length, slice_get, ap, arith, ℤ, length-append}
+use Rattle.std.proofs.Common.{◌≡◌, ℕ, ◌*◌, inl, inr, Bool, true, false, List, Option, Some, None, refl, sym, ◌∙◌, subst, zero, suc, ◌+◌, ◌<◌, nat_le, [], ◌∷◌, ◌++◌, length, slice_get, ap, arith, length-append}
 use Rattle.vm_model.specs.declared.calls.Call.{Call}
 use Rattle.vm_model.specs.declared.calls.Call.TheVariants.{AllocPercpu, AllocAtomic, Vmalloc, Vfree, MapRam, UnmapRam, UnmapAliases, FreePercpu, Add, Sum, Balance}
 use Rattle.std.proofs.lemmas.Option.{same_Some}
 use Rattle.vm_model.specs.Setup.{Setup}
 use Rattle.vm_model.specs.Events.{Section}
-use Rattle.vm_model.specs.Places.{Made, MadeObject, Aim, ForChunk, Then, SearchAgain, Place, Refusing, Finding, FindingAgain, PurgeTaking, PurgeFragmenting, PurgeUnlinking, PurgeWaiting, PurgeCollecting, PurgeFlushing, PurgeReturning, PurgeGiving, TakingAlloc, Choosing, SettlingGroups, AddingChunk, Populating, SettlingObject, Unplacing, GivingAlloc, ChoosingAtomic, Zeroing, SettlingAtomic, ask, MadeNothing, MadeArea, MadePart, Adding, Summing}
+use Rattle.vm_model.specs.Places.{Made, MadeObject, Aim, ForChunk, Then, SearchAgain, Place, Refusing, Finding, FindingAgain, PurgeTaking, PurgeFragmenting, PurgeUnlinking, PurgeWaiting, PurgeCollecting, PurgeFlushing, PurgeReturning, PurgeGiving, TakingAlloc, Choosing, SettlingGroups, AddingChunk, Populating, SettlingObject, Unplacing, GivingAlloc, ChoosingAtomic, Zeroing, SettlingAtomic, ask, Adding, Summing}
 use Rattle.vm_model.specs.Next.{Next, Go, Answer, next}
-use Rattle.vm_model.specs.Calls.{Answered, words_for, is_bad_object_size, is_bad_object_align, begin_call, begin, begin_free_area, begin_unmap_ram, begin_free_percpu, begin_add, begin_sum, target_of, was_freed, answers_in, is_bad_vmalloc_size, is_bad_vmalloc_align, is_bad_map_size}
-use Rattle.map_laws.proofs.PlaceRows.{PlaceRow, Refused, place_row}
+use Rattle.vm_model.specs.Calls.{Answered, words_for, is_bad_object_size, is_bad_object_align, begin_call, begin, target_of, is_bad_vmalloc_size, is_bad_vmalloc_align, is_bad_map_size}
+use Rattle.map_laws.proofs.PlaceRows.{place_row}
 use Rattle.vm_model.specs.LegalHistory.{Meets}
 use Rattle.vm_model.specs.declared.calls.Target.{Target}
 use Rattle.vm_model.specs.History.{World, Local, started, answered, moved_to, opening_world, opening_answers, callers_from}
@@ -16,8 +16,7 @@ use Rattle.map_laws.proofs.Lists.{set_cases, append_cases}
 use Rattle.map_laws.proofs.Frames.{not_over, has_call}
 use Rattle.map_laws.proofs.Places.{OnNext, either_place, answers_call}
 use Rattle.map_laws.proofs.AreaWorlds.{IsLegallyLasting}
-use Rattle.map_laws.proofs.MadeNext.{is_using, IsMakingNone, makes_object, making_none}
-use Rattle.vm_model.specs.declared.calls.Reply.TheVariants as reply
+use Rattle.map_laws.proofs.MadeNext.{is_using, makes_object, making_none}
 
 -- An object has the bytes of the call that makes it.
 
@@ -64,32 +63,8 @@ IsNextSized bytes (Go p) = IsSizedAt bytes p
 IsNextSized bytes (Answer r made) = IsMadeSized bytes made
 
 module _ (c : Setup) (bytes : ℕ) where
-  chosen_sized : (own align : ℕ) (s : Section) → own ≡ bytes → Meets c (ask c (Choosing own align)) s → IsNextSized bytes (next c (Choosing own align) s)
-  chosen_sized own align s is (inl w) = subst (λ x. IsNextSized bytes (next c (Choosing own align) x)) (sym w.3) (w.2 ∙ is)
-  chosen_sized own align s is (inr w) = subst (λ x. IsNextSized bytes (next c (Choosing own align) x)) (sym w.1) is
-
-  added_sized : (base chunk own align : ℕ) (s : Section) → own ≡ bytes → Meets c (ask c (AddingChunk base chunk own align)) s → IsNextSized bytes (next c (AddingChunk base chunk own align) s)
-  added_sized base chunk own align s is w = subst (λ x. IsNextSized bytes (next c (AddingChunk base chunk own align) x)) (sym w.3) (w.2 ∙ is)
-
-  atomic_sized : (own align : ℕ) (s : Section) → own ≡ bytes → Meets c (ask c (ChoosingAtomic own align)) s → IsNextSized bytes (next c (ChoosingAtomic own align) s)
-  atomic_sized own align s is (inl w) = subst (λ x. IsNextSized bytes (next c (ChoosingAtomic own align) x)) (sym w.2) (w.1 ∙ is)
-  atomic_sized own align s is (inr w) = subst (λ x. IsNextSized bytes (next c (ChoosingAtomic own align) x)) (sym w) tt
-
-  sized_row : (s : Section) (p : Place) (n : Next) → PlaceRow c s p n → IsSizedAt bytes p → Meets c (ask c p) s → n ≡ next c p s → IsNextSized bytes n
-  sized_row s (Choosing own align) n row is w f = subst (IsNextSized bytes) (sym f) (chosen_sized own align s is w)
-  sized_row s (AddingChunk base chunk own align) n row is w f = subst (IsNextSized bytes) (sym f) (added_sized base chunk own align s is w)
-  sized_row s (ChoosingAtomic own align) n row is w f = subst (IsNextSized bytes) (sym f) (atomic_sized own align s is w)
-  sized_row s _ n (Refused r) is w f = tt
-  sized_row s _ n _ is w f = search
-
   pub sized_next : (p : Place) (s : Section) → IsSizedAt bytes p → Meets c (ask c p) s → IsNextSized bytes (next c p s)
-  sized_next p s is w = sized_row s p (next c p s) (place_row c s p) is w refl
-
-  -- where such a call begins
-  alloc_by : (place : ℕ → ℕ → Place) (asked to : ℕ) → IsSizedAt bytes (place bytes to) → bytes ≡ 4 * words_for asked → (b d : Bool) → IsSizedAt bytes (if b then Refusing reply.BadSize else (if d then Refusing reply.BadAlign else place (4 * words_for asked) to))
-  alloc_by place asked to is e true d = tt
-  alloc_by place asked to is e false true = tt
-  alloc_by place asked to is e false false = subst (λ n. IsSizedAt bytes (place n to)) e is
+  sized_next p s is w = grind (arith, place_row)
 
 -- a call for an object, and its bytes
 abbrev pub call_bytes : Call → Option ℕ
@@ -98,10 +73,8 @@ call_bytes (AllocAtomic bytes align) = Some (4 * words_for bytes)
 call_bytes _ = None
 
 pub begins_sized : (c : Setup) (opening own : List Answered) (call : Call) (bytes : ℕ) → call_bytes call ≡ Some bytes → IsSizedAt bytes (begin_call c opening own call)
-begins_sized c opening own (AllocPercpu asked align) bytes e =
-    let same : bytes ≡ 4 * words_for asked = sym (same_Some (4 * words_for asked) bytes e) in alloc_by c bytes TakingAlloc asked (max align 4) refl same (is_bad_object_size asked) (is_bad_object_align align)
-begins_sized c opening own (AllocAtomic asked align) bytes e =
-    let same : bytes ≡ 4 * words_for asked = sym (same_Some (4 * words_for asked) bytes e) in alloc_by c bytes ChoosingAtomic asked (max align 4) refl same (is_bad_object_size asked) (is_bad_object_align align)
+begins_sized c opening own (AllocPercpu asked align) bytes e = grind (arith, same_Some)
+begins_sized c opening own (AllocAtomic asked align) bytes e = grind (arith, same_Some)
 begins_sized c opening own _ bytes e = cc
 
 -- What each caller's answers say of its calls, and which call an add and a sum are made for.
@@ -113,70 +86,31 @@ IsUse l (Summing at serial index) = (t : Target) × (slice_get l.calls (length l
 IsUse l _ = Unit {0}
 
 unused : (l : Local) (p : Place) → is_using p ≡ false → IsUse l p
-unused l (Adding at serial cpu index amount) h = cc
-unused l (Summing at serial index) h = cc
-unused l _ h = tt
+unused l p h = grind arith
 
 module _ (l : Local) where
-  free_use : (made : Made) → IsUse l (begin_free_area made)
-  free_use MadeNothing = tt
-  free_use (MadeArea start serial) = tt
-  free_use (MadePart cpu page serial) = tt
-  free_use (MadeObject at serial) = tt
-
-  unmap_use : (made : Made) → IsUse l (begin_unmap_ram made)
-  unmap_use MadeNothing = tt
-  unmap_use (MadeArea start serial) = tt
-  unmap_use (MadePart cpu page serial) = tt
-  unmap_use (MadeObject at serial) = tt
-
-  object_use : (made : Made) → IsUse l (begin_free_percpu made)
-  object_use MadeNothing = tt
-  object_use (MadeArea start serial) = tt
-  object_use (MadePart cpu page serial) = tt
-  object_use (MadeObject at serial) = tt
-
-  add_use : (t : Target) (cpu index : ℕ) (amount : ℤ) (freed : Bool) (made : Made) → slice_get l.calls (length l.answers) ≡ Some (Add t cpu index amount) → target_of l.opening l.answers t ≡ made → IsUse l (begin_add freed cpu index amount made)
-  add_use t cpu index amount freed MadeNothing h e = tt
-  add_use t cpu index amount freed (MadeArea start serial) h e = tt
-  add_use t cpu index amount freed (MadePart own page serial) h e = tt
-  add_use t cpu index amount true (MadeObject at serial) h e = tt
-  add_use t cpu index amount false (MadeObject at serial) h e = (t, h, e)
-
-  sum_use : (t : Target) (index : ℕ) (freed : Bool) (made : Made) → slice_get l.calls (length l.answers) ≡ Some (Sum t index) → target_of l.opening l.answers t ≡ made → IsUse l (begin_sum freed index made)
-  sum_use t index freed MadeNothing h e = tt
-  sum_use t index freed (MadeArea start serial) h e = tt
-  sum_use t index freed (MadePart own page serial) h e = tt
-  sum_use t index true (MadeObject at serial) h e = tt
-  sum_use t index false (MadeObject at serial) h e = (t, h, e)
-
   call_use : (c : Setup) (call : Call) → slice_get l.calls (length l.answers) ≡ Some call → IsUse l (begin_call c l.opening l.answers call)
   call_use c (Vmalloc bytes align) h = either_place (IsUse l) (is_bad_vmalloc_size c bytes) _ _ (λ e. tt) (λ e. either_place (IsUse l) (is_bad_vmalloc_align align) _ _ (λ f. tt) (λ f. tt))
-  call_use c (Vfree t) h = free_use (target_of l.opening l.answers t)
+  call_use c (Vfree t) h = grind arith
   call_use c (MapRam cpu pages) h = either_place (IsUse l) (is_bad_map_size c pages) _ _ (λ e. tt) (λ e. either_place (IsUse l) (nat_le pages c.part_limit) _ _ (λ f. tt) (λ f. tt))
-  call_use c (UnmapRam t) h = unmap_use (target_of l.opening l.answers t)
+  call_use c (UnmapRam t) h = grind arith
   call_use c UnmapAliases h = tt
   call_use c (AllocPercpu bytes align) h = either_place (IsUse l) (is_bad_object_size bytes) _ _ (λ e. tt) (λ e. either_place (IsUse l) (is_bad_object_align align) _ _ (λ f. tt) (λ f. tt))
   call_use c (AllocAtomic bytes align) h = either_place (IsUse l) (is_bad_object_size bytes) _ _ (λ e. tt) (λ e. either_place (IsUse l) (is_bad_object_align align) _ _ (λ f. tt) (λ f. tt))
-  call_use c (FreePercpu t) h = object_use (target_of l.opening l.answers t)
-  call_use c (Add t cpu index amount) h = add_use t cpu index amount (was_freed (answers_in l.opening l.answers t) t.call) (target_of l.opening l.answers t) h refl
-  call_use c (Sum t index) h = sum_use t index (was_freed (answers_in l.opening l.answers t) t.call) (target_of l.opening l.answers t) h refl
+  call_use c (FreePercpu t) h = grind arith
+  call_use c (Add t cpu index amount) h = grind arith
+  call_use c (Sum t index) h = grind arith
   call_use c Balance h = tt
 
   begin_use : (c : Setup) (o : Option Call) → slice_get l.calls (length l.answers) ≡ o → IsUse l (begin c l.opening l.answers o)
-  begin_use c None h = tt
-  begin_use c (Some call) h = call_use c call h
+  begin_use c o h = grind (arith, call_use)
 
 begin_sized : (c : Setup) (opening own : List Answered) (o : Option Call) (call : Call) (bytes : ℕ) → o ≡ Some call → call_bytes call ≡ Some bytes → IsSizedAt bytes (begin c opening own o)
 begin_sized c opening own o call bytes e f = subst (λ x. IsSizedAt bytes (begin c opening own x)) (sym e) (begins_sized c opening own call bytes f)
 
 -- no section begins an add or a sum
 unused_next : (c : Setup) (p : Place) (s : Section) (b : Bool) → makes_object p ≡ b → OnNext (λ q. is_using q ≡ false) (next c p s)
-unused_next c p s false e = by_next (next c p s) (making_none c p s e)
-  where
-    by_next : (n : Next) → IsMakingNone n → OnNext (λ q. is_using q ≡ false) n
-    by_next (Go q) is = is.0
-    by_next (Answer r made) is = tt
+unused_next c p s false e = grind (arith, making_none, is_using)
 unused_next c (SettlingObject at) s true e = refl
 unused_next c (SettlingAtomic at) s true e = tt
 unused_next c (GivingAlloc r made) s true e = tt

@@ -1,22 +1,21 @@
 -- How many sections a call has left at each place, and that each section leaves fewer.
-use Rattle.std.proofs.Common.{◌≡◌, ℕ, suc, ◌+◌, ◌*◌, ◌-◌, ◌<◌, ◌≤◌, Bool, true, false, List, [], ◌∷◌, ◌++◌, Option, Some, None, subst, arith, refl, ◌⊎◌, option_map, inl, inr, not, ◌&&◌, ◌==◌, if◌then◌else◌, length, slice_get, ap, sym, ◌∙◌}
+use Rattle.std.proofs.Common.{◌≡◌, ℕ, suc, ◌+◌, ◌*◌, ◌-◌, ◌<◌, ◌≤◌, Bool, true, false, List, [], ◌∷◌, ◌++◌, Option, Some, None, subst, arith, refl, not, ◌==◌, length, ap}
 use Rattle.std.proofs.lemmas.Bool.Decides.{nat_tests}
 use Rattle.vm_model.specs.Setup.{Setup, cpus}
 use Rattle.vm_model.specs.PlainMap.{PlainMap, Chunk}
 use Rattle.vm_model.specs.Chunks.{ObjectAt, new_chunk, plain_fit, placement, spare_chunk, page_to_fill, change_chunk, with_page}
-use Rattle.vm_model.specs.Events.{Section, Filled, Fill, NoFrames}
+use Rattle.vm_model.specs.Events.{Section, Filled}
 use Rattle.vm_model.specs.Told.{placed, spare_told, page_told}
-use Rattle.vm_model.specs.Places.{Place, Over, Refusing, Finding, FindingAgain, MappingArea, Dropping, SettlingArea, Removing, UnmappingArea, Waiting, PurgeTaking, PurgeFragmenting, PurgeUnlinking, PurgeWaiting, PurgeCollecting, PurgeFlushing, PurgeReturning, PurgeGiving, CuttingPart, SettlingBlock, AddingBlock, MappingPart, SettlingPart, BeginningUnmap, UnmappingPart, Retiring, UnlinkingBlock, LookingAtDirty, TakingAlloc, Choosing, SettlingGroups, AddingChunk, Populating, SettlingObject, Unplacing, GivingAlloc, ChoosingAtomic, Zeroing, SettlingAtomic, FreeingObject, Adding, Summing, TakingToBalance, Sparing, Depopulating, UnlinkingGroups, NextFill, Filling, NotingFilled, Aim, ForArea, ForBlock, ForChunk, Then, SearchAgain, ReplyWith, SpareAgain, AskAddChunk, ask, Ask, AskFill}
+use Rattle.vm_model.specs.Places.{Place, Over, Refusing, Finding, FindingAgain, MappingArea, Dropping, SettlingArea, Removing, UnmappingArea, Waiting, PurgeTaking, PurgeFragmenting, PurgeUnlinking, PurgeWaiting, PurgeCollecting, PurgeFlushing, PurgeReturning, PurgeGiving, CuttingPart, SettlingBlock, AddingBlock, MappingPart, SettlingPart, BeginningUnmap, UnmappingPart, Retiring, UnlinkingBlock, LookingAtDirty, TakingAlloc, Choosing, SettlingGroups, AddingChunk, Populating, SettlingObject, Unplacing, GivingAlloc, ChoosingAtomic, Zeroing, SettlingAtomic, FreeingObject, Adding, Summing, TakingToBalance, Sparing, Depopulating, UnlinkingGroups, NextFill, Filling, NotingFilled, Aim, ForArea, ForBlock, ForChunk, Then, SearchAgain, ReplyWith, SpareAgain, AskAddChunk, ask, Ask}
 use Rattle.vm_model.specs.Next.{Next, Go, Answer, next, after_place, after_spare, after_page}
 use Rattle.vm_model.specs.Given.{given, placing_new, sparing, filling}
-use Rattle.map_laws.proofs.PlaceRows.{PlaceRow, Stays, FragmentedMore, LookedMore, place_row}
+use Rattle.map_laws.proofs.PlaceRows.{place_row}
 use Rattle.map_laws.proofs.Places.{IsProper, OnNext}
 use Rattle.map_laws.proofs.ChunkFalls.{added, new_chunk_has_room, opens, worth, worth_of, open_in, lower_section, IsFillable, page_fillable, AreSized}
 use Rattle.vm_model.specs.LegalHistory.{Meets}
-use Rattle.map_laws.proofs.AskRows.{AskRow, AddedChunk, ask_row}
+use Rattle.map_laws.proofs.AskRows.{ask_row}
 use Rattle.std.proofs.lemmas.List.Sums.{sum_by-cons}
 use Rattle.vm_model.proofs.Paint.{slice_get-paint}
-use Rattle.vm_model.specs.Space.{one_if, is_open, paint}
 use Rattle.vm_model.specs.Effects.{effect_as}
 use Rattle.map_laws.proofs.Chosen.{filter_has, sum_has, sum_without}
 use Rattle.map_laws.proofs.GivenMeets.{HasRoom, given_meets}
@@ -113,8 +112,7 @@ module _ (c : Setup) where
   -- a new chunk is added, at the cost that was counted for it
   added_left : (chunk base bytes align : ℕ) (o : Option (ObjectAt × List ℕ)) (p : ObjectAt × List ℕ) → o ≡ Some p
       → left_next c (after_place bytes align 0 (placed (placing_new chunk base bytes align o))) + added c (placing_new chunk base bytes align o) < 4 + chunk_cost c
-  added_left chunk base bytes align None p e = cc
-  added_left chunk base bytes align (Some q) p e = omega arith
+  added_left chunk base bytes align o p e = grind (arith, nat_tests)
 
   module _ (m : PlainMap) (units : 8 ≤ c.unit_pages) where
     pub chunk_left : (base chunk bytes align : ℕ) (s : Section) → bytes ≤ 32768 → given c m (AskAddChunk chunk base bytes align) ≡ Some s
@@ -124,19 +122,8 @@ module _ (c : Setup) where
         let is : placing_new chunk base bytes align (placement c (plain_fit c bytes align) bytes (m.chunks ++ new_chunk c chunk base ∷ [])) ≡ s = cc in
         subst (λ (x : Section). left_next c (after_place bytes align 0 (placed x)) + added c x < 4 + chunk_cost c) is (added_left chunk base bytes align _ room.0 room.1)
 
-    fall_row : (s : Section) (p : Place) (n : Next) → PlaceRow c s p n → is_balancing p ≡ false → adds_chunk p ≡ false → given c m (ask c p) ≡ Some s → left_next c n < left c p
-    fall_row s _ _ Stays b a e = cc
-    fall_row s _ _ (FragmentedMore cpu gone extra after f) b a e = let more : suc cpu < cpus c = grind (arith, nat_tests) in omega arith
-    fall_row s _ _ (LookedMore cpu ranges f) b a e = let more : suc cpu < cpus c = grind (arith, nat_tests) in omega arith
-    fall_row s (AddingChunk base chunk bytes align) n row b a e = cc
-    fall_row s Sparing n row b a e = cc
-    fall_row s (NextFill filled) n row b a e = cc
-    fall_row s (Filling chunk base page filled) n row b a e = cc
-    fall_row s (NotingFilled chunk page filled) n row b a e = cc
-    fall_row s _ _ _ b a e = omega arith
-
     pub step_falls : (p : Place) (s : Section) → is_balancing p ≡ false → adds_chunk p ≡ false → IsProper c p → given c m (ask c p) ≡ Some s → left_next c (next c p s) < left c p
-    step_falls p s n a is e = fall_row s p (next c p s) (place_row c s p) n a e
+    step_falls p s n a is e = grind (arith, place_row, nat_tests)
 
 -- What a caller that fills pages has to its credit, and that none but a balance has any.
 
@@ -163,54 +150,30 @@ abbrev pub IsNoFilling : Place → Type 0
 IsNoFilling p = is_filling p ≡ false
 
 pub no_credit : (chunks : List Chunk) (p : Place) → IsNoFilling p → credit chunks p ≡ 0
-no_credit chunks (Filling chunk base page filled) h = cc
-no_credit chunks (NotingFilled chunk page filled) h = cc
-no_credit chunks _ h = refl
+no_credit chunks p h = grind (arith, nat_tests)
 
 pub no_credit_next : (chunks : List Chunk) (n : Next) → OnNext IsNoFilling n → credit_next chunks n ≡ 0
-no_credit_next chunks (Go p) h = no_credit chunks p h
-no_credit_next chunks (Answer reply made) h = refl
-
--- no other section leads to a filling
-no_filling_row : (c : Setup) (s : Section) (p : Place) (n : Next) → PlaceRow c s p n → is_balancing p ≡ false → OnNext IsNoFilling n
-no_filling_row c s _ _ Stays h = cc
-no_filling_row c s _ _ _ h = cc
+no_credit_next chunks n h = grind (arith, no_credit, nat_tests)
 
 module _ (c : Setup) where
   pub no_filling_next : (p : Place) (s : Section) → is_balancing p ≡ false → OnNext IsNoFilling (next c p s)
-  no_filling_next p s h = no_filling_row c s p (next c p s) (place_row c s p) h
-
-  -- only where a chunk is added does a section add to the chunks
-  added_row : (a : Ask) (s : Section) → AskRow c a s → asks_chunk a ≡ false → added c s ≡ 0
-  added_row _ _ (AddedChunk chunk base bytes align at missing e) h = cc
-  added_row _ _ _ h = refl
+  no_filling_next p s h = grind (arith, place_row, nat_tests)
 
   pub adds_nothing : (a : Ask) (s : Section) → asks_chunk a ≡ false → Meets c a s → added c s ≡ 0
-  adds_nothing a s h w = added_row a s (ask_row c a s w) h
+  adds_nothing a s h w = grind (arith, ask_row, added, nat_tests)
 
 -- Each section lowers what all callers have left, their chunks' worth and the filler's credit together.
 
 -- the object of a new chunk has room
 pub has_room : (c : Setup) (m : PlainMap) (p : Place) → 8 ≤ c.unit_pages → IsProper c p → HasRoom c m (ask c p)
-has_room c m (AddingChunk base chunk bytes align) u is = new_chunk_has_room c chunk base bytes align m.chunks u is.0
-has_room c m _ u is = tt
-
-asks_as : (c : Setup) (p : Place) → adds_chunk p ≡ false → asks_chunk (ask c p) ≡ false
-asks_as c (AddingChunk base chunk bytes align) h = cc
-asks_as c _ h = refl
+has_room c m p u is = grind (arith, new_chunk_has_room, nat_tests)
 
 same_count : (n : ℕ) → (n == n) ≡ true
 same_count n = grind (arith, nat_tests)
 
 module _ (c : Setup) (m : PlainMap) (k : ℕ) (units : 8 ≤ c.unit_pages) where
-  -- all sections but those of a balance
-  plain_by : (p : Place) (s : Section) (b : Bool) → adds_chunk p ≡ b → is_balancing p ≡ false → IsProper c p → given c m (ask c p) ≡ Some s → left_next c (next c p s) + added c s < left c p
-  plain_by p s false f h is e = omega (arith, step_falls c m units p s h f is e, adds_nothing c (ask c p) s (asks_as c p f) (given_meets c m s (ask c p) (has_room c m p units is) e))
-  plain_by (AddingChunk base chunk bytes align) s true f h is e = chunk_left c m units base chunk bytes align s is.0 e
-  plain_by _ s true f h is e = cc
-
   pub plain_falls : (p : Place) (s : Section) → is_balancing p ≡ false → IsProper c p → given c m (ask c p) ≡ Some s → left_next c (next c p s) + added c s < left c p
-  plain_falls p s h is e = plain_by p s (adds_chunk p) refl h is e
+  plain_falls p s h is e = grind (arith, added, step_falls, adds_nothing, given_meets, has_room, chunk_left, nat_tests)
 
   -- The sections of a balance.
 
@@ -223,52 +186,19 @@ module _ (c : Setup) (m : PlainMap) (k : ℕ) (units : 8 ≤ c.unit_pages) where
       omega (arith, sum_without (worth c) (λ (x : Chunk). not (x.number == h.number)) m.chunks h kept.there.place kept.there.at gone)
 
   opens_some : (h : Chunk) (page : ℕ) → IsFillable m.chunks h page → 1 ≤ opens h.number page m.chunks
-  opens_some h page is =
-      let open_there : open_in h.number page h ≡ 1 = ap (λ b. one_if (b && is_open (slice_get h.populated page))) (same_count h.number) ∙ ap (λ o. one_if (is_open o)) is.unpopulated in
-      omega (arith, sum_has (open_in h.number page) m.chunks h is.there.place is.there.at)
+  opens_some h page is = grind (arith, open_in, same_count, sum_has, nat_tests)
 
   filled_next : AreSized c m.chunks → (filled : ℕ) (o : Option (Chunk × ℕ)) → page_to_fill c m.chunks ≡ o
       → left_next c (after_page filled (page_told (filling o))) + credit_next (effect_as c m k (filling o)).chunks (after_page filled (page_told (filling o))) + worth_of c (effect_as c m k (filling o)).chunks < 4 + worth_of c m.chunks
-  filled_next sized filled None e = omega arith
-  filled_next sized filled (Some p) e = omega (arith, opens_some p.0 p.1 (page_fillable c m.chunks p sized.each e))
-
-  filled_by : (chunk base page filled : ℕ) (s : Section) → (s ≡ Fill base page) ⊎ ((asked : ℕ) × (s ≡ NoFrames asked))
-      → left_next c (next c (Filling chunk base page filled) s) + credit_next (effect_as c m k s).chunks (next c (Filling chunk base page filled) s) + worth_of c (effect_as c m k s).chunks
-      < 3 + (3 - 3 * opens chunk page m.chunks) + worth_of c m.chunks
-  filled_by chunk base page filled s (inl e) = subst (λ (x : Section). left_next c (next c (Filling chunk base page filled) x) + credit_next (effect_as c m k x).chunks (next c (Filling chunk base page filled) x)
-      + worth_of c (effect_as c m k x).chunks < 3 + (3 - 3 * opens chunk page m.chunks) + worth_of c m.chunks) (sym e) (omega arith)
-  filled_by chunk base page filled s (inr e) = subst (λ (x : Section). left_next c (next c (Filling chunk base page filled) x) + credit_next (effect_as c m k x).chunks (next c (Filling chunk base page filled) x)
-      + worth_of c (effect_as c m k x).chunks < 3 + (3 - 3 * opens chunk page m.chunks) + worth_of c m.chunks) (sym e.1) (omega arith)
-
-  -- the page that is noted was unpopulated, or was to the filler's credit
-  closed_page : (xs : List Bool) (page : ℕ) → is_open (slice_get (paint (λ other. other == page) true xs) page) ≡ false
-  closed_page xs page = ap is_open (slice_get-paint (λ other. other == page) true xs page) ∙ of_option (slice_get xs page)
-    where
-      of_option : (o : Option Bool) → is_open (option_map (λ y. if page == page then true else y) o) ≡ false
-      of_option None = refl
-      of_option (Some b) = ap (λ t. not (if t then true else b)) (same_count page)
-
-  closed_chunk : (chunk page : ℕ) (h : Chunk) (b : Bool) → (h.number == chunk) ≡ b → open_in chunk page (if b then with_page page h else h) ≡ 0
-  closed_chunk chunk page h true e = ap (λ t. one_if (t && is_open (slice_get (paint (λ other. other == page) true h.populated) page))) e ∙ ap one_if (closed_page h.populated page)
-  closed_chunk chunk page h false e = ap (λ t. one_if (t && is_open (slice_get h.populated page))) e
+  filled_next sized filled o e = grind (arith, opens_some, page_fillable, nat_tests)
 
   closed_all : (chunk page : ℕ) (chunks : List Chunk) → opens chunk page (change_chunk chunk (with_page page) chunks) ≡ 0
   closed_all chunk page [] = refl
-  closed_all chunk page (h ∷ chunks) = omega (
-    arith,
-    sum_by-cons (open_in chunk page) (if h.number == chunk then with_page page h else h) (change_chunk chunk (with_page page) chunks),
-    closed_chunk chunk page h _ refl,
-    closed_all chunk page chunks,
-  )
+  closed_all chunk page (h ∷ chunks) = grind (arith, closed_all chunk page chunks, sum_by-cons, open_in, slice_get-paint, same_count, nat_tests)
 
   noted : (chunk page : ℕ) → 4 + worth_of c (effect_as c m k (Filled chunk page)).chunks < 2 + (3 - 3 * opens chunk page m.chunks) + worth_of c m.chunks
   noted chunk page = let low = lower_section c chunk page m k (Filled chunk page) in let a = low.less in let b = low.closes in
       omega (arith, closed_all chunk page m.chunks)
-
-  -- every section, with the chunks' worth and the credit of the caller that makes it
-  fill_ends : (base page : ℕ) (s : Section) → Meets c (AskFill base page) s → (s ≡ Fill base page) ⊎ ((asked : ℕ) × (s ≡ NoFrames asked))
-  fill_ends base page s (inl e) = inl e
-  fill_ends base page s (inr e) = inr (_, e)
 
   told_falls : (p : Place) (t s : Section) (n : ℕ) → Some t ≡ Some s → left_next c (next c p t) + credit_next (effect_as c m k t).chunks (next c p t) + worth_of c (effect_as c m k t).chunks < n
       → left_next c (next c p s) + credit_next (effect_as c m k s).chunks (next c p s) + worth_of c (effect_as c m k s).chunks < n
@@ -278,7 +208,7 @@ module _ (c : Setup) (m : PlainMap) (k : ℕ) (units : 8 ≤ c.unit_pages) where
       → left_next c (next c p s) + credit_next (effect_as c m k s).chunks (next c p s) + worth_of c (effect_as c m k s).chunks < left c p + credit m.chunks p + worth_of c m.chunks
   balance_falls sized Sparing s h e = told_falls Sparing (sparing c (spare_chunk m.chunks)) s (5 + 0 + worth_of c m.chunks) e (spared (spare_chunk m.chunks) refl)
   balance_falls sized (NextFill filled) s h e = told_falls (NextFill filled) (filling (page_to_fill c m.chunks)) s (4 + 0 + worth_of c m.chunks) e (filled_next sized filled (page_to_fill c m.chunks) refl)
-  balance_falls sized (Filling chunk base page filled) s h e = filled_by chunk base page filled s (fill_ends base page s (given_meets c m s (AskFill base page) tt e))
+  balance_falls sized (Filling chunk base page filled) s h e = grind (arith, given_meets, worth_of, opens, nat_tests)
   balance_falls sized (NotingFilled chunk page filled) s h e =
       told_falls (NotingFilled chunk page filled) (Filled chunk page) s (2 + (3 - 3 * opens chunk page m.chunks) + worth_of c m.chunks) e (let a = noted chunk page in omega arith)
   balance_falls sized _ s h e = cc

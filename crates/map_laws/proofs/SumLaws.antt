@@ -4,13 +4,13 @@ use Rattle.std.proofs.lemmas.Option.{same_Some}
 use Rattle.vm_model.specs.declared.calls.Call.{Call}
 use Rattle.vm_model.specs.Space.{is_among}
 use Rattle.vm_model.specs.Setup.{Setup, pages_in_units}
-use Rattle.vm_model.specs.PlainMap.{Chunk, Object, Life, InHand, Lives, Ended, is_live, is_in_hand}
+use Rattle.vm_model.specs.PlainMap.{Chunk, Object, Life, InHand, Lives, is_live, is_in_hand}
 use Rattle.vm_model.specs.Frames.{pages_of_bytes}
 use Rattle.vm_model.specs.Chunks.{ObjectAt, pages_of_object, object_pages}
 use Rattle.vm_model.specs.Events.{Section, AddWord}
 use Rattle.vm_model.specs.Legal.{OnPages, IsMapped, IsLegalAs}
 use Rattle.vm_model.specs.Effects.{effect_as}
-use Rattle.vm_model.specs.Places.{Place, Adding, Summing, SettlingObject, SettlingAtomic, ask}
+use Rattle.vm_model.specs.Places.{Place, SettlingObject, SettlingAtomic, ask}
 use Rattle.vm_model.specs.Next.{next}
 use Rattle.vm_model.specs.Calls.{Answered}
 use Rattle.vm_model.specs.LegalHistory.{Meets, IsReached}
@@ -25,7 +25,6 @@ use Rattle.map_laws.proofs.ChunkFacts.{IsChunkAt, unit_page}
 use Rattle.map_laws.proofs.ObjectFacts.{IsObject, IsObjectAt}
 use Rattle.map_laws.proofs.ObjectWorlds.{SomeonePlaces}
 use Rattle.map_laws.proofs.ObjectLaws.{object_done, populated_mapped, copies_once}
-use Rattle.map_laws.proofs.MadeNext.{IsNow}
 use Rattle.map_laws.proofs.ObjectsReady.{named_live}
 use Rattle.map_laws.proofs.TraceWorlds.{IsTraceWorld, trace_lasts, trace_first}
 use Rattle.map_laws.proofs.Deeds.{adds_at}
@@ -87,14 +86,8 @@ abbrev IsUnsettling : Place → Type 0
 IsUnsettling p = (at : ObjectAt) → IsZeroedAt p at → ⊥
 
 module _ (c : Setup) (opening : List Call) (calls : List (List Call)) (trace : IsTrace c opening calls) where
-  usable_by : (w : World) (framed : IsFramed c w) (is : IsSumWorld c opening calls w) (k : ℕ) (l : Local) (here : slice_get w.locals k ≡ Some l) (p : Place) → l.place ≡ p → IsNow l p → IsUsable c w.map p
-  usable_by w framed is k l here (Adding at serial cpu index amount) e now =
-      let within = add_within c opening calls trace w is.sized is.trace.uses k l here at serial cpu index amount e in (named_live c trace.setup w framed is.trace k l here at serial now, within.0, within.1)
-  usable_by w framed is k l here (Summing at serial index) e now = (named_live c trace.setup w framed is.trace k l here at serial now, sum_within c opening calls trace w is.sized is.trace.uses k l here at serial index e)
-  usable_by w framed is k l here _ e now = tt
-
   usable : (w : World) (framed : IsFramed c w) (is : IsSumWorld c opening calls w) (k : ℕ) (l : Local) (here : slice_get w.locals k ≡ Some l) → IsUsable c w.map l.place
-  usable w framed is k l here = usable_by w framed is k l here l.place refl (is.trace.uses.now k l here)
+  usable w framed is k l here = grind (arith, add_within, named_live, sum_within)
 
   -- Each legal section keeps it.
 
@@ -195,22 +188,10 @@ module _ (c : Setup) (opening : List Call) (calls : List (List Call)) (trace : I
 
 -- an object of the map
 object_here : (w : World) (i j : ℕ) (h : Chunk) (o : Object) → slice_get w.map.chunks i ≡ Some h → slice_get h.objects j ≡ Some o → IsObject w.map.chunks (object_at h o) o.life
-object_here w i j h o e f = record {
-  chunk = h;
-  there = record { place = i; at = e };
-  numbered = refl;
-  based = refl;
-  object = o;
-  object_there = record { place = j; at = f };
-  off = refl;
-  bytes = refl;
-  lives = refl;
-}
+object_here w i j h o e f = grind arith
 
 lives_under : (life : Life) → is_live life ≡ true → (serial : ℕ) × (life ≡ Lives serial)
-lives_under (InHand k) e = cc
-lives_under (Lives serial) e = (serial, refl)
-lives_under Ended e = cc
+lives_under life e = grind arith
 
 pub sums_are_the_adds : SumsAreTheAdds
 sums_are_the_adds c opening calls w trace reached =

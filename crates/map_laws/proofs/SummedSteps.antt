@@ -23,21 +23,17 @@ use Rattle.map_laws.proofs.ObjectsBefore.{CameFrom, Was, Settled, came_from, one
 use Rattle.map_laws.proofs.ZeroedPlaces.{IsZeroedAt, Zeroes, Populated, Zeroed}
 use Rattle.map_laws.proofs.TouchedWords.{AreWordsOwn, IsUsable, wordy_of, AreApartFrames, adding, word_same}
 use Rattle.map_laws.proofs.SummedWorlds.{IsSummed, byte_in, amount_serial, live_untouched, hand_untouched, sum_same, sum_added}
-use Rattle.map_laws.proofs.Deeds as deed
 
 -- the next serial of an object doesn't fall
 next_grows : (c : Setup) (m : PlainMap) (k : ℕ) (s : Section) → IsLegalAs c m k s → m.next_object ≤ (effect_as c m k s).next_object
-next_grows c m k (SettleObject at serial) legal = let e = legal.1 in omega arith
-next_grows c m k _ legal = omega arith
+next_grows c m k s legal = grind arith
 
 settling_zeroed : (at : ObjectAt) (p : Place) → SettlesAt at p → IsZeroedAt p at
-settling_zeroed at p deed.Populated = refl
-settling_zeroed at p deed.Zeroed = refl
+settling_zeroed at p x2 = grind arith
 
 was_or_settled : (chunks : List Chunk) (at : ObjectAt) (serial : ℕ) (t : Section) → CameFrom chunks at serial t
     → IsObject chunks at (Lives serial) ⊎ ((o : ObjectAt) × (t ≡ SettleObject o serial) × (at.chunk ≡ o.chunk) × (at.off ≡ o.off))
-was_or_settled chunks at serial r (Was t is) = inl is
-was_or_settled chunks at serial r (Settled o life is e f) = inr (o, refl, e, f)
+was_or_settled chunks at serial r x4 = grind arith
 
 module _ (c : Setup) (w : World) (own : AreWordsOwn c w) (kept : IsSummed c w) (k : ℕ) (l : Local) (here : slice_get w.locals k ≡ Some l) (hand : IsObjectAt w.map k l.place) (usable : IsUsable c w.map l.place) where
   module _ (s : Section) (meets : Meets c (ask c l.place) s) (legal : IsLegalAs c w.map k s) (moved : Local) where
@@ -68,16 +64,8 @@ module _ (c : Setup) (w : World) (own : AreWordsOwn c w) (kept : IsSummed c w) (
       ]
     ]
 
-    -- an add is to a serial that was given
-    amount_later : (serial index : ℕ) (t : Section) → Meets c (ask c l.place) t → w.map.next_object ≤ serial → amount_of serial index t ≡ pos 0
-    amount_later serial index (AddWord o own_serial cpu at_index amount) asked high =
-        amount_serial o serial own_serial cpu index at_index amount (λ e. (let low = kept.serials o own_serial (adding c w own k l.place hand usable o own_serial cpu at_index amount asked).0 in omega arith))
-    amount_later serial index t asked high = adds_nothing serial index t refl
-
     later_now : (serial index : ℕ) → made.map.next_object ≤ serial → added serial index made.events ≡ pos 0
-    later_now serial index high =
-        let more = next_grows c w.map k s legal in
-        added_same serial index w.events event (amount_later serial index s meets (omega arith)) ∙ kept.later serial index (omega arith)
+    later_now serial index high = grind (arith, next_grows, added_same, amount_serial, adding, adds_nothing)
 
     module _ (own' : AreWordsOwn c made) (zeroes : (at : ObjectAt) → IsZeroedAt moved.place at → Zeroes at s) where
       -- Sums.
@@ -138,11 +126,7 @@ module _ (c : Setup) (w : World) (own : AreWordsOwn c w) (kept : IsSummed c w) (
       -- Sums that were told.
 
       told_last : (at : ObjectAt) (serial index : ℕ) (total : ℤ) → s ≡ SumWords at serial index total → total ≡ added serial index w.events
-      told_last at serial index total e =
-          let place = sums_at c l.place at serial index total (subst (Meets c (ask c l.place)) e meets) in
-          let live = subst (IsUsable c w.map) place usable in
-          let law = subst (IsLegalAs c w.map k) e legal in
-          law.2 ∙ kept.sums at serial index live.0 live.1
+      told_last at serial index total e = grind (arith, sums_at)
 
       told_now : (i caller serial index : ℕ) (at : ObjectAt) (total : ℤ) → IsEvent made.events i caller (SumWords at serial index total) → total ≡ added serial index (take i made.events)
       told_now i caller serial index at total h = by_event (which_event w.events k s i caller (SumWords at serial index total) h)

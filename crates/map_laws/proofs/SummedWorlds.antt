@@ -1,5 +1,5 @@
 -- A sum is what was added to its object and index: each legal section keeps it.
-use Rattle.std.proofs.Common.{◌≡◌, ◌≢◌, ℕ, ◌+◌, ◌*◌, ◌<◌, ◌≤◌, inl, inr, Bool, true, false, ◌&&◌, ◌==◌, if◌then◌else◌, take, slice_get, Some, refl, ap, sym, ◌∙◌, subst, arith, ℤ, pos, ◌+ℤ◌}
+use Rattle.std.proofs.Common.{◌≡◌, ◌≢◌, ℕ, ◌+◌, ◌*◌, ◌<◌, ◌≤◌, inl, inr, Bool, true, false, ◌==◌, take, slice_get, Some, refl, ap, sym, ◌∙◌, subst, arith, ℤ, pos, ◌+ℤ◌}
 use Rattle.std.proofs.lemmas.Bool.Decides.{nat_tests}
 use Rattle.std.proofs.Math.IntN.{+ℤ_idr}
 use Rattle.std.proofs.lemmas.Option.{get_or_from_slice_get}
@@ -40,38 +40,19 @@ byte_in at index unit = copy_at at unit + 4 * index
 unit_word : (c : Setup) (at : ObjectAt) (cpu index unit : ℕ) → slice_get c.units cpu ≡ Some unit → 4 * index < at.bytes → IsWordOf c at cpu index (byte_in at index unit)
 unit_word c at cpu index unit there inside = record { unit = unit; at_unit = there; inside = inside; is = refl }
 
-test_is : (a b : ℕ) (t : Bool) → (a == b) ≡ t → a ≡ b → t ≡ true
-test_is a b true e f = refl
-test_is a b false e f = let g : (a == b) ≡ true = grind (arith, nat_tests) in cc
-
 test_not : (a b : ℕ) (t : Bool) → (a == b) ≡ t → a ≢ b → t ≡ false
 test_not a b true e n = absurd (n (let f : a ≡ b = grind (arith, nat_tests) in f))
 test_not a b false e n = refl
 
 -- what an add comes to, for its own serial and index, and for others
 amount_own : (at : ObjectAt) (serial cpu index : ℕ) (amount : ℤ) → amount_of serial index (AddWord at serial cpu index amount) ≡ amount
-amount_own at serial cpu index amount = by_tests (serial == serial) (index == index) (test_is serial serial (serial == serial) refl refl) (test_is index index (index == index) refl refl)
-  where
-    by_tests : (a b : Bool) → a ≡ true → b ≡ true → (if a && b then amount else pos 0) ≡ amount
-    by_tests true true e f = refl
-    by_tests false b e f = cc
-    by_tests true false e f = cc
+amount_own at serial cpu index amount = grind (arith, nat_tests)
 
 pub amount_serial : (at : ObjectAt) (serial own cpu index at_index : ℕ) (amount : ℤ) → own ≢ serial → amount_of serial index (AddWord at own cpu at_index amount) ≡ pos 0
-amount_serial at serial own cpu index at_index amount n = by_tests (own == serial) (at_index == index) (test_not own serial (own == serial) refl n)
-  where
-    by_tests : (a b : Bool) → a ≡ false → (if a && b then amount else pos 0) ≡ pos 0
-    by_tests true b e = cc
-    by_tests false true e = refl
-    by_tests false false e = refl
+amount_serial at serial own cpu index at_index amount n = grind (arith, test_not, nat_tests)
 
 amount_index : (at : ObjectAt) (serial own cpu index at_index : ℕ) (amount : ℤ) → at_index ≢ index → amount_of serial index (AddWord at own cpu at_index amount) ≡ pos 0
-amount_index at serial own cpu index at_index amount n = by_tests (own == serial) (at_index == index) (test_not at_index index (at_index == index) refl n)
-  where
-    by_tests : (a b : Bool) → b ≡ false → (if a && b then amount else pos 0) ≡ pos 0
-    by_tests a true e = cc
-    by_tests true false e = refl
-    by_tests false false e = refl
+amount_index at serial own cpu index at_index amount n = grind (arith, test_not, nat_tests)
 
 -- A legal section of one caller, over the setup itself and under its number.
 

@@ -1,5 +1,5 @@
 -- Which pages a section touches; all others are as before.
-use Rattle.std.proofs.Common.{Bool, List, None, Option, Some, [], ap, arith, false, if◌then◌else◌, map, option_map, refl, slice_get, slice_set, suc, true, zero, ℕ, ◌+◌, ◌<◌, ◌==◌, ◌||◌, ◌∙◌, ◌∷◌, ◌≡◌, ◌≢◌, ◌≤◌}
+use Rattle.std.proofs.Common.{Bool, List, Option, Some, [], ap, arith, false, if◌then◌else◌, map, option_map, refl, slice_get, slice_set, suc, true, zero, ℕ, ◌+◌, ◌<◌, ◌==◌, ◌||◌, ◌∙◌, ◌∷◌, ◌≡◌, ◌≤◌}
 use Rattle.std.proofs.lemmas.Bool.Decides.{nat_tests}
 use Rattle.vm_model.proofs.Paint.{slice_get-paint}
 use Rattle.vm_model.specs.Areas.{areas_of, areas_starting, mark_live, spans_of}
@@ -42,28 +42,18 @@ pub record IsSame (m m' : PlainMap) (page : ℕ) : Type 0 where
 -- Painting.
 
 pub unpainted : {X : Type 0} (test : ℕ → Bool) (x : X) (xs : List X) (page : ℕ) → test page ≡ false → slice_get (paint test x xs) page ≡ slice_get xs page
-unpainted test x xs page e = slice_get-paint test x xs page ∙ of_option (slice_get xs page)
-  where
-    of_option : (o : Option _) → option_map (λ y. if test page then x else y) o ≡ o
-    of_option None = refl
-    of_option (Some y) = ap (λ b. Some (if b then x else y)) e
+unpainted test x xs page e = grind (arith, slice_get-paint, nat_tests)
 
 pub painted : {X : Type 0} (test : ℕ → Bool) (x y : X) (xs : List X) (page : ℕ) → test page ≡ true → slice_get xs page ≡ Some y → slice_get (paint test x xs) page ≡ Some x
 painted test x y xs page e f = slice_get-paint test x xs page ∙ ap (option_map (λ y. if test page then x else y)) f ∙ ap (λ b. Some (if b then x else y)) e
 
 -- what is painted with the value that it had
 pub painted_still : {X : Type 0} (test : ℕ → Bool) (x : X) (xs : List X) (page : ℕ) → slice_get xs page ≡ Some x → slice_get (paint test x xs) page ≡ Some x
-painted_still test x xs page f = slice_get-paint test x xs page ∙ ap (option_map (λ y. if test page then x else y)) f ∙ same_choice (test page)
-  where
-    same_choice : (b : Bool) → Some (if b then x else x) ≡ Some x
-    same_choice true = refl
-    same_choice false = refl
+painted_still test x xs page f = grind (arith, slice_get-paint, nat_tests)
 
 pub unmarked_live : (areas : List Area) (marks : List Mark) (page : ℕ) → covers (spans_of areas) page ≡ false → slice_get (mark_live areas marks) page ≡ slice_get marks page
 unmarked_live [] marks page e = refl
-unmarked_live (a ∷ areas) marks page e =
-    let both = or_none (holds a.span page) (covers (spans_of areas) page) e in
-    unmarked_live areas (paint (holds a.span) (Live a.serial) marks) page both.1 ∙ unpainted (holds a.span) (Live a.serial) marks page both.0
+unmarked_live (a ∷ areas) marks page e = grind (arith, unmarked_live areas (paint (holds a.span) (Live a.serial) marks) page, or_none, unpainted, nat_tests)
 
 pub spans_of-areas_of : (k first : ℕ) (areas : List (Span × AreaKind)) → spans_of (areas_of k first areas) ≡ map (λ a. a.0) areas
 spans_of-areas_of k first [] = refl
@@ -76,29 +66,14 @@ among_cons page p pages = refl
 pub ungiven : (pages free : List ℕ) (frames : List (Option ℕ)) (page : ℕ) → is_among pages page ≡ false → slice_get (give_frames pages free frames) page ≡ slice_get frames page
 ungiven [] free frames page e = refl
 ungiven (p ∷ pages) [] frames page e = refl
-ungiven (p ∷ pages) (frame ∷ free) frames page e =
-    let both = or_none (p == page) (is_among pages page) e in
-    ungiven pages free (slice_set frames p (Some frame)) page both.1 ∙ set_other frames p page (Some frame) (differ both.0)
-  where
-    differ : (p == page) ≡ false → page ≢ p
-    differ h f = grind (arith, nat_tests)
-
--- the pages of a span as a list
-row_by : (n first page : ℕ) (b : Bool) → (first == page) ≡ b → (b || is_among (count_from n (suc first)) page) ≡ true
-    → (is_among (count_from n (suc first)) page ≡ true → (suc first ≤ page) × (page < suc first + n)) → (first ≤ page) × (page < first + suc n)
-row_by n first page true e g more = (grind (arith, nat_tests), grind (arith, nat_tests))
-row_by n first page false e g more = let r = more g in (omega arith, omega arith)
+ungiven (p ∷ pages) (frame ∷ free) frames page e = grind (arith, ungiven pages free (slice_set frames p (Some frame)) page, or_none, set_other, nat_tests)
 
 pub in_row : (n first page : ℕ) → is_among (count_from n first) page ≡ true → (first ≤ page) × (page < first + n)
 in_row zero first page h = cc
-in_row (suc n) first page h = row_by n first page (first == page) refl h (in_row n (suc first) page)
+in_row (suc n) first page h = grind (arith, in_row n (suc first) page, nat_tests)
 
 pub outside_row : (s : Span) (page : ℕ) → holds s page ≡ false → is_among (pages_of s) page ≡ false
-outside_row s page e = if_in (is_among (pages_of s) page) refl
-  where
-    if_in : (b : Bool) → is_among (pages_of s) page ≡ b → is_among (pages_of s) page ≡ false
-    if_in true f = let r = in_row s.pages s.start page f in let yes = holds_from s page r.0 r.1 in cc
-    if_in false f = f
+outside_row s page e = grind (arith, in_row, holds_from, nat_tests)
 
 -- a page that isn't touched is as before
 pub untouched : (c : Setup) (m : PlainMap) (k : ℕ) (s : Section) (page : ℕ) → touch c m s page ≡ false → IsSame m (effect_as c m k s) page
@@ -106,11 +81,7 @@ untouched c m k (Carve place align) page e = record { mark = unpainted (holds pl
 untouched c m k (CarveGroups base) page e = record { mark = unpainted (covers (groups_at c base)) _ m.marks page e; frame = refl; clean = λ h. h }
 untouched c m k (Drop s) page e = record { mark = unpainted (holds s) _ m.marks page e; frame = refl; clean = λ h. h }
 untouched c m k (Return spans) page e = record { mark = unpainted (covers spans) _ m.marks page e; frame = refl; clean = λ h. h }
-untouched c m k (Settle areas first) page e = record {
-  mark = unmarked_live (areas_of k first areas) m.marks page (ap (λ spans. covers spans page) (spans_of-areas_of k first areas) ∙ e);
-  frame = refl;
-  clean = λ h. h;
-}
+untouched c m k (Settle areas first) page e = grind (arith, unmarked_live, spans_of-areas_of, nat_tests)
 untouched c m k (Remove start serial area) page e = record { mark = unpainted (holds area.span) _ m.marks page e; frame = refl; clean = λ h. h }
 untouched c m k (Unlink starts) page e = record { mark = unpainted (covers (spans_of (areas_starting starts m.areas))) _ m.marks page e; frame = refl; clean = λ h. h }
 untouched c m k (Wait spans waiting) page e = record { mark = unpainted (covers spans) _ m.marks page e; frame = refl; clean = λ h. h }
@@ -118,15 +89,7 @@ untouched c m k (TakeWaiting all) page e = record { mark = unpainted (covers all
 untouched c m k (MapPages s) page e = record { mark = refl; frame = ungiven (pages_of s) (free_frames c m.frames) m.frames page (outside_row s page e); clean = λ h. h }
 untouched c m k (Populate at missing) page e = record { mark = refl; frame = ungiven (pages_in_units c at.base missing) (free_frames c m.frames) m.frames page e; clean = λ h. h }
 untouched c m k (Fill base own) page e = record { mark = refl; frame = ungiven (pages_in_units c base (own ∷ [])) (free_frames c m.frames) m.frames page e; clean = λ h. h }
-untouched c m k (Unmap s) page e = record {
-  mark = refl;
-  frame = unpainted (holds s) None m.frames page e;
-  clean = λ h. unpainted (holds s) true m.stale page e ∙ h;
-}
-untouched c m k (Depopulate base pages) page e = record {
-  mark = refl;
-  frame = unpainted (is_among (pages_in_units c base pages)) None m.frames page e;
-  clean = λ h. unpainted (is_among (pages_in_units c base pages)) true m.stale page e ∙ h;
-}
+untouched c m k (Unmap s) page e = grind (arith, unpainted, nat_tests)
+untouched c m k (Depopulate base pages) page e = grind (arith, unpainted, nat_tests)
 untouched c m k (Flush s) page e = record { mark = refl; frame = refl; clean = λ h. painted_still (holds s) false m.stale page h }
 untouched c m k _ page e = record { mark = refl; frame = refl; clean = λ h. h }

@@ -11,7 +11,7 @@ use Rattle.vm_model.specs.History.{Local, World, callers_from, made_by, moved_to
 use Rattle.vm_model.specs.Legal.{IsLegalAs}
 use Rattle.vm_model.specs.LegalHistory.{IsReached, Meets}
 use Rattle.vm_model.specs.Next.{next}
-use Rattle.vm_model.specs.Places.{Place, Removing, SettlingArea, SettlingBlock, SettlingGroups, ask}
+use Rattle.vm_model.specs.Places.{Place, SettlingArea, SettlingBlock, SettlingGroups, ask}
 use Rattle.vm_model.specs.PlainMap.{PlainMap}
 use Rattle.vm_model.specs.Rules.{AreGroups, IsSetup, IsTrace}
 use Rattle.vm_model.specs.Setup.{Setup}
@@ -41,7 +41,7 @@ use Rattle.map_laws.proofs.ObjectsMade.{AreObjectsMade, made_first, made_joins, 
 use Rattle.map_laws.proofs.OutMoves.{with_in}
 use Rattle.map_laws.proofs.OwnFrames.{AreFramesClean, clean_first, clean_lasts}
 use Rattle.map_laws.proofs.Places.{IsProper, begins_with}
-use Rattle.map_laws.proofs.Serials.{IsPlainPlace, IsPlainWorld, plain_first, plain_joins, plain_step, removed_plain}
+use Rattle.map_laws.proofs.Serials.{IsPlainWorld, plain_first, plain_joins, plain_step, removed_plain}
 use Rattle.map_laws.proofs.TurnProofs.{AreTurnsProper, turns_first, turns_last}
 use Rattle.map_laws.proofs.VmallocPlaces.{AreAligned, aligned_first, aligned_lasts}
 use Rattle.vm_model.specs.declared.areas.AreaKind.TheVariants as kind
@@ -60,8 +60,7 @@ module _ (c : Setup) (m : PlainMap) (k : ℕ) (some : 1 ≤ c.block_pages) (grou
   settled_full areas first s e wide is = subst (λ (x : Section). AreFull (effect_as c m k x)) (sym e) (record { each = λ a there. elim (with_in (areas_of k first areas) m.areas a there) [ inl new ↦ wide new.place a new.at | inr old ↦ is.each a old ] })
 
   one_full : (place : Span) (kd : AreaKind) (first : ℕ) → 1 ≤ place.pages → (i : ℕ) (a : Area) → slice_get (areas_of k first ((place, kd) ∷ [])) i ≡ Some a → 1 ≤ a.span.pages
-  one_full place kd first wide zero a h = let same : place ≡ a.span = cc in subst (λ (x : Span). 1 ≤ x.pages) same wide
-  one_full place kd first wide (suc i) a h = cc
+  one_full place kd first wide i a h = grind arith
 
   full_by : (p : Place) (s : Section) (b : Bool) → asks_settle (ask c p) ≡ b → IsProper c p → Meets c (ask c p) s → AreFull m → AreFull (effect_as c m k s)
   full_by p s false e proper w full = record { each = λ a there. full.each a (areas_after c m k s (no_settle c (ask c p) s e w) a there) }
@@ -87,10 +86,6 @@ pub record IsTraceWorld (c : Setup) (w : World) : Type 0 where
   pub aligned : AreAligned w
   pub full : AreFull w.map
 
-removed_by : (m : PlainMap) (p : Place) → IsPlainPlace m p → IsRemovedPlain m p
-removed_by m (Removing start serial) is = removed_plain m start serial is
-removed_by m _ is = tt
-
 module _ (c : Setup) (w : World) (framed : IsFramed c w) (is : IsTraceWorld c w) (k : ℕ) (l : Local) (here : slice_get w.locals k ≡ Some l) where
   pub own_names : (start : ℕ) → count_of start (block_starts w.map.blocks) + count_of start (block_out l.place) ≤ 1
   own_names start = let all = is.blocks.named start in omega (arith, sum_has (λ (x : Local). count_of start (block_out x.place)) w.locals l k here)
@@ -99,7 +94,7 @@ module _ (c : Setup) (w : World) (framed : IsFramed c w) (is : IsTraceWorld c w)
   areas_once page = let o = is.area.once page in omega arith
 
   pub plain_here : IsRemovedPlain w.map l.place
-  plain_here = removed_by w.map l.place (is.plain.each k l here).place
+  plain_here = grind (arith, removed_plain)
 
 pub has_parts : (c : Setup) → IsSetup c → HasParts c
 has_parts c setup = let high = setup.part_high in let most = setup.block_high in let low = setup.block_low in record { power = setup.part; fits = omega arith; small = omega arith; some = omega arith }

@@ -1,10 +1,10 @@
 -- The turns are kept in each reached world, and the purge turn is taken last.
-use Rattle.std.proofs.Common.{◌≡◌, ◌≢◌, ℕ, zero, suc, ◌<◌, ◌⊎◌, inl, inr, Bool, true, false, List, [], ◌∷◌, length, slice_get, Option, Some, None, is_none, refl, ap, sym, ◌∙◌, subst}
+use Rattle.std.proofs.Common.{◌≡◌, ◌≢◌, ℕ, zero, suc, ◌<◌, ◌⊎◌, inl, inr, Bool, true, false, List, [], ◌∷◌, length, slice_get, Option, Some, None, is_none, refl, ap, sym, ◌∙◌, subst, arith}
 use Rattle.vm_model.specs.declared.calls.Call.{Call}
 use Rattle.vm_model.specs.Setup.{Setup}
 use Rattle.vm_model.specs.PlainMap.{PlainMap}
 use Rattle.vm_model.specs.Events.{Section}
-use Rattle.vm_model.specs.Places.{Place, Over, PurgeTaking, PurgeFragmenting, PurgeUnlinking, PurgeWaiting, PurgeCollecting, PurgeFlushing, PurgeReturning, PurgeGiving, TakingAlloc, TakingToBalance, AskNothing, AskTakePurge, AskTakeAlloc, Ask, ask}
+use Rattle.vm_model.specs.Places.{Place, AskNothing, AskTakePurge, AskTakeAlloc, Ask, ask}
 use Rattle.vm_model.specs.Next.{Next, Go, Answer, next}
 use Rattle.vm_model.specs.Calls.{Answered}
 use Rattle.vm_model.specs.Given.{can_move}
@@ -100,16 +100,6 @@ turns_kept c opening calls w trace reached = (turns_proper c opening calls w rea
 
 -- Who has a turn can move, or waits for the purge turn.
 
-has_purge_asks : (c : Setup) (p : Place) → has_purge p ≡ true → (ask c p ≢ AskTakePurge) × (ask c p ≢ AskTakeAlloc)
-has_purge_asks c (PurgeFragmenting cpu gone extra after) h = ((λ e. cc), (λ e. cc))
-has_purge_asks c (PurgeUnlinking gone extra after) h = ((λ e. cc), (λ e. cc))
-has_purge_asks c (PurgeWaiting gone extra after) h = ((λ e. cc), (λ e. cc))
-has_purge_asks c (PurgeCollecting extra after) h = ((λ e. cc), (λ e. cc))
-has_purge_asks c (PurgeFlushing s waited after) h = ((λ e. cc), (λ e. cc))
-has_purge_asks c (PurgeReturning waited after) h = ((λ e. cc), (λ e. cc))
-has_purge_asks c (PurgeGiving after) h = ((λ e. cc), (λ e. cc))
-has_purge_asks c _ h = cc
-
 -- whether an ask waits for no turn
 abbrev is_ready : Ask → Bool
 is_ready AskNothing = false
@@ -118,27 +108,13 @@ is_ready AskTakeAlloc = false
 is_ready _ = true
 
 ready_moves : (m : PlainMap) (a : Ask) → is_ready a ≡ true → can_move m a ≡ true
-ready_moves m AskNothing h = cc
-ready_moves m AskTakePurge h = cc
-ready_moves m AskTakeAlloc h = cc
-ready_moves m _ h = refl
+ready_moves m a h = grind arith
 
 has_purge_ready : (c : Setup) (p : Place) → has_purge p ≡ true → is_ready (ask c p) ≡ true
-has_purge_ready c (PurgeFragmenting cpu gone extra after) h = refl
-has_purge_ready c (PurgeUnlinking gone extra after) h = refl
-has_purge_ready c (PurgeWaiting gone extra after) h = refl
-has_purge_ready c (PurgeCollecting extra after) h = refl
-has_purge_ready c (PurgeFlushing s waited after) h = refl
-has_purge_ready c (PurgeReturning waited after) h = refl
-has_purge_ready c (PurgeGiving after) h = refl
-has_purge_ready c _ h = cc
+has_purge_ready c p h = grind arith
 
 has_alloc_ready : (c : Setup) (p : Place) → has_alloc p ≡ true → (ask c p ≡ AskTakePurge) ⊎ (is_ready (ask c p) ≡ true)
-has_alloc_ready c (PurgeTaking extra after) h = inl refl
-has_alloc_ready c Over h = cc
-has_alloc_ready c (TakingAlloc bytes align) h = cc
-has_alloc_ready c TakingToBalance h = cc
-has_alloc_ready c _ h = inr refl
+has_alloc_ready c p h = grind arith
 
 module _ (w : World) (kept : AreTurnsKept w) where
   moves_at : (k : ℕ) (l : Local) → slice_get w.locals k ≡ Some l → can_move w.map (ask l.setup l.place) ≡ true → moves_in w (slice_get w.locals k) ≡ true
@@ -167,8 +143,7 @@ module _ (w : World) (kept : AreTurnsKept w) where
   some_moves k l here n = moves_by k l here (ask l.setup l.place) refl n
 
   holder_takes_none : (k : ℕ) (l : Local) → w.map.purge_turn ≡ Some k → slice_get w.locals k ≡ Some l → (ask l.setup l.place ≢ AskTakePurge) × (ask l.setup l.place ≢ AskTakeAlloc)
-  holder_takes_none k l t here = let at = kept.purge.holder k t in let same : at.0 ≡ l = let is = at.1 in cc in
-      has_purge_asks l.setup l.place (subst (λ (x : Local). has_purge x.place ≡ true) same at.2)
+  holder_takes_none k l t here = grind arith
 
 pub purge_last : ThePurgeTurnIsTakenLast
 purge_last c opening calls w trace reached =

@@ -1,8 +1,8 @@
 -- The word of an add and the words of a sum are in their object, and the processor of an add is there.
-use Rattle.std.proofs.Common.{◌≡◌, ℕ, zero, suc, ◌-◌, ◌*◌, ◌<◌, inl, inr, Bool, true, false, if◌then◌else◌, List, [], ◌∷◌, ◌++◌, length, take, slice_get, Option, Some, None, refl, ap, sym, ◌∙◌, subst, arith, ℤ, append_assoc, append-nil}
+use Rattle.std.proofs.Common.{◌≡◌, ℕ, zero, suc, ◌-◌, ◌*◌, ◌<◌, inl, inr, Bool, true, false, if◌then◌else◌, List, [], ◌∷◌, ◌++◌, length, take, slice_get, Option, Some, ap, sym, ◌∙◌, subst, arith, ℤ, append_assoc, append-nil}
 use Rattle.std.proofs.lemmas.Option.{same_Some}
 use Rattle.vm_model.specs.declared.calls.Call.{Call}
-use Rattle.vm_model.specs.declared.calls.Call.TheVariants.{AllocPercpu, AllocAtomic, Add, Sum}
+use Rattle.vm_model.specs.declared.calls.Call.TheVariants.{Add, Sum}
 use Rattle.vm_model.specs.declared.calls.Target.{Target}
 use Rattle.vm_model.specs.Setup.{Setup, cpus}
 use Rattle.vm_model.specs.Chunks.{ObjectAt}
@@ -35,10 +35,7 @@ record IsAlloc (P : ℕ → Type 0) (o : Option Call) : Type 0 where
   fits : P asked
 
 alloc_is : (P : ℕ → Type 0) (o : Option Call) → IsAllocCall P o → IsAlloc P o
-alloc_is P None h = absurd h
-alloc_is P (Some (AllocPercpu bytes align)) h = record { call = AllocPercpu bytes align; there = refl; asked = bytes; bytes = refl; fits = h }
-alloc_is P (Some (AllocAtomic bytes align)) h = record { call = AllocAtomic bytes align; there = refl; asked = bytes; bytes = refl; fits = h }
-alloc_is P (Some _) h = absurd h
+alloc_is P o h = grind arith
 
 -- an answer of a caller that made the object
 module _ (own : List Call) (l : Local) (sized : IsLocalSized own l) (at : ObjectAt) (serial index j : ℕ) (made : made_in (slice_get l.answers j) ≡ MadeObject at serial) where
@@ -57,8 +54,7 @@ module _ (c : Setup) (opening : List Call) (calls : List (List Call)) (trace : I
   before_of (suc i) = opening
 
   own_ruled : (i : ℕ) (own : List Call) → calls_at opening calls i ≡ Some own → AreRuled c (before_of i) [] own
-  own_ruled zero own e = subst (AreRuled c [] []) (same_Some opening own e) trace.opening_ruled
-  own_ruled (suc i) own e = trace.callers_ruled i own e
+  own_ruled i own e = grind (arith, same_Some)
 
   -- the word is in the object that the target names
   named_within : (i : ℕ) (own : List Call) (t : Target) (at : ObjectAt) (serial index : ℕ) (b : Bool) → IsLocalSized own l → made_in (slice_get (if b then l.opening else l.answers) (t.call - 1)) ≡ MadeObject at serial

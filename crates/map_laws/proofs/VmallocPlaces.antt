@@ -6,9 +6,9 @@ use Rattle.vm_model.specs.declared.calls.Call.TheVariants.{Vmalloc}
 use Rattle.vm_model.specs.Space.{lowest}
 use Rattle.vm_model.specs.Setup.{Setup}
 use Rattle.vm_model.specs.PlainMap.{PlainMap, taken}
-use Rattle.vm_model.specs.Events.{Section, Search, ForPages, ForGroups}
+use Rattle.vm_model.specs.Events.{Section, Search, ForPages}
 use Rattle.vm_model.specs.Told.{carved, carved_base}
-use Rattle.vm_model.specs.Places.{Place, Refusing, Finding, FindingAgain, MappingArea, Dropping, SettlingArea, PurgeTaking, PurgeFragmenting, PurgeUnlinking, PurgeWaiting, PurgeCollecting, PurgeFlushing, PurgeReturning, PurgeGiving, Made, MadeNothing, MadeArea, MadePart, MadeObject, Aim, ForArea, ForBlock, ForChunk, Then, SearchAgain, AskSearch, ask}
+use Rattle.vm_model.specs.Places.{Place, Refusing, Finding, FindingAgain, MappingArea, Dropping, SettlingArea, PurgeTaking, PurgeFragmenting, PurgeUnlinking, PurgeWaiting, PurgeCollecting, PurgeFlushing, PurgeReturning, PurgeGiving, Made, MadeArea, Aim, ForArea, Then, SearchAgain, AskSearch, ask}
 use Rattle.vm_model.specs.Next.{Next, Go, Answer, next, found, without_space}
 use Rattle.vm_model.specs.Calls.{Answered, begin, begin_call, align_pages, is_bad_vmalloc_size, is_bad_vmalloc_align}
 use Rattle.vm_model.specs.Given.{given, carving}
@@ -62,18 +62,10 @@ module _ (c : Setup) (m : PlainMap) (k : ℕ) where
   found_at pages align kd otherwise (Some start) e is q = ap (λ n. start % n) (sym is) ∙ is_zero (start % align) (lowest_fit (taken m) pages align start e).0
 
   search_at : (search : Search) (aim : Aim) (otherwise : Next) (s : Section) → IsSearchAt k search aim → IsNextAt k otherwise → given c m (AskSearch search) ≡ Some s → IsNextAt k (found aim (carved s) (carved_base s) otherwise)
-  search_at (ForPages pages align) (ForArea kd) otherwise s is q e =
-      let same : carving pages align (lowest (taken m) pages align) ≡ s = cc in
-      subst (λ (x : Section). IsNextAt k (found (ForArea kd) (carved x) (carved_base x) otherwise)) same (found_at pages align kd otherwise (lowest (taken m) pages align) refl is q)
-  search_at (ForPages pages align) (ForBlock cpu asked) otherwise s is q e = absurd is
-  search_at (ForPages pages align) (ForChunk chunk bytes to) otherwise s is q e = absurd is
-  search_at ForGroups aim otherwise s is q e = absurd is
+  search_at search aim otherwise s is q e = grind (arith, found_at)
 
   no_space_at : (search : Search) (aim : Aim) → IsSearchAt k search aim → IsNextAt k (without_space aim)
-  no_space_at (ForPages pages align) (ForArea kd) is = tt
-  no_space_at (ForPages pages align) (ForBlock cpu asked) is = absurd is
-  no_space_at (ForPages pages align) (ForChunk chunk bytes to) is = absurd is
-  no_space_at ForGroups aim is = absurd is
+  no_space_at search aim is = grind arith
 
   at_row : (s : Section) (p : Place) (n : Next) → PlaceRow c s p n → IsVmallocAt k p → given c m (ask c p) ≡ Some s → n ≡ next c p s → IsNextAt k n
   at_row s (Finding search aim) n row is e f = subst (IsNextAt k) (sym f) (search_at search aim _ s is is e)
@@ -99,11 +91,8 @@ starts_at : (c : Setup) (opening own : List Answered) (o : Option Call) (bytes a
 starts_at c opening own o bytes align e = subst (λ x. IsVmallocAt (align_pages align) (begin c opening own x)) (sym e) (begins_at c opening own bytes align)
 
 made_at : (call : Call) (made : Made) → ((bytes align : ℕ) → call ≡ Vmalloc bytes align → IsMadeAt (align_pages align) made) → IsMadeAligned call made
-made_at (Vmalloc bytes align) MadeNothing h = tt
 made_at (Vmalloc bytes align) (MadeArea start serial) h = h bytes align refl
-made_at (Vmalloc bytes align) (MadePart cpu page serial) h = tt
-made_at (Vmalloc bytes align) (MadeObject at serial) h = tt
-made_at _ made h = tt
+made_at _ _ h = tt
 
 answered_aligned : (l : Local) (a : Answered) → IsLocalAligned l → IsMadeAligned a.call a.made → IsLocalAligned (answered l a)
 answered_aligned l a is made = record {
@@ -145,8 +134,4 @@ aligned_lasts c calls = record {
     joined answers first (own ∷ more) (suc j) l h = joined answers (suc first) more j l h
 
 pub aligned_first : (c : Setup) (opening : List Call) (calls : List (List Call)) → AreAligned (opening_world c opening calls)
-aligned_first c opening calls = record { each = first }
-  where
-    first : (k : ℕ) (l : Local) → slice_get (started c [] 0 opening ∷ []) k ≡ Some l → IsLocalAligned l
-    first zero l h = let e : started c [] 0 opening ≡ l = cc in subst IsLocalAligned e (started_aligned c [] 0 opening)
-    first (suc k) l h = cc
+aligned_first c opening calls = grind (arith, started_aligned)

@@ -1,10 +1,10 @@
 -- What the sections that map, unmap, make wait and flush pages do to the pages that their caller holds, and to the map.
-use Rattle.std.proofs.Common.{◌≡◌, ℕ, zero, suc, ◌+◌, ◌-◌, ◌≤◌, ◌⊎◌, inl, inr, Bool, true, false, ◌||◌, if◌then◌else◌, List, [], ◌∷◌, ◌++◌, length, slice_get, Option, Some, None, option_to_list, refl, ap, sym, ◌∙◌, subst, arith}
+use Rattle.std.proofs.Common.{◌≡◌, ℕ, zero, suc, ◌≤◌, ◌⊎◌, Bool, true, false, ◌||◌, List, [], ◌∷◌, ◌++◌, length, slice_get, Option, Some, None, option_to_list, refl, ap, sym, ◌∙◌, subst, arith}
 use Rattle.std.proofs.lemmas.Bool.Decides.{nat_tests}
 use Rattle.vm_model.specs.declared.areas.Span.{Span}
 use Rattle.vm_model.specs.declared.areas.Area.{Area}
 use Rattle.vm_model.specs.declared.areas.AreaKind.{AreaKind}
-use Rattle.vm_model.specs.Space.{hull, span, holds, covers, one_if, times, paint, pages_of, count_from}
+use Rattle.vm_model.specs.Space.{hull, holds, covers, times, paint, pages_of, count_from}
 use Rattle.vm_model.specs.Setup.{Setup}
 use Rattle.vm_model.specs.PlainMap.{PlainMap, Held, Waits, Flushing}
 use Rattle.vm_model.specs.Areas.{mapped_part}
@@ -20,29 +20,19 @@ use Rattle.vm_model.specs.Frames.{free_frames}
 use Rattle.std.proofs.lemmas.Option.{slice_get_within}
 use Rattle.map_laws.proofs.Lists.{there}
 use Rattle.map_laws.proofs.Places.{OnNext}
-use Rattle.map_laws.proofs.Spans.{hull_is, covers_append, times-append, times-one, covers_times, in_spans, InSpans, Inside, Outside, covers_one, holds_to, holds_from}
+use Rattle.map_laws.proofs.Spans.{hull_is, covers_append, times-append, times-one, covers_times, in_spans, InSpans, covers_one, holds_to, holds_from}
 use Rattle.map_laws.proofs.Touched.{IsSame, ungiven, outside_row, untouched, painted, painted_still}
 use Rattle.map_laws.proofs.AreaFacts.{IsHolding, IsMapFine, own_uses, holds_nothing, IsUnbearing, guard_part, mapped_within, mapped_covers, guard_covers, guard_apart, area_stays}
 use Rattle.map_laws.proofs.PlaceMoves.{IsMoved, given_all, held_in_row, length-give_frames, unbearing_uses, unbearing_own}
 use Rattle.map_laws.proofs.Quiet.{page_by, waits_fine, flushing_fine, area_times, IsOuter, outer_map, held_fine, painted_free}
-use Rattle.vm_model.specs.declared.areas.AreaKind.TheVariants as kind
 
 module _ (c : Setup) (m : PlainMap) (k : ℕ) (fine : IsMapFine m) where
   -- An area's pages get frames.
 
   module _ (place : Span) (kd : AreaKind) (own : IsHolding c m k (MappingArea place kd)) (once : (page : ℕ) → own_uses c m (MappingArea place kd) page ≤ 1)
       (legal : IsLegalAs c m k (MapPages (mapped_part kd place))) where
-    mapping_in : (page : ℕ) → holds (mapped_part kd place) page ≡ true → holds place page ≡ true
-    mapping_in page t = mapped_within kd place page t
-
     mapping_outer : IsOuter c m k (MappingArea place kd) (MapPages (mapped_part kd place)) fine once
-    mapping_outer = record {
-      areas = refl;
-      waiting = refl;
-      long = fine.long ∙ sym (length-give_frames (pages_of (mapped_part kd place)) (free_frames c m.frames) m.frames);
-      source = λ page t. omega (arith, times-one page place, ap one_if (mapping_in page t));
-      touched = λ page t. held_fine _ k page (own.held page (covers_one place page ∙ mapping_in page t));
-    }
+    mapping_outer = grind (arith, length-give_frames, times-one, held_fine, covers_one, mapped_within, nat_tests)
 
     mapping_same : (page : ℕ) → covers (guard_part kd place ∷ []) page ≡ true → slice_get (effect_as c m k (MapPages (mapped_part kd place))).frames page ≡ slice_get m.frames page
     mapping_same page e = ungiven (pages_of (mapped_part kd place)) (free_frames c m.frames) m.frames page (outside_row (mapped_part kd place) page (guard_apart kd place page e))
@@ -70,43 +60,21 @@ module _ (c : Setup) (m : PlainMap) (k : ℕ) (fine : IsMapFine m) where
 
   -- There are no frames for it.
   pub unmapping_none : (place : Span) (kd : AreaKind) (asked : ℕ) → IsHolding c m k (MappingArea place kd) → ((page : ℕ) → own_uses c m (MappingArea place kd) page ≤ 1) → IsMoved c m k (MappingArea place kd) (NoFrames asked) (Go (Dropping place))
-  unmapping_none place kd asked own once = record {
-    source = λ page t. cc;
-    uses = λ page. omega arith;
-    own = record { held = own.held; flushed = λ page e. cc; bare = own.bare; mapped = λ page e. cc; unmapped = λ page e. cc; hull = tt };
-    fine = outer_map c m k (MappingArea place kd) (NoFrames asked) fine once (record { areas = refl; waiting = refl; long = fine.long; source = λ page t. cc; touched = λ page t. cc });
-  }
+  unmapping_none place kd asked own once = grind (arith, outer_map, nat_tests)
 
   -- An area's pages lose their frames.
 
   -- a page of an area is mapped or its guard
   split_area : (kd : AreaKind) (s : Span) (page : ℕ) → holds s page ≡ true → (holds (mapped_part kd s) page ≡ true) ⊎ (covers (guard_part kd s ∷ []) page ≡ true)
-  split_area kind.Vmalloc s page h = by_test (holds (span s.start (s.pages - 1)) page) refl
-    where
-      by_test : (b : Bool) → holds (span s.start (s.pages - 1)) page ≡ b → (holds (mapped_part kind.Vmalloc s) page ≡ true) ⊎ (covers (guard_part kind.Vmalloc s ∷ []) page ≡ true)
-      by_test true e = inl e
-      by_test false e =
-          let r = holds_to s page h in
-          let past : s.start + (s.pages - 1) ≤ page = grind (arith, nat_tests) in
-          inr (covers_one (guard_part kind.Vmalloc s) page ∙ holds_from (span (s.start + (s.pages - 1)) (s.pages - (s.pages - 1))) page past (omega arith))
-  split_area kind.MapRam s page h = inl h
-  split_area (kind.Block cpu) s page h = inl h
-  split_area (kind.Chunk chunk group) s page h = inl h
+  split_area kd s page h = grind (arith, guard_part, holds_to, covers_one, holds_from, nat_tests)
 
   module _ (area : Area) (own : IsHolding c m k (UnmappingArea area)) (once : (page : ℕ) → own_uses c m (UnmappingArea area) page ≤ 1) where
     unmap_outer : IsOuter c m k (UnmappingArea area) (Unmap (mapped_part area.kind area.span)) fine once
-    unmap_outer = record {
-      areas = refl;
-      waiting = refl;
-      long = length-paint_from (holds (mapped_part area.kind area.span)) true m.stale 0 ∙ fine.long ∙ sym (length-paint_from (holds (mapped_part area.kind area.span)) None m.frames 0);
-      source = λ page t. omega (arith, times-one page area.span, ap one_if (mapped_within area.kind area.span page t));
-      touched = λ page t. held_fine _ k page (own.held page (covers_one area.span page ∙ mapped_within area.kind area.span page t));
-    }
+    unmap_outer = grind (arith, length-paint_from, times-one, mapped_within, held_fine, covers_one, nat_tests)
 
     unmap_frames : (page : ℕ) → (holds (mapped_part area.kind area.span) page ≡ true) ⊎ (covers (guard_part area.kind area.span ∷ []) page ≡ true)
         → IsUnmapped (effect_as c m k (Unmap (mapped_part area.kind area.span))) page
-    unmap_frames page (inl t) = let was = own.mapped page (covers_one (mapped_part area.kind area.span) page ∙ t) in painted (holds (mapped_part area.kind area.span)) None (Some was.0) m.frames page t was.1
-    unmap_frames page (inr e) = painted_still (holds (mapped_part area.kind area.span)) None m.frames page (own.unmapped page e)
+    unmap_frames page x1 = grind (arith, covers_one, painted, painted_still, nat_tests)
 
     pub unmap_moved : (after : Then) → IsMoved c m k (UnmappingArea area) (Unmap (mapped_part area.kind area.span)) (Go (Waiting (area.span ∷ []) after))
     unmap_moved after = record {
@@ -140,8 +108,7 @@ module _ (c : Setup) (m : PlainMap) (k : ℕ) (fine : IsMapFine m) where
     wait_marked page false w e = painted (covers spans) Waits (Held k) m.marks page e (marked page e)
 
     wait_free : (page : ℕ) → InSpans page spans → as_free (slice_get (paint (covers spans) Waits m.marks) page) ≤ as_free (slice_get m.marks page)
-    wait_free page (Inside e n) = omega (arith, painted_free (covers spans) Waits m.marks page refl, ap (λ b. if b then 0 else as_free (slice_get m.marks page)) e)
-    wait_free page (Outside e n) = omega (arith, painted_free (covers spans) Waits m.marks page refl, ap (λ b. if b then 0 else as_free (slice_get m.marks page)) e)
+    wait_free page x1 = grind (arith, painted_free, nat_tests)
 
     pub wait_moved : (n : Next) → OnNext IsUnbearing n → IsMoved c m k p (Wait spans waiting) n
     wait_moved n none_next = record {
@@ -174,8 +141,7 @@ module _ (c : Setup) (m : PlainMap) (k : ℕ) (fine : IsMapFine m) where
     }
 
     take_free : (page : ℕ) → InSpans page m.waiting → as_free (slice_get (paint (covers m.waiting) (Flushing k) m.marks) page) ≤ as_free (slice_get m.marks page)
-    take_free page (Inside e n) = omega (arith, painted_free (covers m.waiting) (Flushing k) m.marks page refl, ap (λ b. if b then 0 else as_free (slice_get m.marks page)) e)
-    take_free page (Outside e n) = omega (arith, painted_free (covers m.waiting) (Flushing k) m.marks page refl, ap (λ b. if b then 0 else as_free (slice_get m.marks page)) e)
+    take_free page x1 = grind (arith, painted_free, nat_tests)
 
     -- the hull covers what waited
     in_hull : (s : Span) → hull (m.waiting ++ option_to_list extra) ≡ Some s → (page : ℕ) → covers m.waiting page ≡ true → holds s page ≡ true

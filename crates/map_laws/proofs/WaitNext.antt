@@ -1,21 +1,18 @@
 -- Where a caller goes with pages that it carved, took or flushed.
-use Rattle.std.proofs.Common.{◌≡◌, ℕ, ◌<◌, inl, inr, Bool, true, false, List, [], ◌∷◌, ◌++◌, length, Option, Some, None, refl, ap, sym, ◌∙◌, subst, arith, option_to_list}
+use Rattle.std.proofs.Common.{◌≡◌, ℕ, ◌<◌, Bool, true, false, List, [], ◌∷◌, ◌++◌, length, Option, refl, ap, sym, ◌∙◌, subst, arith, option_to_list}
 use Rattle.vm_model.specs.declared.areas.Span.{Span}
-use Rattle.vm_model.specs.declared.areas.AreaKind.{AreaKind}
 use Rattle.vm_model.specs.Space.{span, holds, covers}
 use Rattle.vm_model.specs.Setup.{Setup}
-use Rattle.vm_model.specs.PlainMap.{PlainMap, Free, Flushing}
-use Rattle.vm_model.specs.Areas.{mapped_part}
-use Rattle.vm_model.specs.Events.{Section, Event, Search, ForPages, ForGroups, Carve, CarveGroups, NoHole, TakeWaiting, Flush, Return, NoFrames}
+use Rattle.vm_model.specs.PlainMap.{PlainMap, Free}
+use Rattle.vm_model.specs.Events.{Section, Event, Carve, TakeWaiting, Flush}
 use Rattle.vm_model.specs.Legal.{IsMarked, IsUnmapped, IsBare, IsLegalAs}
 use Rattle.vm_model.specs.Effects.{effect_as}
-use Rattle.vm_model.specs.Told.{spans_taken}
 use Rattle.vm_model.specs.Carried.{flushed}
-use Rattle.vm_model.specs.Places.{Place, Finding, FindingAgain, MappingArea, PurgeCollecting, PurgeFlushing, PurgeReturning, Aim, ForArea, ForBlock, ForChunk, Then, ask}
-use Rattle.vm_model.specs.Next.{Next, Go, Answer, next, with_span, with_base, without_space, after_collecting, after_flush}
+use Rattle.vm_model.specs.Places.{Place, Finding, FindingAgain, MappingArea, PurgeCollecting, PurgeFlushing, PurgeReturning, Aim, Then, ask}
+use Rattle.vm_model.specs.Next.{Next, Go, next, with_span, with_base, after_collecting, after_flush}
 use Rattle.vm_model.specs.LegalHistory.{Meets}
 use Rattle.vm_model.specs.Laws.{map_after}
-use Rattle.map_laws.proofs.PlaceRows.{PlaceRow, Stays, place_row}
+use Rattle.map_laws.proofs.PlaceRows.{place_row}
 use Rattle.map_laws.proofs.Places.{OnNext}
 use Rattle.map_laws.proofs.Spans.{hull_is, covers_append}
 use Rattle.map_laws.proofs.Touched.{painted}
@@ -30,10 +27,6 @@ is_carving (Finding search aim) = true
 is_carving (FindingAgain search aim) = true
 is_carving (MappingArea s kd) = true
 is_carving _ = false
-
-other_row : (c : Setup) (first : PlainMap) (es : List Event) (k : ℕ) (s : Section) (p : Place) (n : Next) → PlaceRow c s p n → is_carving p ≡ false → OnNext (IsStoried c first es k) n
-other_row c first es k s _ _ Stays h = tt
-other_row c first es k s _ _ _ h = cc
 
 -- over a map to which the events so far led, and in which free pages are bare
 module _ (c : Setup) (first m : PlainMap) (events : List Event) (story : m ≡ map_after c first events) (clean : (page : ℕ) → IsMarked m Free page → IsBare m page) (k : ℕ) where
@@ -56,52 +49,21 @@ module _ (c : Setup) (first m : PlainMap) (events : List Event) (story : m ≡ m
   }
 
   span_storied : (aim : Aim) (start pages align : ℕ) → IsLegalAs c m k (Carve (span start pages) align) → OnNext (IsStoried c first (more (Carve (span start pages) align)) k) (with_span aim (span start pages))
-  span_storied (ForArea kd) start pages align legal = carved_now start pages align legal
-  span_storied (ForBlock cpu asked) start pages align legal = tt
-  span_storied (ForChunk chunk bytes to) start pages align legal = tt
+  span_storied aim start pages align legal = grind (arith, carved_now)
 
   base_storied : (aim : Aim) (base : ℕ) (es : List Event) → OnNext (IsStoried c first es k) (with_base aim base)
-  base_storied (ForArea kd) base es = tt
-  base_storied (ForBlock cpu asked) base es = tt
-  base_storied (ForChunk chunk bytes to) base es = tt
-
-  no_space_storied : (aim : Aim) (es : List Event) → OnNext (IsStoried c first es k) (without_space aim)
-  no_space_storied (ForArea kd) es = tt
-  no_space_storied (ForBlock cpu asked) es = tt
-  no_space_storied (ForChunk chunk bytes to) es = tt
-
-  find_storied : (search : Search) (aim : Aim) (s : Section) → Meets c (ask c (Finding search aim)) s → IsLegalAs c m k s → OnNext (IsStoried c first (more s) k) (next c (Finding search aim) s)
-  find_storied (ForPages pages align) aim s (inl w) legal =
-      subst (λ x. OnNext (IsStoried c first (more x) k) (next c (Finding (ForPages pages align) aim) x)) (sym w.1) (span_storied aim w.0 pages align (subst (IsLegalAs c m k) w.1 legal))
-  find_storied (ForPages pages align) aim s (inr w) legal = subst (λ x. OnNext (IsStoried c first (more x) k) (next c (Finding (ForPages pages align) aim) x)) (sym w) tt
-  find_storied ForGroups aim s (inl w) legal = subst (λ x. OnNext (IsStoried c first (more x) k) (next c (Finding ForGroups aim) x)) (sym w.1) (base_storied aim w.0 (more (CarveGroups w.0)))
-  find_storied ForGroups aim s (inr w) legal = subst (λ x. OnNext (IsStoried c first (more x) k) (next c (Finding ForGroups aim) x)) (sym w) tt
-
-  again_storied : (search : Search) (aim : Aim) (s : Section) → Meets c (ask c (FindingAgain search aim)) s → IsLegalAs c m k s → OnNext (IsStoried c first (more s) k) (next c (FindingAgain search aim) s)
-  again_storied (ForPages pages align) aim s (inl w) legal =
-      subst (λ x. OnNext (IsStoried c first (more x) k) (next c (FindingAgain (ForPages pages align) aim) x)) (sym w.1) (span_storied aim w.0 pages align (subst (IsLegalAs c m k) w.1 legal))
-  again_storied (ForPages pages align) aim s (inr w) legal =
-      subst (λ x. OnNext (IsStoried c first (more x) k) (next c (FindingAgain (ForPages pages align) aim) x)) (sym w) (no_space_storied aim (more (NoHole (ForPages pages align))))
-  again_storied ForGroups aim s (inl w) legal = subst (λ x. OnNext (IsStoried c first (more x) k) (next c (FindingAgain ForGroups aim) x)) (sym w.1) (base_storied aim w.0 (more (CarveGroups w.0)))
-  again_storied ForGroups aim s (inr w) legal = subst (λ x. OnNext (IsStoried c first (more x) k) (next c (FindingAgain ForGroups aim) x)) (sym w) (no_space_storied aim (more (NoHole ForGroups)))
+  base_storied aim base es = grind arith
 
   -- A place that gets no frames.
 
   pub still_unmapped : (place : Span) → IsCarvedBy c first events k place → (page : ℕ) → holds place page ≡ true → IsUnmapped m page
-  still_unmapped place is page on =
-      let low = event_low events is.carve k is.section is.carves in
-      subst (λ x. IsUnmapped x page) (map_at-end c first events (length events) (omega arith) ∙ sym story) (is.unmapped page (length events) on low (omega arith))
-
-  map_storied : (place : Span) (kd : AreaKind) (s : Section) → Meets c (ask c (MappingArea place kd)) s → IsCarvedBy c first events k place → OnNext (IsStoried c first (more s) k) (next c (MappingArea place kd) s)
-  map_storied place kd s (inl w) is = subst (λ x. OnNext (IsStoried c first (more x) k) (next c (MappingArea place kd) x)) (sym w) tt
-  map_storied place kd s (inr w) is = subst (λ x. OnNext (IsStoried c first (more x) k) (next c (MappingArea place kd) x)) (sym w)
-      (carved_more c first events (record { caller = k; section = NoFrames (mapped_part kd place).pages }) k place (λ page on. subst (λ x. IsUnmapped x page) story (still_unmapped place is page on)) is)
+  still_unmapped place is page on = grind (arith, event_low, map_at-end)
 
   pub storied_next : (p : Place) (s : Section) → Meets c (ask c p) s → IsLegalAs c m k s → IsStoried c first events k p → OnNext (IsStoried c first (more s) k) (next c p s)
-  storied_next (Finding search aim) s meets legal is = find_storied search aim s meets legal
-  storied_next (FindingAgain search aim) s meets legal is = again_storied search aim s meets legal
-  storied_next (MappingArea place kd) s meets legal is = map_storied place kd s meets is
-  storied_next p s meets legal is = other_row c first (more s) k s p (next c p s) (place_row c s p) refl
+  storied_next (Finding search aim) s meets legal is = grind (arith, span_storied, base_storied)
+  storied_next (FindingAgain search aim) s meets legal is = grind (arith, span_storied, base_storied)
+  storied_next (MappingArea place kd) s meets legal is = grind (arith, carved_more, still_unmapped)
+  storied_next p s meets legal is = grind (arith, place_row)
 
 -- Where pages go that were taken.
 
@@ -146,16 +108,12 @@ module _ (c : Setup) (m : PlainMap) (events : List Event) (k i page : ℕ) where
     );
   }
 
-  return_frees : (spans : List Span) → covers spans page ≡ true → IsLegalAs c m k (Return spans) → IsMarked (effect_as c m k (Return spans)) Free page
-  return_frees spans on legal = painted (covers spans) Free (Flushing k) m.marks page on (legal.0 page on)
-
   -- taken pages are flushed, and then returned
   pub behind_next : (p : Place) (s : Section) → Meets c (ask c p) s → IsLegalAs c m k s → (IsMarked (effect_as c m k s) Free page → ⊥) → IsBehind events i k page p
       → IsLedTo (IsBehind (events ++ (record { caller = k; section = s }) ∷ []) i k page) (next c p s)
   behind_next (PurgeFlushing h waited after) s meets legal taken is =
       subst (λ x. IsLedTo (IsBehind (events ++ (record { caller = k; section = x }) ∷ []) i k page) (next c (PurgeFlushing h waited after) x)) (sym meets) (flush_by h waited after is.0 is.1 is.2)
-  behind_next (PurgeReturning waited after) s meets legal taken is =
-      absurd (taken (subst (λ x. IsMarked (effect_as c m k x) Free page) (sym meets) (return_frees waited is.0 (subst (IsLegalAs c m k) meets legal))))
+  behind_next (PurgeReturning waited after) s meets legal taken is = grind (arith, painted)
   behind_next _ s meets legal taken is = absurd is
 
 -- Which pages a caller flushes behind a section: those that it took, or flushed before.
@@ -165,30 +123,11 @@ is_flushing (PurgeCollecting extra after) = true
 is_flushing (PurgeFlushing h waited after) = true
 is_flushing _ = false
 
-flushless_row : (c : Setup) (page : ℕ) (s : Section) (p : Place) (n : Next) → PlaceRow c s p n → is_flushing p ≡ false → OnNext (λ q. covers (flushed q) page ≡ false) n
-flushless_row c page s _ _ Stays h = refl
-flushless_row c page s _ _ _ h = cc
-
 module _ (c : Setup) (m : PlainMap) (k page : ℕ) (Q : Type 0) (of_waiting : covers m.waiting page ≡ true → Q) where
   abbrev IsFlushed : Next → Type 0
   IsFlushed n = OnNext (λ p. covers (flushed p) page ≡ true → Q) n
 
-  none_flushed : (n : Next) → OnNext (λ p. covers (flushed p) page ≡ false) n → IsFlushed n
-  none_flushed (Go p) h = λ e. cc
-  none_flushed (Answer reply made) h = tt
-
-  collected_flushed : (waited : List Span) (o : Option Span) (after : Then) → (covers waited page ≡ true → Q) → IsFlushed (after_collecting waited o after)
-  collected_flushed waited None after h = λ e. cc
-  collected_flushed waited (Some s) after h = h
-
-  after_flush_flushed : (waited : List Span) (after : Then) → (covers waited page ≡ true → Q) → IsFlushed (after_flush waited after)
-  after_flush_flushed [] after h = λ e. cc
-  after_flush_flushed (x ∷ waited) after h = h
-
-  collect_told : (all : List Span) (s : Section) → s ≡ TakeWaiting all → IsLegalAs c m k s → covers (spans_taken s) page ≡ true → Q
-  collect_told all s e legal on = let legal' = subst (IsLegalAs c m k) e legal in of_waiting (ap (λ l. covers l page) (sym legal') ∙ ap (λ x. covers (spans_taken x) page) (sym e) ∙ on)
-
   pub flushed_next : (p : Place) (s : Section) → Meets c (ask c p) s → IsLegalAs c m k s → (covers (flushed p) page ≡ true → Q) → IsFlushed (next c p s)
-  flushed_next (PurgeCollecting extra after) s meets legal was = collected_flushed (spans_taken s) _ after (collect_told meets.0 s meets.1 legal)
-  flushed_next (PurgeFlushing h waited after) s meets legal was = after_flush_flushed waited after was
-  flushed_next p s meets legal was = none_flushed (next c p s) (flushless_row c page s p (next c p s) (place_row c s p) refl)
+  flushed_next (PurgeCollecting extra after) s meets legal was = grind arith
+  flushed_next (PurgeFlushing h waited after) s meets legal was = grind arith
+  flushed_next p s meets legal was = grind (arith, place_row)

@@ -18,18 +18,14 @@ use Rattle.vm_model.specs.Laws.{IsFreedAt, PagesWaitBeforeReuse}
 use Rattle.map_laws.specs.Waits.{FreedPagesHaveWaited}
 use Rattle.map_laws.proofs.Lists.{append_cases, append_first}
 use Rattle.map_laws.proofs.Frames.{IsFramed, not_over, has_call}
-use Rattle.map_laws.proofs.Places.{OnNext, HaveBeginnings, Opens, AtOver, begins_with, moved_has}
+use Rattle.map_laws.proofs.Places.{OnNext, HaveBeginnings, begins_with, moved_has}
 use Rattle.map_laws.proofs.AreaWorlds.{IsAreaWorld, IsLegalStep, IsLegallyLasting, legally_lasts}
 use Rattle.map_laws.proofs.TraceWorlds.{IsTraceWorld, trace_lasts, trace_first}
 use Rattle.map_laws.proofs.WaitStories.{map_at-end, IsStoried}
 use Rattle.map_laws.proofs.WaitWorlds.{Follows, Waiting, Taken, IsWaiting, IsWaitWorld, is_idle, idle_storied, idle_flushed, wait_section}
 
-idle_opens : (c : Setup) (p : Place) → Opens c p → is_idle p ≡ true
-idle_opens c _ AtOver = refl
-idle_opens c _ _ = refl
-
 idle_begins : (P : Place → Type 0) (c : Setup) → ((p : Place) → is_idle p ≡ true → P p) → HaveBeginnings P c
-idle_begins P c have p opens = have p (idle_opens c p opens)
+idle_begins P c have p opens = grind (arith, is_idle)
 
 pub record IsWaitedWorld (c : Setup) (first : PlainMap) (w : World) : Type 0 where
   pub traced : IsTraceWorld c w

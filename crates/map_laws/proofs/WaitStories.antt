@@ -1,5 +1,5 @@
 -- What a page that waits, is taken, is flushed or was carved has behind it in the events so far.
-use Rattle.std.proofs.Common.{◌≡◌, ℕ, zero, suc, ◌+◌, ◌<◌, ◌≤◌, inl, inr, List, [], ◌∷◌, ◌++◌, length, slice_get, Some, refl, ap, ◌∙◌, arith, ◌⊎◌, Bool, true, false, ◌||◌, if◌then◌else◌, option_map, Option, None, sym, subst}
+use Rattle.std.proofs.Common.{◌≡◌, ℕ, suc, ◌<◌, ◌≤◌, List, [], ◌∷◌, ◌++◌, length, slice_get, Some, refl, ap, ◌∙◌, arith, ◌⊎◌, Bool, true, false, sym, subst}
 use Rattle.std.proofs.lemmas.List.{take-append-le, take_all}
 use Rattle.std.proofs.lemmas.Option.{slice_get_within, same_Some}
 use Rattle.vm_model.specs.Setup.{Setup, groups_at}
@@ -67,28 +67,13 @@ pub data WhichEvent (events : List Event) (own : ℕ) (last : Section) (i k : �
   Before : i < length events → IsEvent events i k s → WhichEvent events own last i k s
   Last : i ≡ length events → own ≡ k → last ≡ s → WhichEvent events own last i k s
 
-which_by : (events : List Event) (own : ℕ) (last : Section) (i j k : ℕ) (s : Section) → i ≡ length events + j → IsEvent ((record { caller = own; section = last }) ∷ []) j k s → WhichEvent events own last i k s
-which_by events own last i zero k s e h =
-    let mine : Event = record { caller = own; section = last } in let theirs : Event = record { caller = k; section = s } in
-    let same : mine ≡ theirs = same_Some mine theirs h in Last (omega arith) (ap (λ (x : Event). x.caller) same) (ap (λ (x : Event). x.section) same)
-which_by events own last i (suc j) k s e h = cc
-
 pub which_event : (events : List Event) (own : ℕ) (last : Section) (i k : ℕ) (s : Section) → IsEvent (events ++ (record { caller = own; section = last }) ∷ []) i k s → WhichEvent events own last i k s
-which_event events own last i k s h = elim (append_cases events ((record { caller = own; section = last }) ∷ []) i (record { caller = k; section = s }) h) [
-  | inl e ↦ Before (event_low events i k s e) e
-  | inr e ↦ which_by events own last i e.0 k s e.1 e.2
-]
+which_event events own last i k s h = grind (arith, append_cases, event_low, same_Some)
 
 -- What sections leave of free pages and of waiting ones.
 
--- what is painted with another mark isn't free
-free_if : (b : Bool) (mark : Mark) (o : Option Mark) → is_free mark ≡ false → option_map (λ y. if b then mark else y) o ≡ Some Free → o ≡ Some Free
-free_if b mark None f h = cc
-free_if true mark (Some old) f h = let e : mark ≡ Free = cc in let g = ap is_free e in cc
-free_if false mark (Some old) f h = h
-
 free_left : (test : ℕ → Bool) (mark : Mark) (marks : List Mark) (page : ℕ) → is_free mark ≡ false → slice_get (paint test mark marks) page ≡ Some Free → slice_get marks page ≡ Some Free
-free_left test mark marks page f h = free_if (test page) mark (slice_get marks page) f (sym (slice_get-paint test mark marks page) ∙ h)
+free_left test mark marks page f h = grind (arith, slice_get-paint)
 
 free_settled : (areas : List Area) (marks : List Mark) (page : ℕ) → slice_get (mark_live areas marks) page ≡ Some Free → slice_get marks page ≡ Some Free
 free_settled [] marks page h = h
@@ -123,20 +108,10 @@ freed c m k s page h = Still s h
 -- What waits.
 
 pub waiting_from : (c : Setup) (m : PlainMap) (k : ℕ) (s : Section) (page : ℕ) → covers (effect_as c m k s).waiting page ≡ true → (covers m.waiting page ≡ true) ⊎ ((spans : List Span) × (waiting : ℕ) × (s ≡ Wait spans waiting) × (covers spans page ≡ true))
-waiting_from c m k (Wait spans waiting) page h = by_either (covers m.waiting page) refl (covers spans page) refl (sym (covers_append page m.waiting spans) ∙ h)
-  where
-    by_either : (a : Bool) → covers m.waiting page ≡ a → (b : Bool) → covers spans page ≡ b → (covers m.waiting page || covers spans page) ≡ true
-        → (covers m.waiting page ≡ true) ⊎ ((own : List Span) × (n : ℕ) × (Wait spans waiting ≡ Wait own n) × (covers own page ≡ true))
-    by_either true e b f h = inl e
-    by_either false e true f h = inr (spans, waiting, refl, f)
-    by_either false e false f h = cc
-waiting_from c m k (TakeWaiting all) page h = cc
-waiting_from c m k s page h = inl h
+waiting_from c m k s page h = grind (arith, covers_append)
 
 pub waiting_to : (c : Setup) (m : PlainMap) (k : ℕ) (s : Section) (page : ℕ) → covers m.waiting page ≡ true → (covers (effect_as c m k s).waiting page ≡ true) ⊎ ((all : List Span) × (s ≡ TakeWaiting all))
-waiting_to c m k (Wait spans waiting) page h = inl (covers_append page m.waiting spans ∙ or_left (covers m.waiting page) (covers spans page) h)
-waiting_to c m k (TakeWaiting all) page h = inr (all, refl)
-waiting_to c m k s page h = inl h
+waiting_to c m k s page h = grind (arith, covers_append, or_left)
 
 pub waits_now : (c : Setup) (m : PlainMap) (k : ℕ) (spans : List Span) (waiting page : ℕ) → covers spans page ≡ true → covers (effect_as c m k (Wait spans waiting)).waiting page ≡ true
 waits_now c m k spans waiting page h = covers_append page m.waiting spans ∙ or_right (covers m.waiting page) (covers spans page) h
@@ -166,9 +141,7 @@ IsBehind events i k page (PurgeReturning waited after) = (covers waited page ≡
 IsBehind events i k page _ = ⊥
 
 pub behind_flushed : (events : List Event) (i k page : ℕ) (p : Place) → IsBehind events i k page p → covers (flushed p) page ≡ true
-behind_flushed events i k page (PurgeFlushing s waited after) is = is.0
-behind_flushed events i k page (PurgeReturning waited after) is = is.0
-behind_flushed events i k page _ is = absurd is
+behind_flushed events i k page p is = grind arith
 
 -- a caller carved the span, and none of its pages was mapped since
 pub record IsCarvedBy (c : Setup) (m : PlainMap) (events : List Event) (k : ℕ) (s : Span) : Type 0 where
@@ -205,69 +178,22 @@ module _ (events : List Event) (e : Event) where
   behind_more i k page _ is = absurd is
 
   pub returned_more : (page i k : ℕ) → IsReturned events page i k → IsReturned (events ++ e ∷ []) page i k
-  returned_more page i k is = record {
-    caller = is.caller;
-    taken = is.taken;
-    flush = is.flush;
-    all = is.all;
-    flushed_span = is.flushed_span;
-    spans = is.spans;
-    after_wait = is.after_wait;
-    after_take = is.after_take;
-    before = is.before;
-    takes = event_first events e is.taken is.caller (TakeWaiting is.all) is.takes;
-    took_page = is.took_page;
-    flushes = event_first events e is.flush is.caller (Flush is.flushed_span) is.flushes;
-    flushed_page = is.flushed_page;
-    returns = event_first events e k is.caller (Return is.spans) is.returns;
-    returned_page = is.returned_page;
-  }
+  returned_more page i k is = grind (arith, event_first)
 
 module _ (c : Setup) (m : PlainMap) (events : List Event) (e : Event) where
   pub taken_before : (page first last : ℕ) → last ≤ length events → IsTakenFrom c m (events ++ e ∷ []) page first last → IsTakenFrom c m events page first last
   taken_before page first last low is n a b free = is n a b (subst (λ x. IsMarked x Free page) (sym (map_at-before c m events e n (omega arith))) free)
 
   pub freed_before : (page k : ℕ) → k < length events → IsFreedAt c m (events ++ e ∷ []) page k → IsFreedAt c m events page k
-  freed_before page k low is = (
-    (λ free. is.0 (subst (λ x. IsMarked x Free page) (sym (map_at-before c m events e k (omega arith))) free)),
-    subst (λ x. IsMarked x Free page) (map_at-before c m events e (suc k) (omega arith)) is.1,
-  )
+  freed_before page k low is = grind (arith, map_at-before)
 
   pub dropped_more : (page k : ℕ) → k < length events → IsDropped c m events page k → IsDropped c m (events ++ e ∷ []) page k
-  dropped_more page k low is = record {
-    caller = is.caller;
-    carve = is.carve;
-    section = is.section;
-    dropped = is.dropped;
-    before = is.before;
-    carves = event_first events e is.carve is.caller is.section is.carves;
-    carved_page = is.carved_page;
-    unmapped = λ n a b. subst (λ x. IsUnmapped x page) (sym (map_at-before c m events e n (omega arith))) (is.unmapped n a b);
-    drops = event_first events e k is.caller _ is.drops;
-    dropped_page = is.dropped_page;
-  }
+  dropped_more page k low is = grind (arith, event_first, map_at-before)
 
   -- the pages of a carved span stay unmapped
   pub carved_more : (k : ℕ) (s : Span) → ((page : ℕ) → holds s page ≡ true → IsUnmapped (effect c (map_after c m events) e) page) → IsCarvedBy c m events k s → IsCarvedBy c m (events ++ e ∷ []) k s
-  carved_more k s now is = record {
-    carve = is.carve;
-    section = is.section;
-    carves = event_first events e is.carve k is.section is.carves;
-    pages = is.pages;
-    unmapped = λ page n on a b. by_number page n on a (le_or n (length events));
-  }
-    where
-      le_or : (a b : ℕ) → (a ≤ b) ⊎ (b < a)
-      le_or zero b = inl (omega arith)
-      le_or (suc a) zero = inr (omega arith)
-      le_or (suc a) (suc b) = elim (le_or a b) [ inl h ↦ inl (omega arith) | inr h ↦ inr (omega arith) ]
-
-      by_number : (page n : ℕ) → holds s page ≡ true → is.carve < n → (n ≤ length events) ⊎ (length events < n) → IsUnmapped (map_at c m (events ++ e ∷ []) n) page
-      by_number page n on a (inl low) = subst (λ x. IsUnmapped x page) (sym (map_at-before c m events e n low)) (is.unmapped page n on a low)
-      by_number page n on a (inr high) = subst (λ x. IsUnmapped x page) (sym (map_at-more c m events e n high)) (now page on)
+  carved_more k s now is = grind (arith, event_first, map_at-before, map_at-more)
 
   pub storied_more : (k : ℕ) (p : Place) → ((s : Span) → IsCarvedBy c m events k s → (p ≡ Dropping s) ⊎ ((kd : AreaKind) × (p ≡ MappingArea s kd)) → (page : ℕ) → holds s page ≡ true → IsUnmapped (effect c (map_after c m events) e) page)
       → IsStoried c m events k p → IsStoried c m (events ++ e ∷ []) k p
-  storied_more k (MappingArea s kd) now is = carved_more k s (now s is (inr (kd, refl))) is
-  storied_more k (Dropping s) now is = carved_more k s (now s is (inl refl)) is
-  storied_more k _ now is = tt
+  storied_more k p now is = grind (arith, carved_more)

@@ -62,28 +62,11 @@ module _ (w : World) (area : IsAreaWorld w) where
   waiting_free page on free = let once = area.once page in omega (arith, covers_times page w.map.waiting on, free_one w.map page free)
 
   flushed_free : (k : ℕ) (l : Local) (page : ℕ) → slice_get w.locals k ≡ Some l → covers (flushed l.place) page ≡ true → IsMarked w.map Free page → ⊥
-  flushed_free k l page here on free =
-      let once = area.once page in omega (arith, sum_has (flushings page) w.locals l k here, covers_times page (flushed l.place) on, free_one w.map page free)
-
-  -- a page that is followed is held by nobody
-  follows_none : (k : ℕ) (l : Local) (i page : ℕ) → slice_get w.locals k ≡ Some l → covers (held l.setup l.place) page ≡ true → Follows w i page → ⊥
-  follows_none k l i page here on (Waiting e) =
-      let once = area.once page in omega (arith, sum_has (holdings page) w.locals l k here, covers_times page (held l.setup l.place) on, covers_times page w.map.waiting e)
-  follows_none k l i page here on (Taken j x at is) =
-      let once = area.once page in
-      omega (arith, sum_has (holdings page) w.locals l k here, covers_times page (held l.setup l.place) on, sum_has (flushings page) w.locals x j at, covers_times page (flushed x.place) (behind_flushed w.events i j page x.place is))
+  flushed_free k l page here on free = grind (arith, sum_has, covers_times, free_one)
 
   -- and a page that a caller flushes is followed by that caller alone
   follows_own : (k : ℕ) (l : Local) (i page : ℕ) → slice_get w.locals k ≡ Some l → covers (flushed l.place) page ≡ true → Follows w i page → IsBehind w.events i k page l.place
-  follows_own k l i page here on (Waiting e) =
-      let once = area.once page in absurd (omega (arith, sum_has (flushings page) w.locals l k here, covers_times page (flushed l.place) on, covers_times page w.map.waiting e))
-  follows_own k l i page here on (Taken j x at is) = elim (same_or k j) [
-    | inl same ↦ (let e : x ≡ l = same_Some x l (sym at ∙ ap (slice_get w.locals) (sym same) ∙ here) in subst (λ n. IsBehind w.events i n page l.place) (sym same) (subst (λ (y : Local). IsBehind w.events i j page y.place) e is))
-    | inr apart ↦ absurd (
-        let once = area.once page in
-        omega (arith, sum_two (flushings page) w.locals k j l x here at apart, covers_times page (flushed l.place) on, covers_times page (flushed x.place) (behind_flushed w.events i j page x.place is))
-        )
-  ]
+  follows_own k l i page here on x6 = grind (arith, sum_has, covers_times, same_or, same_Some, sum_two, behind_flushed)
 
 -- Places of callers that have none of this.
 
@@ -95,14 +78,10 @@ is_idle (PurgeReturning waited after) = false
 is_idle _ = true
 
 pub idle_storied : (c : Setup) (m : PlainMap) (events : List Event) (k : ℕ) (p : Place) → is_idle p ≡ true → IsStoried c m events k p
-idle_storied c m events k (MappingArea s kd) h = cc
-idle_storied c m events k (Dropping s) h = cc
-idle_storied c m events k _ h = tt
+idle_storied c m events k p h = grind arith
 
 pub idle_flushed : (page : ℕ) (p : Place) → is_idle p ≡ true → covers (flushed p) page ≡ false
-idle_flushed page (PurgeFlushing h waited after) e = cc
-idle_flushed page (PurgeReturning waited after) e = cc
-idle_flushed page _ e = refl
+idle_flushed page p e = grind arith
 
 le_or : (a b : ℕ) → (a ≤ b) ⊎ (b < a)
 le_or zero b = inl (omega arith)
@@ -115,10 +94,7 @@ pub data Order (a b : ℕ) : Type 0 where
   Above : b < a → Order a b
 
 order : (a b : ℕ) → Order a b
-order a b = elim (le_or a b) [
-  | inl low ↦ elim (le_or b a) [ inl high ↦ Same (omega arith) | inr less ↦ Below less ]
-  | inr more ↦ Above more
-]
+order a b = grind (arith, le_or)
 
 -- A legal section of one caller, over the setup itself and under its number.
 
@@ -142,10 +118,7 @@ module _ (c : Setup) (first : PlainMap) (w : World) (area : IsAreaWorld w) (kept
 
   -- a page that isn't free now either
   not_free_since : (i page : ℕ) → (IsMarked made.map Free page → ⊥) → IsTakenFrom c first w.events page (suc i) (length w.events) → IsTakenFrom c first made.events page (suc i) (length made.events)
-  not_free_since i page never since n a b free = elim (le_or n (length w.events)) [
-    | inl low ↦ since n a low (subst (λ x. IsMarked x Free page) (map_at-before c first w.events event n low) free)
-    | inr high ↦ never (subst (λ x. IsMarked x Free page) (map_now n high) free)
-  ]
+  not_free_since i page never since n a b free = grind (arith, le_or, map_at-before, map_now)
 
   waiting_more : (page : ℕ) → (IsMarked made.map Free page → ⊥) → IsWaiting c first w page → IsWaiting c first made page
   waiting_more page never was = record {
@@ -202,11 +175,7 @@ module _ (c : Setup) (first : PlainMap) (w : World) (area : IsAreaWorld w) (kept
   -- A page that is freed.
 
   wait_before : (i page : ℕ) → i < length w.events → IsWaitOf made.events i page → IsWaitOf w.events i page
-  wait_before i page low waits = by_event (which_event w.events k s i waits.caller (Wait waits.spans waits.waiting) waits.waits)
-    where
-      by_event : WhichEvent w.events k s i waits.caller (Wait waits.spans waits.waiting) → IsWaitOf w.events i page
-      by_event (Before a was) = record { caller = waits.caller; waiting = waits.waiting; spans = waits.spans; waits = was; waited = waits.waited }
-      by_event (Last end own same) = absurd (omega arith)
+  wait_before i page low waits = grind (arith, which_event)
 
   last_event : (t : Section) → s ≡ t → IsEvent made.events (length w.events) k t
   last_event t e = subst (IsEvent made.events (length w.events) k) e (event_last w.events k s)
@@ -246,8 +215,7 @@ module _ (c : Setup) (first : PlainMap) (w : World) (area : IsAreaWorld w) (kept
   followed_returns : (i page : ℕ) → Follows w i page → IsFreeing page → IsReturned made.events page i (length w.events)
   followed_returns i page follows (Returns spans after e at on) =
       return_now i page spans after e on (subst (IsBehind w.events i k page) at (follows_own w area k l i page here (ap (λ p. covers (flushed p) page) at ∙ on) follows))
-  followed_returns i page follows (Drops dropped e at on) =
-      absurd (follows_none w area k l i page here (ap (λ p. covers (held l.setup p) page) at ∙ covers_one dropped page ∙ on) follows)
+  followed_returns i page follows (Drops dropped e at on) = grind (arith, covers_one, sum_has, covers_times, behind_flushed)
 
   dropped_now : (page : ℕ) (dropped : Span) → s ≡ Drop dropped → holds dropped page ≡ true → IsCarvedBy c first w.events k dropped → IsDropped c first made.events page (length w.events)
   dropped_now page dropped e on carved = record {

@@ -1,5 +1,5 @@
 -- Words of frames, and what zeroing and adding leave of them.
-use Rattle.std.proofs.Common.{◌≡◌, ◌≢◌, ℕ, ◌+◌, ◌*◌, ◌/◌, ◌%◌, ◌<◌, List, length, slice_get, slice_set, Option, Some, unwrap_or, ap, sym, ◌∙◌, arith, ℤ, pos, ◌+ℤ◌, zero, suc, ◌≤◌, Bool, true, false, if◌then◌else◌, [], ◌∷◌, None, option_map, refl, subst, inl, inr, map, not, slice_index, length-set, ◌++◌}
+use Rattle.std.proofs.Common.{◌≡◌, ◌≢◌, ℕ, ◌+◌, ◌*◌, ◌/◌, ◌%◌, ◌<◌, List, length, slice_get, slice_set, Option, Some, unwrap_or, ap, sym, ◌∙◌, arith, ℤ, pos, ◌+ℤ◌, zero, suc, ◌≤◌, Bool, true, false, [], ◌∷◌, None, refl, subst, inl, inr, map, not, length-set, ◌++◌}
 use Rattle.std.proofs.lemmas.Option.{unwrap_or-slice_get, same_Some}
 use Rattle.vm_model.specs.Frames.{joined_option, cell_in, cell_of, read_cell, write_cell, word_at, add_word, frame_of, pages_of_bytes, words_in_page, zero_frame, zero_pages, zero_words, is_used, free_frames, give_frames, sum_words}
 use Rattle.map_laws.proofs.Lists.{set_same, set_other, there, set_cases}
@@ -12,7 +12,6 @@ use Rattle.std.proofs.lemmas.List.{length-replicate}
 use Rattle.vm_model.specs.declared.calls.Call.{Call}
 use Rattle.vm_model.specs.Setup.{Setup, pages_in_units}
 use Rattle.vm_model.specs.PlainMap.{PlainMap}
-use Rattle.vm_model.specs.Chunks.{copy_at}
 use Rattle.vm_model.specs.Events.{Section, MapPages, Populate, Fill, Unmap, Depopulate, Zero, AddWord, Event}
 use Rattle.vm_model.specs.Effects.{effect_as}
 use Rattle.vm_model.specs.History.{opening_world}
@@ -43,15 +42,7 @@ cell_at frames byte frame h = ap (λ o. cell_in (joined_option o) byte) h
 -- a cell is that of one word
 same_cell : (frames : List (Option ℕ)) (byte other frame own : ℕ) → ((page other frame : ℕ) → slice_get frames page ≡ Some (Some frame) → slice_get frames other ≡ Some (Some frame) → page ≡ other) → HasFrame frames byte frame → HasFrame frames other own → IsWord byte
     → IsWord other → 1024 * frame + (byte % 4096) / 4 ≡ 1024 * own + (other % 4096) / 4 → byte ≡ other
-same_cell frames byte other frame own apart h g is is' e =
-    let low : (byte % 4096) / 4 < 1024 = omega arith in
-    let low' : (other % 4096) / 4 < 1024 = omega arith in
-    let one : frame ≡ own = omega arith in
-    let page : byte / 4096 ≡ other / 4096 = apart (byte / 4096) (other / 4096) frame h (g ∙ ap (λ n. Some (Some n)) (sym one)) in
-    let inner : (byte % 4096) / 4 ≡ (other % 4096) / 4 = omega arith in
-    let a = is.at in let b = is'.at in
-    let same : byte % 4096 ≡ other % 4096 = omega arith in
-    omega arith
+same_cell frames byte other frame own apart h g is is' e = grind arith
 
 -- What is read.
 
@@ -94,16 +85,11 @@ module _ (count : ℕ) (frames : List (Option ℕ)) (cells : List ℤ) (are : Ar
 module _ (off bytes page : ℕ) (start : IsWord off) (long : IsWord bytes) where
   -- a word that is zeroed lies in the object
   pub zeroed_within : (inner : ℕ) → holds (words_in_page off bytes page) inner ≡ true → (off ≤ 4096 * page + 4 * inner) × (4096 * page + 4 * inner < off + bytes) × (inner < 1024)
-  zeroed_within inner h =
-      let r = holds_to (words_in_page off bytes page) inner h in
-      let a = start.at in let b = long.at in
-      ((omega arith), (omega arith), (omega arith))
+  zeroed_within inner h = grind (arith, holds_to)
 
   -- and a word of the object is zeroed
   pub within_zeroed : (inner : ℕ) → off ≤ 4096 * page + 4 * inner → 4096 * page + 4 * inner < off + bytes → inner < 1024 → holds (words_in_page off bytes page) inner ≡ true
-  within_zeroed inner low high few =
-      let a = start.at in let b = long.at in
-      holds_from (words_in_page off bytes page) inner (omega arith) (omega arith)
+  within_zeroed inner low high few = grind (arith, holds_from)
 
 -- One frame, a page, and all units.
 
@@ -114,35 +100,9 @@ IsZero cells cell = unwrap_or (slice_get cells cell) (pos 0) ≡ pos 0
 abbrev zeroed_cells : ℕ → Span → Span
 zeroed_cells frame words = span (1024 * frame + words.start) words.pages
 
-painted_zero : (b : Bool) (o : Option ℤ) → unwrap_or o (pos 0) ≡ pos 0 → unwrap_or (option_map (λ (y : ℤ). if b then pos 0 else y) o) (pos 0) ≡ pos 0
-painted_zero true None e = refl
-painted_zero true (Some y) e = refl
-painted_zero false None e = refl
-painted_zero false (Some y) e = e
-
-zero_painted : (b : Bool) (o : Option ℤ) → b ≡ true → unwrap_or (option_map (λ (y : ℤ). if b then pos 0 else y) o) (pos 0) ≡ pos 0
-zero_painted true None e = refl
-zero_painted true (Some y) e = refl
-zero_painted false o e = cc
-
 zero_frame-stays : (o : Option ℕ) (words : Span) (cells : List ℤ) (cell : ℕ) → IsZero cells cell → IsZero (zero_frame o words cells) cell
 zero_frame-stays None words cells cell h = h
-zero_frame-stays (Some frame) words cells cell h =
-    ap (λ o. unwrap_or o (pos 0)) (slice_get-paint (holds (zeroed_cells frame words)) (pos 0) cells cell) ∙ painted_zero (holds (zeroed_cells frame words) cell) (slice_get cells cell) h
-
-zero_frame-own : (frame : ℕ) (words : Span) (cells : List ℤ) (inner : ℕ) → holds words inner ≡ true → IsZero (zero_frame (Some frame) words cells) (1024 * frame + inner)
-zero_frame-own frame words cells inner h =
-    let r = holds_to words inner h in
-    ap (λ o. unwrap_or o (pos 0)) (slice_get-paint (holds (zeroed_cells frame words)) (pos 0) cells (1024 * frame + inner))
-    ∙ zero_painted (holds (zeroed_cells frame words) (1024 * frame + inner)) (slice_get cells (1024 * frame + inner)) (holds_from (zeroed_cells frame words) (1024 * frame + inner) (omega arith) (omega arith))
-
-zero_frame-other : (o : Option ℕ) (words : Span) (cells : List ℤ) (cell : ℕ) → ((frame : ℕ) → o ≡ Some frame → holds (zeroed_cells frame words) cell ≡ true → ⊥) → slice_get (zero_frame o words cells) cell ≡ slice_get cells cell
-zero_frame-other None words cells cell never = refl
-zero_frame-other (Some frame) words cells cell never = by_test (holds (zeroed_cells frame words) cell) refl
-  where
-    by_test : (b : Bool) → holds (zeroed_cells frame words) cell ≡ b → slice_get (zero_frame (Some frame) words cells) cell ≡ slice_get cells cell
-    by_test true e = absurd (never frame refl e)
-    by_test false e = unpainted (holds (zeroed_cells frame words)) (pos 0) cells cell e
+zero_frame-stays (Some frame) words cells cell h = grind (arith, slice_get-paint)
 
 module _ (frames : List (Option ℕ)) (off bytes : ℕ) where
   zero_pages-stays : (unit : ℕ) (pages : List ℕ) (cells : List ℤ) (cell : ℕ) → IsZero cells cell → IsZero (zero_pages frames unit off bytes pages cells) cell
@@ -158,12 +118,7 @@ module _ (frames : List (Option ℕ)) (off bytes : ℕ) where
   zero_pages-own : (unit page frame inner : ℕ) (pages : List ℕ) (cells : List ℤ) (i : ℕ) → slice_get pages i ≡ Some page → frame_of frames (unit + page) ≡ Some frame → holds (words_in_page off bytes page) inner ≡ true
       → IsZero (zero_pages frames unit off bytes pages cells) (1024 * frame + inner)
   zero_pages-own unit page frame inner [] cells i at f h = cc
-  zero_pages-own unit page frame inner (own ∷ pages) cells zero at f h =
-      let same : own ≡ page = same_Some own page at in
-      let here = zero_frame-own frame (words_in_page off bytes page) cells inner h in
-      zero_pages-stays unit pages (zero_frame (frame_of frames (unit + own)) (words_in_page off bytes own) cells) (1024 * frame + inner)
-      (subst (λ n. IsZero (zero_frame (frame_of frames (unit + n)) (words_in_page off bytes n) cells) (1024 * frame + inner)) (sym same)
-      (subst (λ o. IsZero (zero_frame o (words_in_page off bytes page) cells) (1024 * frame + inner)) (sym f) here))
+  zero_pages-own unit page frame inner (own ∷ pages) cells zero at f h = grind (arith, same_Some, zero_pages-stays, holds_to, slice_get-paint, holds_from)
   zero_pages-own unit page frame inner (own ∷ pages) cells (suc i) at f h =
       zero_pages-own unit page frame inner pages (zero_frame (frame_of frames (unit + own)) (words_in_page off bytes own) cells) i at f h
 
@@ -183,8 +138,7 @@ module _ (frames : List (Option ℕ)) (off bytes : ℕ) where
   zero_pages-other : (unit cell : ℕ) (pages : List ℕ) (cells : List ℤ) → IsElsewhere unit cell → slice_get (zero_pages frames unit off bytes pages cells) cell ≡ slice_get cells cell
   zero_pages-other unit cell [] cells never = refl
   zero_pages-other unit cell (page ∷ pages) cells never =
-      zero_pages-other unit cell pages (zero_frame (frame_of frames (unit + page)) (words_in_page off bytes page) cells) never
-      ∙ zero_frame-other (frame_of frames (unit + page)) (words_in_page off bytes page) cells cell (λ frame f h. never page frame f h)
+      grind (arith, zero_pages-other unit cell pages (zero_frame (frame_of frames (unit + page)) (words_in_page off bytes page) cells) never, unpainted)
 
   pub zero_words-other : (cell : ℕ) (units : List ℕ) (cells : List ℤ) → ((j unit : ℕ) → slice_get units j ≡ Some unit → IsElsewhere unit cell) → slice_get (zero_words frames units off bytes cells) cell ≡ slice_get cells cell
   zero_words-other cell [] cells never = refl
@@ -192,14 +146,10 @@ module _ (frames : List (Option ℕ)) (off bytes : ℕ) where
       zero_words-other cell units (zero_pages frames unit off bytes (pages_of_bytes off bytes) cells) (λ j own at. never (suc j) own at)
       ∙ zero_pages-other unit cell (pages_of_bytes off bytes) cells (never 0 unit refl)
 
-length-zero_frame : (o : Option ℕ) (words : Span) (cells : List ℤ) → length (zero_frame o words cells) ≡ length cells
-length-zero_frame None words cells = refl
-length-zero_frame (Some frame) words cells = length-paint_from (holds (zeroed_cells frame words)) (pos 0) cells 0
-
 length-zero_pages : (frames : List (Option ℕ)) (unit off bytes : ℕ) (pages : List ℕ) (cells : List ℤ) → length (zero_pages frames unit off bytes pages cells) ≡ length cells
 length-zero_pages frames unit off bytes [] cells = refl
 length-zero_pages frames unit off bytes (page ∷ pages) cells =
-    length-zero_pages frames unit off bytes pages (zero_frame (frame_of frames (unit + page)) (words_in_page off bytes page) cells) ∙ length-zero_frame (frame_of frames (unit + page)) (words_in_page off bytes page) cells
+    grind (arith, length-zero_pages frames unit off bytes pages (zero_frame (frame_of frames (unit + page)) (words_in_page off bytes page) cells), length-paint_from)
 
 pub length-zero_words : (frames : List (Option ℕ)) (units : List ℕ) (off bytes : ℕ) (cells : List ℤ) → length (zero_words frames units off bytes cells) ≡ length cells
 length-zero_words frames [] off bytes cells = refl
@@ -212,13 +162,12 @@ abbrev pub AreFew : ℕ → List (Option ℕ) → Type 0
 AreFew count frames = (page frame : ℕ) → slice_get frames page ≡ Some (Some frame) → frame < count
 
 given_few : (count : ℕ) (pages free : List ℕ) (frames : List (Option ℕ)) → ((i frame : ℕ) → slice_get free i ≡ Some frame → frame < count) → AreFew count frames → AreFew count (give_frames pages free frames)
-given_few count [] free frames low few = few
-given_few count (p ∷ pages) [] frames low few = few
 given_few count (p ∷ pages) (f ∷ free) frames low few = given_few count pages free (slice_set frames p (Some f)) (λ i frame h. low (suc i) frame h)
     (λ page frame h. elim (set_cases frames p page (Some f) (Some frame) h) [
       | inl e ↦ (let same : frame ≡ f = cc in subst (λ n. n < count) (sym same) (low 0 f refl))
       | inr e ↦ few page frame e.1
     ])
+given_few count _ _ frames low few = few
 
 free_low : (c : Setup) (frames : List (Option ℕ)) (i frame : ℕ) → slice_get (free_frames c frames) i ≡ Some frame → frame < c.frames
 free_low c frames i frame h =
@@ -233,14 +182,10 @@ few_section c m k (Unmap s) few = λ page frame h. few page frame (still_mapped 
 few_section c m k (Depopulate base pages) few = λ page frame h. few page frame (still_mapped (is_among (pages_in_units c base pages)) m.frames page frame h)
 few_section c m k _ few = few
 
-length-write_cell : (cells : List ℤ) (o : Option ℕ) (value : ℤ) → length (write_cell cells o value) ≡ length cells
-length-write_cell cells None value = refl
-length-write_cell cells (Some cell) value = length-set cells cell value
-
 cells_section : (c : Setup) (m : PlainMap) (k : ℕ) (s : Section) → length (effect_as c m k s).cells ≡ length m.cells
 cells_section c m k (Populate at missing) = length-zero_words (give_frames (pages_in_units c at.base missing) (free_frames c m.frames) m.frames) (map (λ unit. at.base + unit) c.units) at.off at.bytes m.cells
 cells_section c m k (Zero at) = length-zero_words m.frames (map (λ unit. at.base + unit) c.units) at.off at.bytes m.cells
-cells_section c m k (AddWord at serial cpu index amount) = length-write_cell m.cells (cell_of m.frames (copy_at at (slice_index c.units cpu) + 4 * index)) (word_at m.frames m.cells (copy_at at (slice_index c.units cpu) + 4 * index) +ℤ amount)
+cells_section c m k (AddWord at serial cpu index amount) = grind (arith, length-set)
 cells_section c m k _ = refl
 
 -- frames that have cells
@@ -252,10 +197,7 @@ pub have_cells_section : (c : Setup) (m : PlainMap) (k : ℕ) (s : Section) → 
 have_cells_section c m k s is = record { few = few_section c m k s is.few; long = cells_section c m k s ∙ is.long }
 
 pub have_cells_first : (c : Setup) (opening : List Call) (calls : List (List Call)) → HaveCells c (opening_world c opening calls).map
-have_cells_first c opening calls = record {
-  few = λ page frame h. (let no = replicate-at c.space None (Some frame) page h in cc);
-  long = length-replicate (1024 * c.frames) (pos 0);
-}
+have_cells_first c opening calls = grind (arith, replicate-at, length-replicate)
 
 -- Sums of words over all processors, and what adds come to.
 
@@ -302,8 +244,7 @@ is_add (AddWord at serial cpu index amount) = true
 is_add _ = false
 
 pub adds_nothing : (serial index : ℕ) (s : Section) → is_add s ≡ false → amount_of serial index s ≡ pos 0
-adds_nothing serial index (AddWord at own cpu at_index amount) h = cc
-adds_nothing serial index _ h = refl
+adds_nothing serial index s h = grind arith
 
 pub added_same : (serial index : ℕ) (events : List Event) (e : Event) → amount_of serial index e.section ≡ pos 0 → added serial index (events ++ e ∷ []) ≡ added serial index events
 added_same serial index events e none = added_more serial index events e ∙ ap (λ v. added serial index events +ℤ v) none ∙ +ℤ_idr (added serial index events)

@@ -1,11 +1,11 @@
 -- Blocks after a section: each stays whole, and parts that are in hand stay there.
-use Rattle.std.proofs.Common.{◌≡◌, ◌≢◌, ℕ, ◌-◌, ◌≤◌, Bool, true, false, not, ◌&&◌, ◌==◌, nat_lt, nat_le, if◌then◌else◌, List, ◌∷◌, filter, length, slice_get, sum_by, Some, refl, ap, sym, ◌∙◌, subst, arith, option_map}
+use Rattle.std.proofs.Common.{◌≡◌, ◌≢◌, ℕ, ◌-◌, ◌≤◌, Bool, true, false, not, ◌&&◌, ◌==◌, nat_lt, if◌then◌else◌, List, ◌∷◌, filter, length, slice_get, sum_by, Some, refl, ap, sym, ◌∙◌, subst, arith, option_map}
 use Rattle.std.proofs.lemmas.Bool.Decides.{nat_tests}
 use Rattle.std.proofs.lemmas.Option.{slice_get-map}
 use Rattle.vm_model.specs.Space.{span, holds, one_if, is_among}
 use Rattle.vm_model.specs.Setup.{Setup}
 use Rattle.vm_model.specs.PlainMap.{Block, Part, Life, InHand, Lives, Ended, is_ended, lives_as}
-use Rattle.vm_model.specs.Blocks.{PartAt, rounded, parts_size, free_of, blocks_of, queue_of, part_to_cut, first_with_room, cut_from, named_parts, named_in, is_named, fragmented, is_fragmented, is_spent, change_block, with_part, with_life, set_life, without_spent}
+use Rattle.vm_model.specs.Blocks.{PartAt, rounded, parts_size, free_of, blocks_of, queue_of, part_to_cut, cut_from, named_parts, named_in, is_named, fragmented, is_fragmented, is_spent, change_block, with_part, with_life, set_life, without_spent}
 use Rattle.map_parts.specs.Owners.{every, of_block}
 use Rattle.map_parts.specs.Kept.{AreInRow, IsBlockWhole, HasPart}
 use Rattle.map_parts.proofs.Filters.{filter_passes, filter_within, filter_keeps, found_there, flat_map_each, map_was, option_map_was, among_map_was, append_first, append_last}
@@ -26,20 +26,6 @@ first_held c b page some e = let on : holds (span b.start c.block_pages) page �
 -- how a change leaves a block
 changed : (start : ℕ) (change : Block → Block) (b : Block) → (b.start == start) ≡ true → (if b.start == start then change b else b) ≡ change b
 changed start change b e = ap (λ t. if t then change b else b) e
-
-same_start : (start : ℕ) (change : Block → Block) (b : Block) → (change b).start ≡ b.start → (if b.start == start then change b else b).start ≡ b.start
-same_start start change b keeps = by_test (b.start == start)
-  where
-    by_test : (t : Bool) → (if t then change b else b).start ≡ b.start
-    by_test true = keeps
-    by_test false = refl
-
-same_cpu : (start : ℕ) (change : Block → Block) (b : Block) → (change b).cpu ≡ b.cpu → (if b.start == start then change b else b).cpu ≡ b.cpu
-same_cpu start change b keeps = by_test (b.start == start)
-  where
-    by_test : (t : Bool) → (if t then change b else b).cpu ≡ b.cpu
-    by_test true = keeps
-    by_test false = refl
 
 abbrev pub named_at : Block → Part → PartAt
 named_at b p = record { cpu = b.cpu; block = b.start; offset = p.offset; pages = p.pages }
@@ -72,19 +58,7 @@ module _ (c : Setup) (blocks : List Block) (some : 1 ≤ c.block_pages) (once : 
       → (p : Part) (j : ℕ) → p.offset ≡ at.offset → p.pages ≡ at.pages → p.life ≡ life'
       → slice_get (if has.block.start == start then change has.block else has.block).parts j ≡ Some p
       → HasPart (change_block start change blocks) at life'
-  has_after start change at life life' keeps keeps_cpu has p j offset pages lives within = record {
-    block = if has.block.start == start then change has.block else has.block;
-    number = has.number;
-    there = slice_get-map (λ (b : Block). if b.start == start then change b else b) blocks has.number ∙ ap (option_map (λ (b : Block). if b.start == start then change b else b)) has.there;
-    start = same_start start change has.block (keeps has.block) ∙ has.start;
-    cpu = same_cpu start change has.block (keeps_cpu has.block) ∙ has.cpu;
-    part = p;
-    place = j;
-    within = within;
-    offset = offset;
-    pages = pages;
-    lives = lives;
-  }
+  has_after start change at life life' keeps keeps_cpu has p j offset pages lives within = grind (arith, slice_get-map, nat_tests)
 
   -- A part that is cut.
 
@@ -97,19 +71,7 @@ module _ (c : Setup) (blocks : List Block) (some : 1 ≤ c.block_pages) (once : 
     pub is : cut_from c pages block ≡ at
 
   pub is_cut : (cpu pages : ℕ) (at : PartAt) → part_to_cut c cpu pages blocks ≡ Some at → IsCut cpu pages at
-  is_cut cpu pages at h =
-      let w = option_map_was (cut_from c pages) (first_with_room c cpu pages blocks) at h in
-      let found = found_there (λ (b : Block). nat_le (rounded pages) (free_of c b)) (queue_of c cpu blocks) w.0 w.1 in
-      let queued = filter_within (λ (b : Block). nat_lt 0 (free_of c b)) (blocks_of cpu blocks) found.1.0 w.0 found.1.1 in
-      let there = filter_within (λ (b : Block). b.cpu == cpu) blocks queued.0 w.0 queued.1 in
-      record {
-        block = w.0;
-        number = there.0;
-        there = there.1;
-        own = is_same w.0.cpu cpu (filter_passes (λ (b : Block). b.cpu == cpu) blocks queued.0 w.0 queued.1);
-        room = le_test (rounded pages) (free_of c w.0) found.0;
-        is = w.2;
-      }
+  is_cut cpu pages at h = grind (arith, option_map_was, found_there, filter_within, is_same, filter_passes, le_test, nat_tests)
 
   pub cut_whole : (k cpu pages : ℕ) (at : PartAt) → part_to_cut c cpu pages blocks ≡ Some at → AreWhole c blocks → AreWhole c (change_block at.block (with_part k at) blocks)
   cut_whole k cpu pages at h whole =
@@ -162,9 +124,7 @@ module _ (c : Setup) (blocks : List Block) (some : 1 ≤ c.block_pages) (once : 
 
   life_within : (at : PartAt) (life : Life) (b : Block) (j : ℕ) (p q : Part) → slice_get b.parts j ≡ Some p → (if p.offset == at.offset then record p { life = life } else p) ≡ q
       → slice_get (with_life at life b).parts j ≡ Some q
-  life_within at life b j p q there e =
-      slice_get-map (λ (p : Part). if p.offset == at.offset then record p { life = life } else p) b.parts j
-      ∙ ap (option_map (λ (p : Part). if p.offset == at.offset then record p { life = life } else p)) there ∙ ap (λ p. Some p) e
+  life_within at life b j p q there e = grind (arith, slice_get-map, nat_tests)
 
   pub life_whole : AreWhole c blocks → (at : PartAt) (old new : Life) → HasPart blocks at old → is_ended old ≡ false → is_ended new ≡ false → AreWhole c (set_life at new blocks)
   life_whole whole at old new has was goes =
@@ -223,9 +183,7 @@ module _ (c : Setup) (blocks : List Block) (some : 1 ≤ c.block_pages) (once : 
     pub has : HasPart blocks at (Lives serial)
 
   lives_is : (serial : ℕ) (life : Life) → lives_as serial life ≡ true → life ≡ Lives serial
-  lives_is serial (InHand caller) h = absurd cc
-  lives_is serial (Lives own) h = ap (λ n. Lives n) (is_same own serial h)
-  lives_is serial Ended h = absurd cc
+  lives_is serial life h = grind (arith, is_same, nat_tests)
 
   pub is_named_part : (cpu page serial : ℕ) (at : PartAt) (parts : List PartAt) → named_parts cpu page serial blocks ≡ at ∷ parts → IsNamedPart cpu page serial at
   is_named_part cpu page serial at parts h =

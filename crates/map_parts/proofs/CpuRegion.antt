@@ -1,51 +1,34 @@
 -- Sections over the blocks of one processor: each over these alone leaves what it leaves in the map.
-use Rattle.std.proofs.Common.{◌≡◌, ◌≢◌, ℕ, suc, ◌+◌, ◌<◌, Bool, true, false, not, cond, ◌&&◌, ◌==◌, if◌then◌else◌, List, [], ◌∷◌, ◌++◌, map, filter, find, flat_map, filter_map, option_map, nat_lt, nat_le, replicate, Option, Some, None, is_some, slice_get, slice_set, slice_index, refl, ap, sym, ◌∙◌, arith}
+use Rattle.std.proofs.Common.{◌≡◌, ◌≢◌, ℕ, suc, ◌+◌, ◌<◌, Bool, not, ◌&&◌, ◌==◌, List, [], ◌∷◌, ◌++◌, map, filter, find, flat_map, filter_map, option_map, nat_lt, nat_le, replicate, Option, Some, None, is_some, slice_get, slice_set, slice_index, refl, ap, sym, ◌∙◌, arith}
 use Rattle.std.proofs.lemmas.List.{length-replicate, length-set, append-nil, get_or-set_same, get_or-set_other}
 use Rattle.std.proofs.lemmas.List.Elements.{filter-append}
 use Rattle.vm_model.specs.Space.{is_among, hull}
 use Rattle.vm_model.specs.Setup.{Setup, cpus}
-use Rattle.vm_model.specs.PlainMap.{PlainMap, free_runs, Block, Life, InHand, Lives, Ended}
-use Rattle.vm_model.specs.Blocks.{PartAt, rounded, free_of, is_named, dirty_range, blocks_of, queue_of, part_to_cut, first_with_room, cut_from, named_parts, named_in, fragmented, is_fragmented, change_block, with_part, with_life, set_life, spends, is_spent, without_spent}
+use Rattle.vm_model.specs.PlainMap.{PlainMap, Block, Life, Lives, Ended}
+use Rattle.vm_model.specs.Blocks.{PartAt, rounded, free_of, is_named, dirty_range, blocks_of, part_to_cut, cut_from, named_parts, named_in, fragmented, is_fragmented, change_block, with_part, with_life, set_life, spends, is_spent, without_spent}
 use Rattle.vm_model.specs.Events.{SettlePart, Retire, Fragment, Dirty}
 use Rattle.vm_model.specs.Effects.{effect_as}
 use Rattle.vm_model.specs.Places.{AskPart, AskAddBlock, AskSettlePart, AskBegin, AskRetire, AskFragment, AskDirty}
 use Rattle.vm_model.specs.Given.{cutting, beginning}
-use Rattle.vm_model.specs.Parts.{Region, Desk, PurgeTurn, AllocTurn, FreeRuns, LiveAreas, WaitingSpans, Pages, Percpu, CpuBlocks, regions_of, map_with, region_in, cpu_blocks}
+use Rattle.vm_model.specs.Parts.{Region, CpuBlocks, regions_of, map_with, region_in, cpu_blocks}
 use Rattle.map_parts.specs.Locality.{FallsApart, IsOfCpu, IsOverOneRegion}
 use Rattle.map_parts.proofs.Filters.{filter_comm, filter_each, filter_passes, filter_within, filter_twice, filter-map, map_same, map-count_set, slice_get-map_count, found_there, find-filter, flat_map_each, map_was, option_map_was}
 use Rattle.map_parts.proofs.Tests.{both_true, is_equal, is_other, is_same}
 
 -- Blocks of one processor.
 
-keeps_cpu : (start cpu : ℕ) (change : Block → Block) → ((b : Block) → (change b).cpu ≡ b.cpu) → (b : Block) → ((if b.start == start then change b else b).cpu == cpu) ≡ (b.cpu == cpu)
-keeps_cpu start cpu change keeps b = by_test (b.start == start)
-  where
-    by_test : (t : Bool) → ((if t then change b else b).cpu == cpu) ≡ (b.cpu == cpu)
-    by_test true = ap (λ n. n == cpu) (keeps b)
-    by_test false = refl
-
 pub blocks_of-change : (cpu start : ℕ) (change : Block → Block) (blocks : List Block) → ((b : Block) → (change b).cpu ≡ b.cpu)
     → blocks_of cpu (change_block start change blocks) ≡ change_block start change (blocks_of cpu blocks)
-blocks_of-change cpu start change blocks keeps = filter-map (λ (b : Block). b.cpu == cpu) (λ (b : Block). if b.start == start then change b else b) blocks (keeps_cpu start cpu change keeps)
+blocks_of-change cpu start change blocks keeps = grind (arith, filter-map)
 
 -- the blocks of this processor alone, changed
 own_changed : (cpu start : ℕ) (change : Block → Block) (blocks : List Block) → ((b : Block) → (change b).cpu ≡ b.cpu)
     → blocks_of cpu (change_block start change (blocks_of cpu blocks)) ≡ blocks_of cpu (change_block start change blocks)
-own_changed cpu start change blocks keeps =
-    blocks_of-change cpu start change (blocks_of cpu blocks) keeps ∙ ap (change_block start change) (filter_twice (λ (b : Block). b.cpu == cpu) blocks) ∙ sym (blocks_of-change cpu start change blocks keeps)
-
--- those of another processor stay
-unchanged : (start : ℕ) (change : Block → Block) (b : Block) → b.start ≢ start → (if b.start == start then change b else b) ≡ b
-unchanged start change b n = ap (λ t. if t then change b else b) (is_other b.start start n)
+own_changed cpu start change blocks keeps = grind (arith, blocks_of-change, filter_twice)
 
 others_changed : (cpu other start : ℕ) (change : Block → Block) (blocks : List Block) → ((b : Block) → (change b).cpu ≡ b.cpu) → IsOfCpu start cpu blocks → other ≢ cpu
     → blocks_of other (change_block start change blocks) ≡ blocks_of other blocks
-others_changed cpu other start change blocks keeps own n =
-    blocks_of-change other start change blocks keeps
-    ∙ map_same (λ (b : Block). if b.start == start then change b else b) (blocks_of other blocks)
-    (λ i b at. unchanged start change b (λ e.
-    let w = filter_within (λ (b : Block). b.cpu == other) blocks i b at in
-    n (sym (is_same b.cpu other (filter_passes (λ (b : Block). b.cpu == other) blocks i b at)) ∙ own w.0 b w.1 e)))
+others_changed cpu other start change blocks keeps own n = grind (arith, blocks_of-change, map_same, filter_within, is_same, filter_passes, is_other)
 
 -- The list of regions.
 
@@ -60,13 +43,7 @@ module _ (c : Setup) (m : PlainMap) (k : ℕ) where
   set-cpu : (cpu : ℕ) (blocks : List Block) (nexts : List ℕ) (r : Region) → cpu_blocks (record m { blocks = blocks; next_part = nexts }) c.block_pages cpu ≡ r
       → ((other : ℕ) → other ≢ cpu → cpu_blocks (record m { blocks = blocks; next_part = nexts }) c.block_pages other ≡ cpu_blocks m c.block_pages other)
       → regions_of c (record m { blocks = blocks; next_part = nexts }) ≡ slice_set (regions_of c m) (8 + cpu) r
-  set-cpu cpu blocks nexts r own others =
-      let start : 0 + cpu ≡ cpu = omega arith in
-      ap (λ rest. Desk ∷ PurgeTurn m.purge_turn ∷ AllocTurn m.alloc_turn ∷ FreeRuns (free_runs m) ∷ LiveAreas m.areas m.next_area ∷ WaitingSpans m.waiting
-      ∷ Pages m.frames m.stale m.cells ∷ Percpu m.chunks m.next_object m.next_chunk m.room ∷ rest)
-      (map-count_set (cpu_blocks m c.block_pages) (cpu_blocks (record m { blocks = blocks; next_part = nexts }) c.block_pages) (cpus c) 0 cpu r (ap (cpu_blocks (record m { blocks = blocks; next_part = nexts }) c.block_pages) start ∙ own)
-      (λ i n. others i (λ e. n (e ∙ sym start))))
-      ∙ ap (λ n. slice_set (regions_of c m) n r) (sym (from_eight cpu))
+  set-cpu cpu blocks nexts r own others = grind (arith, map-count_set, from_eight)
 
   module _ (whole : FallsApart c m) where
     next_alone : (cpu next : ℕ) → cpu < cpus c → slice_index (slice_set (replicate (cpus c) 1) cpu next) cpu ≡ next
@@ -74,9 +51,7 @@ module _ (c : Setup) (m : PlainMap) (k : ℕ) where
 
     -- the region alone has itself
     again : (cpu : ℕ) → cpu < cpus c → cpu_blocks m c.block_pages cpu ≡ cpu_blocks (map_with c (cpu_blocks m c.block_pages cpu)) c.block_pages cpu
-    again cpu l =
-        ap (λ blocks. CpuBlocks cpu c.block_pages blocks (slice_index m.next_part cpu)) (sym (filter_twice (λ (b : Block). b.cpu == cpu) m.blocks))
-        ∙ ap (CpuBlocks cpu c.block_pages (blocks_of cpu (blocks_of cpu m.blocks))) (sym (next_alone cpu (slice_index m.next_part cpu) l))
+    again cpu l = grind (arith, filter_twice, next_alone)
 
     left_by_none : (cpu : ℕ) → cpu < cpus c → regions_of c m ≡ slice_set (regions_of c m) (8 + cpu) (cpu_blocks (map_with c (cpu_blocks m c.block_pages cpu)) c.block_pages cpu)
     left_by_none cpu l = set-cpu cpu m.blocks m.next_part _ (again cpu l) (λ other n. refl)
@@ -91,20 +66,10 @@ module _ (c : Setup) (m : PlainMap) (k : ℕ) where
         ∙ ap (CpuBlocks cpu c.block_pages (blocks_of cpu (change_block start change (blocks_of cpu m.blocks)))) (sym (next_alone cpu (slice_index m.next_part cpu) l)))
         (λ other n. ap (λ blocks. CpuBlocks other c.block_pages blocks (slice_index m.next_part other)) (others_changed cpu other start change m.blocks keeps own n))
 
-    -- the part that is cut is in a block of the processor
-    cut_of_cpu : (cpu pages : ℕ) (at : PartAt) → part_to_cut c cpu pages m.blocks ≡ Some at → IsOfCpu at.block cpu m.blocks
-    cut_of_cpu cpu pages at h =
-        let w = option_map_was (cut_from c pages) (first_with_room c cpu pages m.blocks) at h in
-        let found = found_there _ (queue_of c cpu m.blocks) w.0 w.1 in
-        let queued = filter_within _ (blocks_of cpu m.blocks) found.1.0 w.0 found.1.1 in
-        let there = filter_within _ m.blocks queued.0 w.0 queued.1 in
-        let is : w.0.cpu ≡ cpu = is_same w.0.cpu cpu (filter_passes (λ (b : Block). b.cpu == cpu) m.blocks queued.0 w.0 queued.1) in
-        λ i b at' e. whole.own_starts there.0 w.0 there.1 i b at' (e ∙ ap (λ (a : PartAt). a.block) (sym w.2)) ∙ is
-
     after_cut : (cpu pages : ℕ) → cpu < cpus c → (o : Option PartAt) → part_to_cut c cpu pages m.blocks ≡ o
         → regions_of c (effect_as c m k (cutting cpu pages o)) ≡ slice_set (regions_of c m) (8 + cpu) (region_in (effect_as c (map_with c (cpu_blocks m c.block_pages cpu)) k (cutting cpu pages o)) (cpu_blocks m c.block_pages cpu))
     after_cut cpu pages l None e = left_by_none cpu l
-    after_cut cpu pages l (Some at) e = left_by_change cpu at.block (with_part k at) l (λ b. refl) (cut_of_cpu cpu pages at e)
+    after_cut cpu pages l (Some at) e = grind (arith, left_by_change, option_map_was, found_there, filter_within, is_same, filter_passes)
 
     pub cut : (cpu pages : ℕ) → cpu < cpus c → IsOverOneRegion c m k (AskPart cpu pages) (8 + cpu)
     cut cpu pages l = record {
@@ -129,8 +94,7 @@ module _ (c : Setup) (m : PlainMap) (k : ℕ) where
 
     after_begin : (cpu page serial : ℕ) → cpu < cpus c → (parts : List PartAt) → named_parts cpu page serial m.blocks ≡ parts
         → regions_of c (effect_as c m k (beginning cpu page serial parts)) ≡ slice_set (regions_of c m) (8 + cpu) (region_in (effect_as c (map_with c (cpu_blocks m c.block_pages cpu)) k (beginning cpu page serial parts)) (cpu_blocks m c.block_pages cpu))
-    after_begin cpu page serial l [] e = left_by_none cpu l
-    after_begin cpu page serial l (at ∷ parts) e = left_by_change cpu at.block (with_life at (InHand k)) l (λ b. refl) (named_of_cpu cpu page serial at parts e)
+    after_begin cpu page serial l parts e = grind (arith, left_by_none, left_by_change, named_of_cpu)
 
     pub begin_unmap : (cpu page serial : ℕ) → cpu < cpus c → IsOverOneRegion c m k (AskBegin cpu page serial) (8 + cpu)
     begin_unmap cpu page serial l = record {
@@ -150,17 +114,11 @@ module _ (c : Setup) (m : PlainMap) (k : ℕ) where
       leaves_alike = left_by_none cpu l;
     }
 
-    -- a block that is added
-    only_here : (cpu other : ℕ) (b : Block) → b.cpu ≡ cpu → other ≢ cpu → blocks_of other (b ∷ []) ≡ []
-    only_here cpu other b e n = ap (λ t. cond t (b ∷ []) []) (is_other b.cpu other (λ f. n (sym f ∙ e)))
-
     added_elsewhere : (cpu other : ℕ) (b : Block) → b.cpu ≡ cpu → other ≢ cpu → blocks_of other (m.blocks ++ b ∷ []) ≡ blocks_of other m.blocks
-    added_elsewhere cpu other b e n = filter-append (λ (b : Block). b.cpu == other) m.blocks (b ∷ []) ∙ ap (λ more. blocks_of other m.blocks ++ more) (only_here cpu other b e n) ∙ append-nil (blocks_of other m.blocks)
+    added_elsewhere cpu other b e n = grind (arith, filter-append, append-nil, is_other)
 
     added_here : (cpu : ℕ) (b : Block) → blocks_of cpu (m.blocks ++ b ∷ []) ≡ blocks_of cpu (blocks_of cpu m.blocks ++ b ∷ [])
-    added_here cpu b =
-        filter-append (λ (b : Block). b.cpu == cpu) m.blocks (b ∷ []) ∙ ap (λ blocks. blocks ++ blocks_of cpu (b ∷ [])) (sym (filter_twice (λ (b : Block). b.cpu == cpu) m.blocks))
-        ∙ sym (filter-append (λ (b : Block). b.cpu == cpu) (blocks_of cpu m.blocks) (b ∷ []))
+    added_here cpu b = grind (arith, filter-append, filter_twice)
 
     new_block : PartAt → Block
     new_block at = with_part k at (record { start = at.block; cpu = at.cpu; parts = [] })
@@ -183,8 +141,7 @@ module _ (c : Setup) (m : PlainMap) (k : ℕ) where
     next_set cpu serial l = get_or-set_same m.next_part cpu serial 0 (omega (arith, whole.next_parts))
 
     next_set_alone : (cpu next serial : ℕ) → cpu < cpus c → slice_index (slice_set (slice_set (replicate (cpus c) 1) cpu next) cpu serial) cpu ≡ serial
-    next_set_alone cpu next serial l =
-        get_or-set_same (slice_set (replicate (cpus c) 1) cpu next) cpu serial 0 (omega (arith, length-set {A = ℕ} (replicate (cpus c) 1) cpu next, length-replicate {A = ℕ} (cpus c) 1))
+    next_set_alone cpu next serial l = grind (arith, get_or-set_same, length-set, length-replicate)
 
     pub settle_part : (at : PartAt) → at.cpu < cpus c → IsOfCpu at.block at.cpu m.blocks → IsOverOneRegion c m k (AskSettlePart at) (8 + at.cpu)
     settle_part at l own =
@@ -203,13 +160,7 @@ module _ (c : Setup) (m : PlainMap) (k : ℕ) where
 
     -- a part that ends may spend its block
     still_of_cpu : (at : PartAt) (life : Life) → IsOfCpu at.block at.cpu m.blocks → IsOfCpu at.block at.cpu (set_life at life m.blocks)
-    still_of_cpu at life own i b there e =
-        let w = map_was (λ (b : Block). if b.start == at.block then with_life at life b else b) m.blocks i b there in
-        by_test w.0 (w.0.start == at.block) refl w.2 (own i w.0 w.1)
-      where
-        by_test : (old : Block) (t : Bool) → (old.start == at.block) ≡ t → (if t then with_life at life old else old) ≡ b → (old.start ≡ at.block → old.cpu ≡ at.cpu) → b.cpu ≡ at.cpu
-        by_test old true is made same = sym (ap (λ (b : Block). b.cpu) made) ∙ same (is_same old.start at.block is)
-        by_test old false is made same = sym (ap (λ (b : Block). b.cpu) made) ∙ same (ap (λ (b : Block). b.start) made ∙ e)
+    still_of_cpu at life own i b there e = grind (arith, map_was, is_same)
 
     spends_alike : (at : PartAt) → IsOfCpu at.block at.cpu m.blocks → spends c at (set_life at Ended (blocks_of at.cpu m.blocks)) ≡ spends c at (set_life at Ended m.blocks)
     spends_alike at own =
@@ -241,10 +192,7 @@ module _ (c : Setup) (m : PlainMap) (k : ℕ) where
 
     -- fragmented blocks of the processor that go
     kept_elsewhere : (cpu other : ℕ) (gone : List ℕ) → other ≢ cpu → filter (λ (b : Block). not ((b.cpu == cpu) && is_among gone b.start)) (blocks_of other m.blocks) ≡ blocks_of other m.blocks
-    kept_elsewhere cpu other gone n =
-        filter_each (λ (b : Block). not ((b.cpu == cpu) && is_among gone b.start)) (blocks_of other m.blocks)
-        (λ i b there. let is = is_same b.cpu other (filter_passes (λ (b : Block). b.cpu == other) m.blocks i b there) in
-        ap (λ t. not (t && is_among gone b.start)) (is_other b.cpu cpu (λ e. n (sym is ∙ e))))
+    kept_elsewhere cpu other gone n = grind (arith, filter_each, is_same, filter_passes, is_other)
 
     pub fragment : (cpu : ℕ) → cpu < cpus c → IsOverOneRegion c m k (AskFragment cpu) (8 + cpu)
     fragment cpu l =

@@ -1,37 +1,21 @@
 -- Filters and maps in either order.
-use Rattle.std.proofs.Common.{◌≡◌, ◌≢◌, ℕ, zero, suc, ◌+◌, ◌<◌, ◌≤◌, Bool, true, false, cond, ◌&&◌, ◌||◌, ◌==◌, length, ◌⊎◌, inl, inr, List, [], ◌∷◌, ◌++◌, map, filter, find, flat_map, option_map, slice_get, slice_set, Option, Some, None, refl, ap, sym, ◌∙◌, arith}
+use Rattle.std.proofs.Common.{◌≡◌, ◌≢◌, ℕ, zero, suc, ◌+◌, ◌<◌, ◌≤◌, Bool, true, false, cond, ◌&&◌, ◌||◌, ◌==◌, length, ◌⊎◌, inl, inr, List, [], ◌∷◌, ◌++◌, map, filter, find, flat_map, option_map, slice_get, slice_set, Option, Some, refl, ap, sym, ◌∙◌, arith}
 use Rattle.std.proofs.lemmas.Bool.Decides.{nat_tests}
 use Rattle.vm_model.specs.Space.{count_from, is_among}
 use Rattle.map_parts.proofs.Tests.{is_equal, or_first, or_second}
 
--- a filter of what another filter leaves
-filter_both : {X : Type 0} (p q : X → Bool) (x : X) (xs : List X) (b d : Bool) → p x ≡ b → q x ≡ d → filter p (filter q xs) ≡ filter q (filter p xs)
-    → filter p (cond d (x ∷ filter q xs) (filter q xs)) ≡ filter q (cond b (x ∷ filter p xs) (filter p xs))
-filter_both p q x xs true true e f rest =
-    ap (λ b. cond b (x ∷ filter p (filter q xs)) (filter p (filter q xs))) e ∙ ap (λ ys. x ∷ ys) rest ∙ sym (ap (λ b. cond b (x ∷ filter q (filter p xs)) (filter q (filter p xs))) f)
-filter_both p q x xs true false e f rest = rest ∙ sym (ap (λ b. cond b (x ∷ filter q (filter p xs)) (filter q (filter p xs))) f)
-filter_both p q x xs false true e f rest = ap (λ b. cond b (x ∷ filter p (filter q xs)) (filter p (filter q xs))) e ∙ rest
-filter_both p q x xs false false e f rest = rest
-
 pub filter_comm : {X : Type 0} (p q : X → Bool) (xs : List X) → filter p (filter q xs) ≡ filter q (filter p xs)
 filter_comm p q [] = refl
-filter_comm p q (x ∷ xs) = filter_both p q x xs (p x) (q x) refl refl (filter_comm p q xs)
+filter_comm p q (x ∷ xs) = grind (arith, filter_comm p q xs, nat_tests)
 
 -- a filter that passes each element
 pub filter_each : {X : Type 0} (p : X → Bool) (xs : List X) → ((i : ℕ) (x : X) → slice_get xs i ≡ Some x → p x ≡ true) → filter p xs ≡ xs
 filter_each p [] h = refl
 filter_each p (x ∷ xs) h = ap (λ b. cond b (x ∷ filter p xs) (filter p xs)) (h 0 x refl) ∙ ap (λ ys. x ∷ ys) (filter_each p xs (λ i y e. h (suc i) y e))
 
--- an element that a filter leaves passes, and stood there before
-filter_passed : {X : Type 0} (p : X → Bool) (x y : X) (xs : List X) (i : ℕ) (b : Bool) → p x ≡ b → slice_get (cond b (x ∷ filter p xs) (filter p xs)) i ≡ Some y
-    → ((j : ℕ) → slice_get (filter p xs) j ≡ Some y → p y ≡ true) → p y ≡ true
-filter_passed p x y xs zero true e h more = let same : x ≡ y = cc in ap p (sym same) ∙ e
-filter_passed p x y xs (suc i) true e h more = more i h
-filter_passed p x y xs i false e h more = more i h
-
 pub filter_passes : {X : Type 0} (p : X → Bool) (xs : List X) (i : ℕ) (y : X) → slice_get (filter p xs) i ≡ Some y → p y ≡ true
 filter_passes p [] i y h = cc
-filter_passes p (x ∷ xs) i y h = filter_passed p x y xs i (p x) refl h (λ j e. filter_passes p xs j y e)
+filter_passes p (x ∷ xs) i y h = grind (arith, filter_passes p xs, nat_tests)
 
 filter_was : {X : Type 0} (p : X → Bool) (x y : X) (xs : List X) (i : ℕ) (b : Bool) → slice_get (cond b (x ∷ filter p xs) (filter p xs)) i ≡ Some y
     → ((j : ℕ) → slice_get (filter p xs) j ≡ Some y → (n : ℕ) × (slice_get xs n ≡ Some y)) → (n : ℕ) × (slice_get (x ∷ xs) n ≡ Some y)
@@ -46,15 +30,9 @@ filter_within p (x ∷ xs) i y h = filter_was p x y xs i (p x) h (λ j e. filter
 pub filter_twice : {X : Type 0} (p : X → Bool) (xs : List X) → filter p (filter p xs) ≡ filter p xs
 filter_twice p xs = filter_each p (filter p xs) (filter_passes p xs)
 
--- a change that keeps whether an element passes
-map_cond : {X Y : Type 0} (f : X → Y) (b : Bool) (x : X) (xs : List X) → map f (cond b (x ∷ xs) xs) ≡ cond b (f x ∷ map f xs) (map f xs)
-map_cond f true x xs = refl
-map_cond f false x xs = refl
-
 pub filter-map : {X : Type 0} (p : X → Bool) (f : X → X) (xs : List X) → ((x : X) → p (f x) ≡ p x) → filter p (map f xs) ≡ map f (filter p xs)
 filter-map p f [] h = refl
-filter-map p f (x ∷ xs) h =
-    ap (λ b. cond b (f x ∷ filter p (map f xs)) (filter p (map f xs))) (h x) ∙ ap (λ ys. cond (p x) (f x ∷ ys) ys) (filter-map p f xs h) ∙ sym (map_cond f (p x) x (filter p xs))
+filter-map p f (x ∷ xs) h = grind (arith, filter-map p f xs h, nat_tests)
 
 -- a change of no element
 pub map_same : {X : Type 0} (f : X → X) (xs : List X) → ((i : ℕ) (x : X) → slice_get xs i ≡ Some x → f x ≡ x) → map f xs ≡ xs
@@ -74,10 +52,7 @@ map-count_set f g (suc n) first zero x h others =
     same_map zero first' same = refl
     same_map (suc n) first' same =
         ap (λ y. y ∷ map g (count_from n (suc first'))) (same first' (omega arith)) ∙ ap (λ ys. f first' ∷ ys) (same_map n (suc first') (λ i l. same i (omega arith)))
-map-count_set f g (suc n) first (suc k) x h others =
-    let next : first + suc k ≡ suc first + k = omega arith in
-    ap (λ y. y ∷ map g (count_from n (suc first))) (others first (λ e. absurd (omega arith)))
-    ∙ ap (λ ys. f first ∷ ys) (map-count_set f g n (suc first) k x (ap g (sym next) ∙ h) (λ i d. others i (λ e. d (e ∙ next))))
+map-count_set f g (suc n) first (suc k) x h others = grind (arith, map-count_set f g n (suc first) k x, nat_tests)
 
 pub slice_get-map_count : {X : Type 0} (f : ℕ → X) (n first k : ℕ) → k < n → slice_get (map f (count_from n first)) k ≡ Some (f (first + k))
 slice_get-map_count f zero first k h = absurd (omega arith)
@@ -129,8 +104,7 @@ map_was f (x ∷ xs) zero y h = (x, refl, cc)
 map_was f (x ∷ xs) (suc i) y h = map_was f xs i y h
 
 pub option_map_was : {X Y : Type 0} (f : X → Y) (o : Option X) (y : Y) → option_map f o ≡ Some y → (x : X) × (o ≡ Some x) × (f x ≡ y)
-option_map_was f None y h = absurd cc
-option_map_was f (Some x) y h = (x, refl, cc)
+option_map_was f o y h = grind (arith, nat_tests)
 
 -- a filter keeps what passes
 keeps_by : {X : Type 0} (p : X → Bool) (z x : X) (xs : List X) (b : Bool) → (n : ℕ) → slice_get (filter p xs) n ≡ Some x → (m : ℕ) × (slice_get (cond b (z ∷ filter p xs) (filter p xs)) m ≡ Some x)
@@ -139,19 +113,12 @@ keeps_by p z x xs false n h = (n, h)
 
 pub filter_keeps : {X : Type 0} (p : X → Bool) (xs : List X) (i : ℕ) (x : X) → slice_get xs i ≡ Some x → p x ≡ true → (n : ℕ) × (slice_get (filter p xs) n ≡ Some x)
 filter_keeps p [] i x h e = absurd cc
-filter_keeps p (z ∷ xs) zero x h e =
-    let same : z ≡ x = cc in (0, ap (λ b. slice_get (cond b (z ∷ filter p xs) (filter p xs)) 0) (ap p same ∙ e) ∙ h)
+filter_keeps p (z ∷ xs) zero x h e = grind (arith, nat_tests)
 filter_keeps p (z ∷ xs) (suc i) x h e = let w = filter_keeps p xs i x h e in keeps_by p z x xs (p z) w.0 w.1
-
--- two filters are one
-twice_by : {X : Type 0} (p q : X → Bool) (x : X) (xs : List X) (b d : Bool) → q x ≡ d → filter q (filter p xs) ≡ filter (λ x. p x && q x) xs
-    → filter q (cond b (x ∷ filter p xs) (filter p xs)) ≡ cond (b && d) (x ∷ filter (λ x. p x && q x) xs) (filter (λ x. p x && q x) xs)
-twice_by p q x xs true d e rest = ap (λ t. cond t (x ∷ filter q (filter p xs)) (filter q (filter p xs))) e ∙ ap (λ ys. cond d (x ∷ ys) ys) rest
-twice_by p q x xs false d e rest = rest
 
 pub filter-filter : {X : Type 0} (p q : X → Bool) (xs : List X) → filter q (filter p xs) ≡ filter (λ x. p x && q x) xs
 filter-filter p q [] = refl
-filter-filter p q (x ∷ xs) = twice_by p q x xs (p x) (q x) refl (filter-filter p q xs)
+filter-filter p q (x ∷ xs) = grind (arith, filter-filter p q xs, nat_tests)
 
 -- numbers that elements have
 pub among_map : {X : Type 0} (f : X → ℕ) (xs : List X) (i : ℕ) (x : X) → slice_get xs i ≡ Some x → is_among (map f xs) (f x) ≡ true
@@ -180,5 +147,4 @@ append_last (x ∷ xs) z = append_last xs z
 
 -- the only element
 pub single : {X : Type 0} (x : X) (i : ℕ) (y : X) → slice_get (x ∷ []) i ≡ Some y → y ≡ x
-single x zero y h = cc
-single x (suc i) y h = absurd cc
+single x i y h = grind (arith, nat_tests)

@@ -1,12 +1,12 @@
 -- Where it is kept who has each page, the map falls apart into its regions and each caller stays within one.
-use Rattle.std.proofs.Common.{◌≡◌, ℕ, suc, ◌≤◌, Bool, true, false, not, ◌&&◌, List, [], ◌∷◌, map, slice_get, Option, Some, None, refl, ap, sym, ◌∙◌, subst, arith, option_map}
+use Rattle.std.proofs.Common.{◌≡◌, ℕ, suc, ◌≤◌, Bool, true, false, List, [], ◌∷◌, map, slice_get, Some, refl, ap, sym, ◌∙◌, subst, arith}
 use Rattle.std.proofs.lemmas.Option.{slice_get-map}
 use Rattle.vm_model.specs.declared.areas.Span.{Span}
 use Rattle.vm_model.specs.declared.areas.Area.{Area}
 use Rattle.vm_model.specs.declared.areas.AreaKind.{AreaKind}
-use Rattle.vm_model.specs.Space.{holds, covers, times, one_if, is_open, is_free_at, is_among}
+use Rattle.vm_model.specs.Space.{holds, times, one_if, is_free_at, is_among}
 use Rattle.vm_model.specs.Setup.{Setup, groups_at}
-use Rattle.vm_model.specs.PlainMap.{PlainMap, Mark, Block, Life, InHand, is_free, taken}
+use Rattle.vm_model.specs.PlainMap.{PlainMap, Block, Life, InHand, taken}
 use Rattle.vm_model.specs.Areas.{is_area, named_areas, areas_starting, spans_of, group_kinds}
 use Rattle.vm_model.specs.Blocks.{PartAt}
 use Rattle.vm_model.specs.Laws.{as_free}
@@ -14,7 +14,7 @@ use Rattle.vm_model.specs.Places.{Place, SettlingArea, SettlingBlock, SettlingGr
 use Rattle.vm_model.specs.History.{World, Local}
 use Rattle.vm_model.specs.Rules.{IsSetup}
 use Rattle.map_parts.specs.Locality.{AreTaken, IsOfCpu, FallsApart, StaysWithin}
-use Rattle.map_parts.specs.Owners.{is_plain, every, of_area, of_place}
+use Rattle.map_parts.specs.Owners.{is_plain, every, of_place}
 use Rattle.map_parts.specs.Kept.{HasPart, IsSoundPlace, IsSoundLocal, KeepsApart, KeptWorldsFallApart, KeptCallersStayWithin}
 use Rattle.map_parts.proofs.Filters.{filter_within, map_was}
 use Rattle.map_parts.proofs.Sums.{member-le}
@@ -22,17 +22,8 @@ use Rattle.map_parts.proofs.PoolMoves.{covers-le-times}
 use Rattle.map_parts.proofs.SearchedPages.{covered_by}
 use Rattle.map_parts.proofs.BlockMoves.{AreOnce, same_block}
 
--- a page that isn't free is taken
-taken_mark : (o : Option Mark) → as_free o ≡ 0 → is_open (option_map (λ mark. not (is_free mark)) o) ≡ false
-taken_mark None h = refl
-taken_mark (Some mark) h = by_test (is_free mark) h
-  where
-    by_test : (b : Bool) → one_if b ≡ 0 → not (not b) ≡ false
-    by_test true h = absurd (omega arith)
-    by_test false h = refl
-
 taken_page : (m : PlainMap) (page : ℕ) → as_free (slice_get m.marks page) ≡ 0 → is_free_at (taken m) page ≡ false
-taken_page m page h = ap is_open (slice_get-map (λ mark. not (is_free mark)) m.marks page) ∙ taken_mark (slice_get m.marks page) h
+taken_page m page h = grind (arith, slice_get-map)
 
 one_of : (b : Bool) → b ≡ true → one_if b ≡ 1
 one_of b h = ap one_if h
@@ -40,24 +31,10 @@ one_of b h = ap one_if h
 module _ (c : Setup) (w : World) (is : IsSetup c) (kept : KeepsApart c w) where
   -- pages of spans that a caller, an area or the waiting spans have
   held_taken : (k : ℕ) (l : Local) (spans : List Span) → slice_get w.locals k ≡ Some l → ((page : ℕ) → times page spans ≤ of_place c l.place every page) → AreTaken w.map spans
-  held_taken k l spans here has page on =
-      let some = covers-le-times spans page in
-      let once = kept.owners.once page in
-      let mine = member-le (λ (l : Local). of_place c l.place every page) w.locals k l here in
-      let less = has page in
-      taken_page w.map page (omega (arith, one_of (covers spans page) on))
-
-  waiting_taken : AreTaken w.map w.map.waiting
-  waiting_taken page on =
-      let some = covers-le-times w.map.waiting page in
-      let once = kept.owners.once page in
-      taken_page w.map page (omega (arith, one_of (covers w.map.waiting page) on))
+  held_taken k l spans here has page on = grind (arith, covers-le-times, member-le, taken_page, one_of)
 
   area_by : (i : ℕ) (a : Area) (page : ℕ) (b : Bool) → is_plain a.kind ≡ b → slice_get w.map.areas i ≡ Some a → holds a.span page ≡ true → as_free (slice_get w.map.marks page) ≡ 0
-  area_by i a page true plain at on =
-      let counted : of_area page a ≡ 1 = ap (λ b. one_if (b && holds a.span page)) plain ∙ one_of (holds a.span page) on in
-      let once = kept.owners.once page in
-      omega (arith, counted, member-le (of_area page) w.map.areas i a at)
+  area_by i a page true plain at on = grind (arith, one_of, member-le)
   area_by i a page false plain at on = let none = kept.owners.areas i a at plain page on in omega arith
 
   areas_taken : (areas : List Area) → ((i : ℕ) (a : Area) → slice_get areas i ≡ Some a → (j : ℕ) × (slice_get w.map.areas j ≡ Some a)) → AreTaken w.map (spans_of areas)
@@ -105,7 +82,7 @@ module _ (c : Setup) (w : World) (is : IsSetup c) (kept : KeepsApart c w) where
   at_place k l here (UnlinkingGroups base) e sound = starting_taken (group_starts c base)
   at_place k l here (Waiting spans after) e sound = held_taken k l spans here (λ page. omega (arith, ap (λ place. of_place c place every page) e))
   at_place k l here (PurgeWaiting gone extra after) e sound = held_taken k l (block_spans c gone) here (λ page. omega (arith, ap (λ place. of_place c place every page) e))
-  at_place k l here (PurgeCollecting extra after) e sound = waiting_taken
+  at_place k l here (PurgeCollecting extra after) e sound = grind (arith, some, covers-le-times, once, taken_page, one_of)
   at_place k l here (CuttingPart cpu pages) e sound = sound.0
   at_place k l here (AddingBlock at) e sound = sound.1.0
   at_place k l here (SettlingPart at) e sound = (sound.0, of_cpu at (InHand k) sound.1)

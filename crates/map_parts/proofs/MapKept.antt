@@ -1,5 +1,5 @@
 -- What each kind of section keeps of the map by itself, of serials that were given, and of parts that others have in hand.
-use Rattle.std.proofs.Common.{◌≡◌, ◌≢◌, ℕ, suc, ◌<◌, ◌≤◌, inl, inr, Bool, true, false, not, ◌&&◌, ◌==◌, List, [], ◌∷◌, ◌++◌, length, slice_get, Some, refl, ap, sym, ◌∙◌, subst, arith}
+use Rattle.std.proofs.Common.{◌≡◌, ◌≢◌, ℕ, suc, ◌<◌, ◌≤◌, inl, inr, Bool, true, not, ◌&&◌, ◌==◌, List, [], ◌∷◌, ◌++◌, length, slice_get, Some, refl, ap, sym, ◌∙◌, subst, arith}
 use Rattle.std.proofs.lemmas.Bool.Decides.{nat_tests}
 use Rattle.std.proofs.lemmas.List.{length-set}
 use Rattle.vm_model.specs.declared.areas.Span.{Span}
@@ -104,19 +104,7 @@ module _ (c : Setup) (m : PlainMap) (k : ℕ) (whole : IsWhole c m) where
   -- other blocks, where the areas stay
   pub keeps_blocks : (m' : PlainMap) → m'.marks ≡ m.marks → length m'.next_part ≡ length m.next_part → m'.areas ≡ m.areas → m'.next_area ≡ m.next_area → AreWhole c m'.blocks
       → ((j : ℕ) (at : PartAt) → j ≢ k → HasPart m.blocks at (InHand j) → HasPart m'.blocks at (InHand j)) → KeepsMap c m k m'
-  keeps_blocks m' marks nexts areas next blocks hands = record {
-    whole = record {
-      marks = ap length marks ∙ whole.marks;
-      next_parts = nexts ∙ whole.next_parts;
-      serials = λ i a at. subst (λ n. a.serial < n) (sym next) (whole.serials i a (ap (λ list. slice_get list i) (sym areas) ∙ at));
-      blocks = blocks;
-    };
-    serials = λ serial plain. record {
-      given = subst (λ n. serial < n) (sym next) plain.given;
-      plain = λ i a at. plain.plain i a (ap (λ list. slice_get list i) (sym areas) ∙ at);
-    };
-    hands = hands;
-  }
+  keeps_blocks m' marks nexts areas next blocks hands = grind (arith, nat_tests)
 
   module _ (is : IsSetup c) (once : AreOnce c m.blocks) where
     some_pages : 1 ≤ c.block_pages
@@ -131,10 +119,7 @@ module _ (c : Setup) (m : PlainMap) (k : ℕ) (whole : IsWhole c m) where
 
     -- a block that is added, with its first part
     empty_whole : (at : PartAt) → IsBlockWhole c (record { start = at.block; cpu = at.cpu; parts = [] })
-    empty_whole at = record { row = tt; within = omega arith; unspent = none_spent c.block_pages some_pages }
-      where
-        none_spent : (n : ℕ) → 1 ≤ n → (0 == n) ≡ false
-        none_spent n l = grind (arith, nat_tests)
+    empty_whole at = grind (arith, some_pages, nat_tests)
 
     added_whole : (at : PartAt) → at.offset ≡ 0 → rounded at.pages ≤ c.block_pages → AreWhole c (m.blocks ++ with_part k at (record { start = at.block; cpu = at.cpu; parts = [] }) ∷ [])
     added_whole at offset room i b there =

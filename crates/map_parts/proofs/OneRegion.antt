@@ -1,14 +1,14 @@
 -- Sections over the regions that all processors share: each over its region alone leaves what it leaves in the map.
-use Rattle.std.proofs.Common.{◌≡◌, ℕ, Bool, true, false, not, List, [], ◌∷◌, ◌++◌, length, map, Option, Some, None, IfSome, slice_set, refl, ap, sym, ◌∙◌, ℤ}
+use Rattle.std.proofs.Common.{◌≡◌, ℕ, Bool, true, false, List, [], ◌∷◌, ◌++◌, length, map, Option, Some, None, IfSome, slice_set, refl, ap, sym, ◌∙◌, ℤ, arith}
 use Rattle.vm_model.specs.declared.areas.Span.{Span}
 use Rattle.vm_model.specs.declared.areas.Area.{Area}
 use Rattle.vm_model.specs.declared.areas.AreaKind.{AreaKind}
-use Rattle.vm_model.specs.Space.{span, count_from, holds, covers, runs, lowest, paint}
-use Rattle.vm_model.specs.Setup.{Setup, cpus, highest, groups_at, pages_in_units}
-use Rattle.vm_model.specs.PlainMap.{PlainMap, Mark, Free, Held, Flushing, Waits, taken, free_runs, is_free, Chunk}
+use Rattle.vm_model.specs.Space.{count_from, holds, covers, runs, lowest, paint}
+use Rattle.vm_model.specs.Setup.{Setup, cpus, highest, pages_in_units}
+use Rattle.vm_model.specs.PlainMap.{PlainMap, Mark, Free, Held, Flushing, Waits, taken, free_runs, Chunk}
 use Rattle.vm_model.specs.Areas.{named_areas, areas_starting, areas_of, spans_of}
 use Rattle.vm_model.specs.Chunks.{ObjectAt, plain_fit, atomic_fit, placement, new_chunk, spare_chunk, page_to_fill, is_live_object}
-use Rattle.vm_model.specs.Events.{Section, Search, ForPages, ForGroups, TakePurge, TakeAlloc, Settle, Remove, Unlink, Wait, TakeWaiting, NoFrames, MapPages, Populate, Fill}
+use Rattle.vm_model.specs.Events.{Section, Search, ForPages, ForGroups, TakePurge, TakeAlloc, Settle, Unlink, Wait, TakeWaiting, NoFrames, MapPages, Populate, Fill}
 use Rattle.vm_model.specs.Effects.{effect_as}
 use Rattle.vm_model.specs.Places.{AskRefuse, AskTakePurge, AskGivePurge, AskTakeAlloc, AskGiveAlloc, AskSearch, AskDrop, AskReturn, AskSettle, AskRemove, AskUnlink, AskWait, AskTakeWaiting, AskMap, AskPopulate, AskFill, AskUnmap, AskDepopulate, AskFlush, AskZero, AskAdd, AskSum, AskPlace, AskAddChunk, AskAtomic, AskSettleObject, AskUnplace, AskFree, AskSpare, AskNextPage, AskFilled}
 use Rattle.vm_model.specs.Given.{taking, carving, carving_groups, removal, placing, placing_new, placing_atomic, freeing, sparing, filling}
@@ -47,28 +47,21 @@ module _ (c : Setup) (m : PlainMap) (k : ℕ) where
     same : taken (map_with c (FreeRuns (free_runs m))) ≡ taken m
     same = taken_again c m whole.marks
 
-    painted_alike : (test : ℕ → Bool) (mark : Mark) → taken_in (paint test mark m.marks) ≡ taken_in (paint test mark (map_with c (FreeRuns (free_runs m))).marks)
-    painted_alike test mark =
-        map-paint (λ mark. not (is_free mark)) test mark m.marks ∙ ap (paint test (not (is_free mark))) (sym same)
-        ∙ sym (map-paint (λ mark. not (is_free mark)) test mark (map_with c (FreeRuns (free_runs m))).marks)
-
     runs_alike : (bits own : List Bool) → bits ≡ own → slice_set (regions_of c m) 3 (FreeRuns (runs bits)) ≡ slice_set (regions_of c m) 3 (FreeRuns (runs own))
     runs_alike bits own e = ap (λ bits. slice_set (regions_of c m) 3 (FreeRuns (runs bits))) e
 
     left_by_carve : (test : ℕ → Bool) (mark : Mark)
         → slice_set (regions_of c m) 3 (FreeRuns (runs (taken_in (paint test mark m.marks)))) ≡ slice_set (regions_of c m) 3 (FreeRuns (runs (taken_in (paint test mark (map_with c (FreeRuns (free_runs m))).marks))))
-    left_by_carve test mark = runs_alike _ _ (painted_alike test mark)
+    left_by_carve test mark = grind (arith, runs_alike, taken_in, map-paint, same)
 
     left_by_none : slice_set (regions_of c m) 3 (FreeRuns (runs (taken m))) ≡ slice_set (regions_of c m) 3 (FreeRuns (runs (taken (map_with c (FreeRuns (free_runs m))))))
     left_by_none = runs_alike _ _ (sym same)
 
     after_pages : (pages align : ℕ) (o : Option ℕ) → LeavesAlike 3 (FreeRuns (free_runs m)) (carving pages align o)
-    after_pages pages align None = left_by_none
-    after_pages pages align (Some start) = left_by_carve (holds (span start pages)) (Held k)
+    after_pages pages align o = grind (arith, left_by_none, left_by_carve)
 
     after_groups : (o : Option ℕ) → LeavesAlike 3 (FreeRuns (free_runs m)) (carving_groups o)
-    after_groups None = left_by_none
-    after_groups (Some base) = left_by_carve (covers (groups_at c base)) (Held k)
+    after_groups o = grind (arith, left_by_none, left_by_carve)
 
     pub search_pages : (s : Search) → IsOverOneRegion c m k (AskSearch s) 3
     search_pages (ForPages pages align) = record {
@@ -111,9 +104,7 @@ module _ (c : Setup) (m : PlainMap) (k : ℕ) where
 
   removed_by : (start serial : ℕ) (found : List Area) → AreTaken m (spans_of found) → LeavesAlike 4 (LiveAreas m.areas m.next_area) (removal start serial found)
   unfolding regions_with
-  removed_by start serial [] h = refl
-  removed_by start serial (a ∷ found) h =
-      ap (regions_with (effect_as c m k (Remove start serial a))) (taken_stays (holds a.span) (Held k) m.marks refl (λ page e. h page (or_first (holds a.span page) _ e)))
+  removed_by start serial found h = grind (arith, regions_with, taken_stays, or_first)
 
   pub remove : (start serial : ℕ) → AreTaken m (spans_of (named_areas start serial m.areas)) → IsOverOneRegion c m k (AskRemove start serial) 4
   remove start serial h = record {
@@ -184,28 +175,23 @@ module _ (c : Setup) (m : PlainMap) (k : ℕ) where
 
   -- chunks and objects
   after_place : (bytes align next : ℕ) (o : Option (ObjectAt × List ℕ)) → LeavesAlike 7 (Percpu m.chunks m.next_object m.next_chunk m.room) (placing bytes align next o)
-  after_place bytes align next None = refl
-  after_place bytes align next (Some p) = refl
+  after_place bytes align next o = grind arith
 
   after_new : (chunk base bytes align : ℕ) (o : Option (ObjectAt × List ℕ)) → LeavesAlike 7 (Percpu m.chunks m.next_object m.next_chunk m.room) (placing_new chunk base bytes align o)
-  after_new chunk base bytes align None = refl
-  after_new chunk base bytes align (Some p) = refl
+  after_new chunk base bytes align o = grind arith
 
   after_atomic : (bytes align : ℕ) (o : Option (ObjectAt × List ℕ)) → LeavesAlike 7 (Percpu m.chunks m.next_object m.next_chunk m.room) (placing_atomic bytes align o)
-  after_atomic bytes align None = refl
-  after_atomic bytes align (Some p) = refl
+  after_atomic bytes align o = grind arith
 
   after_free : (at : ObjectAt) (serial : ℕ) (b : Bool) → LeavesAlike 7 (Percpu m.chunks m.next_object m.next_chunk m.room) (freeing at serial b)
   after_free at serial true = refl
   after_free at serial false = refl
 
   after_spare : (o : Option Chunk) → LeavesAlike 7 (Percpu m.chunks m.next_object m.next_chunk m.room) (sparing c o)
-  after_spare None = refl
-  after_spare (Some h) = refl
+  after_spare o = grind arith
 
   after_page : (o : Option (Chunk × ℕ)) → LeavesAlike 7 (Percpu m.chunks m.next_object m.next_chunk m.room) (filling o)
-  after_page None = refl
-  after_page (Some p) = refl
+  after_page o = grind arith
 
   pub place : (bytes align : ℕ) → IsOverOneRegion c m k (AskPlace bytes align) 7
   place bytes align = record { region = Percpu m.chunks m.next_object m.next_chunk m.room; here = refl; moves_alike = refl; gives_alike = refl; leaves_alike = after_place bytes align m.next_chunk (placement c (plain_fit c bytes align) bytes m.chunks) }

@@ -5,9 +5,9 @@ use Rattle.std.proofs.lemmas.List.{append-nil}
 use Rattle.std.proofs.lemmas.List.Sums.{sum_by-cons, sum_by_push}
 use Rattle.std.proofs.lemmas.List.Elements.{filter-append}
 use Rattle.vm_model.specs.Setup.{Setup}
-use Rattle.vm_model.specs.PlainMap.{Block, Part, Life, InHand, is_ended}
+use Rattle.vm_model.specs.PlainMap.{Block, Part, Life, is_ended}
 use Rattle.vm_model.specs.Bits.{binary_digits}
-use Rattle.vm_model.specs.Blocks.{PartAt, rounded, size_of, parts_size, free_of, ended_parts, dirty_of, is_spent, is_fragmented, with_part, with_life}
+use Rattle.vm_model.specs.Blocks.{PartAt, rounded, size_of, parts_size, free_of, dirty_of, is_spent, is_fragmented, with_part, with_life}
 use Rattle.map_parts.specs.Kept.{AreInRow, IsBlockWhole}
 use Rattle.map_parts.proofs.Sums.{sum-filter_without}
 use Rattle.map_parts.proofs.Tests.{first_false, is_other, is_same}
@@ -30,9 +30,6 @@ row_once from (r ∷ parts) (suc i) zero p q row a b e =
     let same : r ≡ q = cc in absurd (omega (arith, row.0, ap (λ (p : Part). p.offset) same, size_some r, row_low (from + size_of r) parts i p row.1 a, e))
 row_once from (r ∷ parts) (suc i) (suc j) p q row a b e = row_once (from + size_of r) parts i j p q row.1 a b e
 
-row_at : (from to : ℕ) (parts : List Part) → from ≡ to → AreInRow from parts → AreInRow to parts
-row_at from to parts e row = subst (λ n. AreInRow n parts) e row
-
 -- one more part behind them
 pub row_push : (from : ℕ) (parts : List Part) (p : Part) → AreInRow from parts → p.offset ≡ from + parts_size parts → AreInRow from (parts ++ p ∷ [])
 row_push from [] p row e = (let f : p.offset ≡ from = omega (arith, e) in f, tt)
@@ -41,8 +38,7 @@ row_push from (q ∷ parts) p row e = (row.0, row_push (from + size_of q) parts 
 -- parts whose lives change
 pub row_map : (from : ℕ) (change : Part → Part) (parts : List Part) → ((p : Part) → ((change p).offset ≡ p.offset) × ((change p).pages ≡ p.pages)) → AreInRow from parts → AreInRow from (map change parts)
 row_map from change [] keeps row = tt
-row_map from change (p ∷ parts) keeps row =
-    ((keeps p).0 ∙ row.0, row_at (from + size_of p) (from + size_of (change p)) (map change parts) (ap (λ n. from + rounded n) (sym (keeps p).1)) (row_map (from + size_of p) change parts keeps row.1))
+row_map from change (p ∷ parts) keeps row = grind (arith, row_map (from + size_of p) change parts keeps row.1)
 
 pub size_map : (change : Part → Part) (parts : List Part) → ((p : Part) → ((change p).offset ≡ p.offset) × ((change p).pages ≡ p.pages)) → parts_size (map change parts) ≡ parts_size parts
 size_map change [] keeps = refl
@@ -58,9 +54,7 @@ ended_map_by change p parts true e f keeps rest =
     ∙ (let same : parts_size (change p ∷ filter (λ (p : Part). is_ended p.life) (map change parts)) ≡ parts_size (p ∷ filter (λ (p : Part). is_ended p.life) parts) =
     omega (arith, sum_by-cons size_of (change p) (filter (λ (p : Part). is_ended p.life) (map change parts)), sum_by-cons size_of p (filter (λ (p : Part). is_ended p.life) parts), rest, ap rounded keeps) in same)
     ∙ sym (ap (λ b. parts_size (cond b (p ∷ filter (λ (p : Part). is_ended p.life) parts) (filter (λ (p : Part). is_ended p.life) parts))) e)
-ended_map_by change p parts false e f keeps rest =
-    ap (λ b. parts_size (cond b (change p ∷ filter (λ (p : Part). is_ended p.life) (map change parts)) (filter (λ (p : Part). is_ended p.life) (map change parts)))) f
-    ∙ rest ∙ sym (ap (λ b. parts_size (cond b (p ∷ filter (λ (p : Part). is_ended p.life) parts) (filter (λ (p : Part). is_ended p.life) parts))) e)
+ended_map_by change p parts false e f keeps rest = grind arith
 
 ended_map : (change : Part → Part) (parts : List Part) → ((p : Part) → ((change p).offset ≡ p.offset) × ((change p).pages ≡ p.pages))
     → ((i : ℕ) (p : Part) → slice_get parts i ≡ Some p → is_ended (change p).life ≡ is_ended p.life)
@@ -71,11 +65,7 @@ ended_map change (p ∷ parts) keeps ends = ended_map_by change p parts (is_ende
 -- One block.
 
 life_keeps : (at : PartAt) (life : Life) (p : Part) → ((if p.offset == at.offset then record p { life = life } else p).offset ≡ p.offset) × ((if p.offset == at.offset then record p { life = life } else p).pages ≡ p.pages)
-life_keeps at life p = by_test (p.offset == at.offset)
-  where
-    by_test : (b : Bool) → ((if b then record p { life = life } else p).offset ≡ p.offset) × ((if b then record p { life = life } else p).pages ≡ p.pages)
-    by_test true = (refl, refl)
-    by_test false = (refl, refl)
+life_keeps at life p = grind arith
 
 -- a part that hasn't ended takes its size from what the ended ones can have
 pub dirty_less : (b : Block) (i : ℕ) (p : Part) → slice_get b.parts i ≡ Some p → is_ended p.life ≡ false → dirty_of b + size_of p ≤ parts_size b.parts
@@ -90,14 +80,7 @@ unfragmented_with c b i p room at e =
 
 -- the block with one more part
 pub whole_push : (c : Setup) (k : ℕ) (at : PartAt) (b : Block) → IsBlockWhole c b → at.offset ≡ parts_size b.parts → parts_size b.parts + rounded at.pages ≤ c.block_pages → IsBlockWhole c (with_part k at b)
-whole_push c k at b w offset room =
-    let p : Part = record { offset = at.offset; pages = at.pages; caller = k; life = InHand k } in
-    let same : ended_parts (with_part k at b) ≡ ended_parts b = filter-append (λ (p : Part). is_ended p.life) b.parts (p ∷ []) ∙ append-nil (ended_parts b) in
-    record {
-      row = row_push 0 b.parts p w.row (omega (arith, offset));
-      within = omega (arith, sum_by_push size_of b.parts p);
-      unspent = ap (λ parts. parts_size parts == c.block_pages) same ∙ w.unspent;
-    }
+whole_push c k at b w offset room = grind (arith, filter-append, append-nil, row_push, sum_by_push)
 
 -- the block with a part whose life changes, where neither life is an end
 life_ends : (at : PartAt) (life : Life) (p : Part) (b : Bool) → (p.offset == at.offset) ≡ b → is_ended life ≡ false → (p.offset ≡ at.offset → is_ended p.life ≡ false)

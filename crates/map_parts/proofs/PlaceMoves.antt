@@ -1,26 +1,25 @@
 -- At each place, the section that the map gives takes pages from owner to owner.
-use Rattle.std.proofs.Common.{◌≡◌, ℕ, zero, suc, ◌+◌, ◌≤◌, Bool, true, false, not, ◌&&◌, ◌==◌, nat_lt, if◌then◌else◌, List, [], ◌∷◌, ◌++◌, filter, length, slice_get, slice_index, Option, Some, None, IfSome, option_to_list, refl, ap, sym, ◌∙◌, arith}
+use Rattle.std.proofs.Common.{◌≡◌, ℕ, zero, suc, ◌+◌, ◌≤◌, Bool, true, false, not, ◌&&◌, ◌==◌, nat_lt, if◌then◌else◌, List, [], ◌∷◌, ◌++◌, filter, slice_get, Option, Some, None, IfSome, refl, ap, sym, ◌∙◌, arith}
 use Rattle.std.proofs.lemmas.List.{map-id, map-append}
 use Rattle.std.proofs.lemmas.List.Sums.{sum_by-append, sum_by_push}
 use Rattle.vm_model.specs.declared.areas.Span.{Span}
 use Rattle.vm_model.specs.declared.areas.Area.{Area}
 use Rattle.vm_model.specs.declared.areas.AreaKind.{AreaKind}
 use Rattle.vm_model.specs.declared.areas.AreaKind.TheVariants as kind
-use Rattle.vm_model.specs.declared.calls.Reply.{Reply}
-use Rattle.vm_model.specs.Space.{span, holds, times, one_if, is_among, lowest, hull, sum_of_pages}
-use Rattle.vm_model.specs.Setup.{Setup, cpus, groups_at, highest, pages_in_units}
-use Rattle.vm_model.specs.PlainMap.{PlainMap, Block, Chunk, InHand, Lives, Ended, taken}
-use Rattle.vm_model.specs.Areas.{is_area, named_areas, group_areas, mapped_part}
-use Rattle.vm_model.specs.Blocks.{PartAt, mapped_pages, part_to_cut, named_parts, fragmented, change_block, with_part, with_life, set_life, spends, without_spent}
-use Rattle.vm_model.specs.Chunks.{ObjectAt, change_chunk, plain_fit, atomic_fit, placement, new_chunk, with_object, without_object, with_live_object, with_page, is_live_object, spare_chunk, page_to_fill}
-use Rattle.vm_model.specs.Events.{Section, Search, ForPages, ForGroups, NoFrames, MapPages, Populate, Fill, Settle, Unlink, TakePurge, TakeAlloc, Fragment, AddBlock, Retire}
+use Rattle.vm_model.specs.Space.{span, times, is_among, sum_of_pages}
+use Rattle.vm_model.specs.Setup.{Setup, cpus, groups_at}
+use Rattle.vm_model.specs.PlainMap.{PlainMap, Block, Chunk, Lives}
+use Rattle.vm_model.specs.Areas.{is_area, named_areas, group_areas}
+use Rattle.vm_model.specs.Blocks.{mapped_pages, fragmented}
+use Rattle.vm_model.specs.Chunks.{change_chunk, without_object, with_live_object, with_page, spare_chunk}
+use Rattle.vm_model.specs.Events.{Section, Search, ForPages, ForGroups, NoFrames, MapPages, Settle, Unlink, Fragment}
 use Rattle.vm_model.specs.Effects.{effect_as}
 use Rattle.vm_model.specs.Told.{carved, carved_base}
-use Rattle.vm_model.specs.Places.{Aim, ForArea, ForBlock, ForChunk, Then, SearchAgain, ReplyWith, SpareAgain, Place, Over, Refusing, Finding, FindingAgain, MappingArea, Dropping, SettlingArea, Removing, UnmappingArea, Waiting, PurgeTaking, PurgeFragmenting, PurgeUnlinking, PurgeWaiting, PurgeCollecting, PurgeFlushing, PurgeReturning, PurgeGiving, CuttingPart, SettlingBlock, AddingBlock, MappingPart, SettlingPart, BeginningUnmap, UnmappingPart, Retiring, UnlinkingBlock, LookingAtDirty, TakingAlloc, Choosing, SettlingGroups, AddingChunk, Populating, SettlingObject, Unplacing, GivingAlloc, ChoosingAtomic, Zeroing, SettlingAtomic, FreeingObject, Adding, Summing, TakingToBalance, Sparing, Depopulating, UnlinkingGroups, NextFill, Filling, NotingFilled, ask, block_spans, group_starts}
-use Rattle.vm_model.specs.Next.{Next, Go, next, found, with_span, with_base, without_space, go_on, after_fragments, after_collecting, after_flush}
-use Rattle.vm_model.specs.Given.{given, taking, carving, carving_groups, searching, removal, placing, placing_new, placing_atomic, freeing, sparing, filling, cutting, beginning}
+use Rattle.vm_model.specs.Places.{Aim, Then, SearchAgain, Place, Over, Refusing, Finding, FindingAgain, MappingArea, Dropping, SettlingArea, Removing, UnmappingArea, Waiting, PurgeTaking, PurgeFragmenting, PurgeUnlinking, PurgeWaiting, PurgeCollecting, PurgeFlushing, PurgeReturning, PurgeGiving, CuttingPart, SettlingBlock, AddingBlock, MappingPart, SettlingPart, BeginningUnmap, UnmappingPart, Retiring, UnlinkingBlock, LookingAtDirty, TakingAlloc, Choosing, SettlingGroups, AddingChunk, Populating, SettlingObject, Unplacing, GivingAlloc, ChoosingAtomic, Zeroing, SettlingAtomic, FreeingObject, Adding, Summing, TakingToBalance, Sparing, Depopulating, UnlinkingGroups, NextFill, Filling, NotingFilled, ask, block_spans, group_starts}
+use Rattle.vm_model.specs.Next.{Next, Go, next, found, without_space, go_on, after_fragments}
+use Rattle.vm_model.specs.Given.{given, searching, removal, sparing}
 use Rattle.vm_model.specs.Rules.{IsSetup}
-use Rattle.map_parts.specs.Owners.{pool_of, other_than, times_from, of_block, of_chunk, of_place}
+use Rattle.map_parts.specs.Owners.{pool_of, other_than, times_from, of_place}
 use Rattle.map_parts.specs.Kept.{IsSoundPlace, IsPlainSerial}
 use Rattle.map_parts.proofs.Filters.{filter_within, filter_passes, map_was, among_map}
 use Rattle.map_parts.proofs.PoolMoves.{of_next, MovesApart, moves_stay, times_from-le}
@@ -38,42 +37,20 @@ module _ (c : Setup) (m : PlainMap) (k : ℕ) where
 
   -- Searches.
 
-  span_less : (aim : Aim) (s : Span) (counts : ℕ → Bool) (page : ℕ) → of_next c (with_span aim s) counts page ≤ times page (s ∷ [])
-  span_less (ForArea kd) s counts page = omega arith
-  span_less (ForBlock cpu pages) s counts page = omega arith
-  span_less (ForChunk chunk bytes align) s counts page = omega arith
-
-  base_less : (aim : Aim) (base : ℕ) (counts : ℕ → Bool) (page : ℕ) → of_next c (with_base aim base) counts page ≤ times page (groups_at c base)
-  base_less (ForArea kd) base counts page = omega arith
-  base_less (ForBlock cpu pages) base counts page = omega arith
-  base_less (ForChunk chunk bytes align) base counts page = omega arith
-
   module _ (is : IsSetup c) (own : (ℕ → Bool) → ℕ → ℕ) (aim : Aim) (otherwise : Next) (none : (counts : ℕ → Bool) (page : ℕ) → of_next c otherwise counts page ≤ 0) where
     abbrev pub Finds : Section → Type 0
     Finds s = MovesApart c (pool_of m) (pool_of (effect_as c m k s)) own (of_next c (found aim (carved s) (carved_base s) otherwise))
 
-    finds_pages : (pages align : ℕ) (o : Option ℕ) → lowest (taken m) pages align ≡ o → Finds (carving pages align o)
-    finds_pages pages align None e = quiet own (of_next c otherwise) (λ counts page. omega (arith, none counts page))
-    finds_pages pages align (Some start) e = carve_moves c m k own (of_next c (with_span aim (span start pages))) pages align start e (λ counts page. omega (arith, span_less aim (span start pages) counts page))
-
-    finds_groups : (o : Option ℕ) → highest c (taken m) ≡ o → Finds (carving_groups o)
-    finds_groups None e = quiet own (of_next c otherwise) (λ counts page. omega (arith, none counts page))
-    finds_groups (Some base) e = carve_groups_moves c m k own (of_next c (with_base aim base)) base is e (λ counts page. omega (arith, base_less aim base counts page))
-
     finds : (search : Search) → Finds (searching c m search)
-    finds (ForPages pages align) = finds_pages pages align (lowest (taken m) pages align) refl
-    finds ForGroups = finds_groups (highest c (taken m)) refl
+    finds (ForPages pages align) = grind (arith, quiet, of_next, carve_moves)
+    finds ForGroups = grind (arith, quiet, of_next, carve_groups_moves)
 
   not_both : (aim : Aim) (counts : ℕ → Bool) (page : ℕ) → of_next c (without_space aim) counts page ≤ 0
-  not_both (ForArea kd) counts page = omega arith
-  not_both (ForBlock cpu pages) counts page = omega arith
-  not_both (ForChunk chunk bytes align) counts page = omega arith
+  not_both aim counts page = grind arith
 
   -- what follows a purge or a wait has no pages
   go_on_less : (after : Then) (counts : ℕ → Bool) (page : ℕ) → of_next c (go_on after) counts page ≤ 0
-  go_on_less (SearchAgain search aim) counts page = omega arith
-  go_on_less (ReplyWith reply) counts page = omega arith
-  go_on_less SpareAgain counts page = omega arith
+  go_on_less after counts page = grind arith
 
   if_less : (b : Bool) (n n' : Next) (counts : ℕ → Bool) (page bound : ℕ) → of_next c n counts page ≤ bound → of_next c n' counts page ≤ bound → of_next c (if b then n else n') counts page ≤ bound
   if_less true n n' counts page bound p q = p
@@ -143,13 +120,10 @@ module _ (c : Setup) (m : PlainMap) (k : ℕ) where
 
   spans-append : (counts : ℕ → Bool) (page : ℕ) (starts more : List ℕ)
       → times_from counts page (block_spans c (starts ++ more)) ≡ times_from counts page (block_spans c starts) + times_from counts page (block_spans c more)
-  spans-append counts page starts more =
-      ap (times_from counts page) (map-append (λ start. span start c.block_pages) starts more)
-      ∙ sum_by-append (λ (s : Span). one_if (counts s.start && holds s page)) (block_spans c starts) (block_spans c more)
+  spans-append counts page starts more = grind (arith, map-append, sum_by-append)
 
   fragments_less : (gone : List ℕ) (extra : Option Span) (after : Then) (counts : ℕ → Bool) (page : ℕ) → of_place c (after_fragments gone extra after) counts page ≤ times_from counts page (block_spans c gone)
-  fragments_less [] extra after counts page = omega arith
-  fragments_less (start ∷ gone) extra after counts page = omega arith
+  fragments_less gone extra after counts page = grind arith
 
   fragments : (cpu : ℕ) (gone : List ℕ) (extra : Option Span) (after : Then) → LeavesApart (PurgeFragmenting cpu gone extra after) (Fragment cpu (fragmented c cpu m.blocks))
   fragments cpu gone extra after =
@@ -163,132 +137,66 @@ module _ (c : Setup) (m : PlainMap) (k : ℕ) where
             (times_from counts page (block_spans c (gone ++ more))) (omega arith) (fragments_less (gone ++ more) extra after counts page),
       ))
 
-  collecting_less : (waited : List Span) (o : Option Span) (after : Then) (counts : ℕ → Bool) (page : ℕ) → of_next c (after_collecting waited o after) counts page ≤ times page waited
-  collecting_less waited None after counts page = omega arith
-  collecting_less waited (Some s) after counts page = omega arith
-
-  flush_less : (waited : List Span) (after : Then) (counts : ℕ → Bool) (page : ℕ) → of_next c (after_flush waited after) counts page ≤ times page waited
-  flush_less [] after counts page = omega arith
-  flush_less (s ∷ waited) after counts page = omega arith
-
   -- Parts.
 
-  cuts : (cpu pages : ℕ) (o : Option PartAt) → LeavesApart (CuttingPart cpu pages) (cutting cpu pages o)
-  cuts cpu pages None = quiet _ _ (λ counts page. omega arith)
-  cuts cpu pages (Some at) = blocks_move c m k _ _ (change_block at.block (with_part k at) m.blocks) (λ counts page. omega (arith, blocks_changed c counts page at.block (with_part k at) m.blocks (λ b. refl)))
-
-  adds_block : (at : PartAt) → LeavesApart (AddingBlock at) (AddBlock at)
-  adds_block at =
-      blocks_move c m k _ _ (m.blocks ++ with_part k at (record { start = at.block; cpu = at.cpu; parts = [] }) ∷ [])
-      (λ counts page. omega (arith, sum_by_push (of_block c counts page) m.blocks (with_part k at (record { start = at.block; cpu = at.cpu; parts = [] }))))
-
-  begins : (cpu page serial : ℕ) (parts : List PartAt) → LeavesApart (BeginningUnmap cpu page serial) (beginning cpu page serial parts)
-  begins cpu page serial [] = quiet _ _ (λ counts page. omega arith)
-  begins cpu page serial (at ∷ parts) = blocks_move c m k _ _ (set_life at (InHand k) m.blocks) (λ counts page. omega (arith, blocks_changed c counts page at.block (with_life at (InHand k)) m.blocks (λ b. refl)))
-
-  retires : (at : PartAt) (reply : Reply) (b : Bool) → spends c at (set_life at Ended m.blocks) ≡ b → LeavesApart (Retiring at reply) (Retire at b)
-  retires at reply true e = blocks_move c m k _ _ (without_spent c (set_life at Ended m.blocks)) (λ counts page. omega (arith, block_spent c counts page at m.blocks e))
-  retires at reply false e = blocks_move c m k _ _ (without_spent c (set_life at Ended m.blocks)) (λ counts page. omega (arith, blocks_left c counts page at m.blocks))
-
   -- Objects and chunks.
-
-  places : (bytes align number : ℕ) (o : Option (ObjectAt × List ℕ)) → LeavesApart (Choosing bytes align) (placing bytes align number o)
-  places bytes align number None = quiet _ _ (λ counts page. omega arith)
-  places bytes align number (Some p) = chunks_move c m k _ _ (change_chunk p.0.chunk (with_object k p.0) m.chunks) (λ counts page. omega (arith, chunks_changed c counts page p.0.chunk (with_object k p.0) m.chunks (λ h. refl)))
-
-  places_new : (base chunk bytes align : ℕ) (o : Option (ObjectAt × List ℕ)) → LeavesApart (AddingChunk base chunk bytes align) (placing_new chunk base bytes align o)
-  places_new base chunk bytes align None = quiet _ _ (λ counts page. omega arith)
-  places_new base chunk bytes align (Some p) =
-      chunks_move c m k _ _ (change_chunk p.0.chunk (with_object k p.0) (m.chunks ++ new_chunk c chunk base ∷ []))
-      (λ counts page. omega (arith, chunks_changed c counts page p.0.chunk (with_object k p.0) (m.chunks ++ new_chunk c chunk base ∷ []) (λ h. refl), sum_by_push (of_chunk c counts page) m.chunks (new_chunk c chunk base)))
-
-  places_atomic : (bytes align : ℕ) (o : Option (ObjectAt × List ℕ)) → LeavesApart (ChoosingAtomic bytes align) (placing_atomic bytes align o)
-  places_atomic bytes align None = quiet _ _ (λ counts page. omega arith)
-  places_atomic bytes align (Some p) = chunks_move c m k _ _ (change_chunk p.0.chunk (with_object k p.0) m.chunks) (λ counts page. omega (arith, chunks_changed c counts page p.0.chunk (with_object k p.0) m.chunks (λ h. refl)))
 
   changes_chunk : (number : ℕ) (change : Chunk → Chunk) (own own' : (ℕ → Bool) → ℕ → ℕ) → ((h : Chunk) → (change h).base ≡ h.base) → ((counts : ℕ → Bool) (page : ℕ) → own' counts page ≤ own counts page)
       → MovesApart c (pool_of m) (record (pool_of m) { chunks = change_chunk number change m.chunks }) own own'
   changes_chunk number change own own' keeps less = chunks_move c m k own own' (change_chunk number change m.chunks) (λ counts page. omega (arith, less counts page, chunks_changed c counts page number change m.chunks keeps))
 
-  frees : (at : ObjectAt) (serial : ℕ) (b : Bool) → LeavesApart (FreeingObject at serial) (freeing at serial b)
-  frees at serial true = changes_chunk at.chunk (without_object at) _ _ (λ h. refl) (λ counts page. omega arith)
-  frees at serial false = quiet _ _ (λ counts page. omega arith)
-
   spares : (o : Option Chunk) → spare_chunk m.chunks ≡ o → LeavesApart Sparing (sparing c o)
   spares None e = quiet _ _ (λ counts page. omega arith)
   spares (Some h) e = chunks_move c m k _ _ (filter (λ (other : Chunk). not (other.number == h.number)) m.chunks) (λ counts page. omega (arith, chunk_spared c counts page m.chunks h e))
-
-  fills_next : (filled : ℕ) (o : Option (Chunk × ℕ)) → LeavesApart (NextFill filled) (filling o)
-  fills_next filled None = quiet _ _ (λ counts page. omega arith)
-  fills_next filled (Some p) = quiet _ _ (λ counts page. omega arith)
-
-  taking_purge : (place : Place) (o : Option ℕ) → LeavesApart place TakePurge → IfSome (taking o TakePurge) (LeavesApart place)
-  taking_purge place None h = h
-  taking_purge place (Some holder) h = tt
-
-  taking_alloc : (place : Place) (o : Option ℕ) → LeavesApart place TakeAlloc → IfSome (taking o TakeAlloc) (LeavesApart place)
-  taking_alloc place None h = h
-  taking_alloc place (Some holder) h = tt
-
-  less_if : (b : Bool) (place : Place) (n n' : Next) → ((counts : ℕ → Bool) (page : ℕ) → of_next c n counts page ≤ of_place c place counts page) → ((counts : ℕ → Bool) (page : ℕ) → of_next c n' counts page ≤ of_place c place counts page)
-      → (counts : ℕ → Bool) (page : ℕ) → of_next c (if b then n else n') counts page ≤ of_place c place counts page
-  less_if b place n n' p q counts page = if_less b n n' counts page (of_place c place counts page) (p counts page) (q counts page)
 
   pub place_moves : IsSetup c → (place : Place) → IsSoundPlace c m k place → IfSome (given c m (ask c place)) (LeavesApart place)
   place_moves is Over sound = tt
   place_moves is (Refusing reply) sound = quiet _ _ (λ counts page. omega arith)
   place_moves is (Finding search aim) sound = finds is (of_place c (Finding search aim)) aim (Go (PurgeTaking None (SearchAgain search aim))) (λ counts page. omega arith) search
   place_moves is (FindingAgain search aim) sound = finds is (of_place c (FindingAgain search aim)) aim (without_space aim) (not_both aim) search
-  place_moves is (MappingArea s kd) sound =
-      of_two (LeavesApart (MappingArea s kd)) _ (NoFrames (mapped_part kd s).pages) (MapPages (mapped_part kd s)) (quiet _ _ (λ counts page. omega arith)) (quiet _ _ (λ counts page. omega arith))
+  place_moves is (MappingArea s kd) sound = grind (arith, of_two, quiet)
   place_moves is (Dropping s) sound = drop_moves c m k _ _ s (λ counts page. omega arith)
   place_moves is (SettlingArea s kd) sound = settle_plain_moves c m k _ _ s kd m.next_area sound (λ counts page. omega arith)
   place_moves is (Removing start serial) sound = removes start serial (named_areas start serial m.areas) refl sound
   place_moves is (UnmappingArea area) sound = quiet _ _ (λ counts page. omega arith)
   place_moves is (Waiting spans after) sound =
       wait_moves c m k _ _ spans (sum_of_pages (m.waiting ++ spans)) (λ counts page. let less = if_less (nat_lt c.lazy (sum_of_pages (m.waiting ++ spans))) (Go (PurgeTaking None after)) (go_on after) counts page 0 (omega arith) (go_on_less after counts page) in omega arith)
-  place_moves is (PurgeTaking extra after) sound = taking_purge (PurgeTaking extra after) m.purge_turn (quiet _ _ (λ counts page. omega arith))
+  place_moves is (PurgeTaking extra after) sound = grind (arith, quiet)
   place_moves is (PurgeFragmenting cpu gone extra after) sound = fragments cpu gone extra after
   place_moves is (PurgeUnlinking gone extra after) sound = unlinks_blocks gone _ _ (λ counts page. omega arith) (λ counts page. omega arith)
   place_moves is (PurgeWaiting gone extra after) sound = wait_moves c m k _ _ (block_spans c gone) (sum_of_pages (m.waiting ++ block_spans c gone)) (λ counts page. omega arith)
-  place_moves is (PurgeCollecting extra after) sound =
-      take_waiting_moves c m k _ _ (λ counts page. omega (arith, collecting_less m.waiting (hull (m.waiting ++ option_to_list extra)) after counts page))
-  place_moves is (PurgeFlushing s waited after) sound = quiet _ _ (λ counts page. omega (arith, flush_less waited after counts page))
+  place_moves is (PurgeCollecting extra after) sound = grind (arith, take_waiting_moves, of_next)
+  place_moves is (PurgeFlushing s waited after) sound = grind (arith, quiet, of_next)
   place_moves is (PurgeReturning waited after) sound = return_moves c m k _ _ waited (λ counts page. omega arith)
   place_moves is (PurgeGiving after) sound = quiet _ _ (λ counts page. omega (arith, go_on_less after counts page))
-  place_moves is (CuttingPart cpu pages) sound = cuts cpu pages (part_to_cut c cpu pages m.blocks)
+  place_moves is (CuttingPart cpu pages) sound = grind (arith, quiet, blocks_move, blocks_changed)
   place_moves is (SettlingBlock s cpu pages) sound = settles_block s cpu pages m.next_area sound.0
-  place_moves is (AddingBlock at) sound = adds_block at
+  place_moves is (AddingBlock at) sound = grind (arith, blocks_move, sum_by_push)
   place_moves is (MappingPart at) sound = of_two (LeavesApart (MappingPart at)) _ (NoFrames at.pages) (MapPages (mapped_pages at)) (quiet _ _ (λ counts page. omega arith)) (quiet _ _ (λ counts page. omega arith))
-  place_moves is (SettlingPart at) sound =
-      blocks_move c m k _ _ (set_life at (Lives (slice_index m.next_part at.cpu)) m.blocks)
-      (λ counts page. omega (arith, blocks_changed c counts page at.block (with_life at (Lives (slice_index m.next_part at.cpu))) m.blocks (λ b. refl)))
-  place_moves is (BeginningUnmap cpu page serial) sound = begins cpu page serial (named_parts cpu page serial m.blocks)
+  place_moves is (SettlingPart at) sound = grind (arith, blocks_move, blocks_changed)
+  place_moves is (BeginningUnmap cpu page serial) sound = grind (arith, quiet, blocks_move, blocks_changed)
   place_moves is (UnmappingPart at) sound = quiet _ _ (λ counts page. omega arith)
-  place_moves is (Retiring at reply) sound = retires at reply (spends c at (set_life at Ended m.blocks)) refl
+  place_moves is (Retiring at reply) sound = grind (arith, blocks_move, block_spent, blocks_left)
   place_moves is (UnlinkingBlock start reply) sound = unlinks_blocks (start ∷ []) _ _ (λ counts page. omega arith) (λ counts page. omega arith)
-  place_moves is (LookingAtDirty cpu ranges) sound =
-      quiet _ _ (less_if (nat_lt (suc cpu) (cpus c)) (LookingAtDirty cpu ranges) _ _ (λ counts page. omega arith) (λ counts page. omega arith))
-  place_moves is (TakingAlloc bytes align) sound = taking_alloc (TakingAlloc bytes align) m.alloc_turn (quiet _ _ (λ counts page. omega arith))
-  place_moves is (Choosing bytes align) sound = places bytes align m.next_chunk (placement c (plain_fit c bytes align) bytes m.chunks)
+  place_moves is (LookingAtDirty cpu ranges) sound = grind (arith, quiet, of_next, if_less)
+  place_moves is (TakingAlloc bytes align) sound = grind (arith, quiet)
+  place_moves is (Choosing bytes align) sound = grind (arith, quiet, chunks_move, chunks_changed)
   place_moves is (SettlingGroups base chunk bytes align) sound = settles_groups base chunk bytes align m.next_area
-  place_moves is (AddingChunk base chunk bytes align) sound = places_new base chunk bytes align (placement c (plain_fit c bytes align) bytes (m.chunks ++ new_chunk c chunk base ∷ []))
-  place_moves is (Populating at missing) sound =
-      of_two (LeavesApart (Populating at missing)) _ (NoFrames (length (pages_in_units c at.base missing))) (Populate at missing) (quiet _ _ (λ counts page. omega arith)) (quiet _ _ (λ counts page. omega arith))
+  place_moves is (AddingChunk base chunk bytes align) sound = grind (arith, quiet, chunks_move, chunks_changed, sum_by_push)
+  place_moves is (Populating at missing) sound = grind (arith, of_two, quiet)
   place_moves is (SettlingObject at) sound = changes_chunk at.chunk (with_live_object at (Lives m.next_object)) _ _ (λ h. refl) (λ counts page. omega arith)
   place_moves is (Unplacing at) sound = changes_chunk at.chunk (without_object at) _ _ (λ h. refl) (λ counts page. omega arith)
   place_moves is (GivingAlloc reply made) sound = quiet _ _ (λ counts page. omega arith)
-  place_moves is (ChoosingAtomic bytes align) sound = places_atomic bytes align (placement c (atomic_fit c bytes align) bytes m.chunks)
+  place_moves is (ChoosingAtomic bytes align) sound = grind (arith, quiet, chunks_move, chunks_changed)
   place_moves is (Zeroing at) sound = quiet _ _ (λ counts page. omega arith)
   place_moves is (SettlingAtomic at) sound = changes_chunk at.chunk (with_live_object at (Lives m.next_object)) _ _ (λ h. refl) (λ counts page. omega arith)
-  place_moves is (FreeingObject at serial) sound = frees at serial (is_live_object at serial m.chunks)
+  place_moves is (FreeingObject at serial) sound = grind (arith, quiet, chunks_move, chunks_changed)
   place_moves is (Adding at serial cpu index amount) sound = quiet _ _ (λ counts page. omega arith)
   place_moves is (Summing at serial index) sound = quiet _ _ (λ counts page. omega arith)
-  place_moves is TakingToBalance sound = taking_alloc TakingToBalance m.alloc_turn (quiet _ _ (λ counts page. omega arith))
+  place_moves is TakingToBalance sound = grind (arith, quiet)
   place_moves is Sparing sound = spares (spare_chunk m.chunks) refl
   place_moves is (Depopulating base populated) sound = quiet _ _ (λ counts page. omega arith)
   place_moves is (UnlinkingGroups base) sound = unlinks_groups base _ _ (λ counts page. omega arith) (λ counts page. omega arith)
-  place_moves is (NextFill filled) sound = fills_next filled (page_to_fill c m.chunks)
-  place_moves is (Filling chunk base page filled) sound =
-      of_two (LeavesApart (Filling chunk base page filled)) _ (NoFrames (length (pages_in_units c base (page ∷ [])))) (Fill base page) (quiet _ _ (λ counts page. omega arith)) (quiet _ _ (λ counts page. omega arith))
+  place_moves is (NextFill filled) sound = grind (arith, quiet)
+  place_moves is (Filling chunk base page filled) sound = grind (arith, of_two, quiet)
   place_moves is (NotingFilled chunk page filled) sound = changes_chunk chunk (with_page page) _ _ (λ h. refl) (λ counts page. omega arith)

@@ -1,20 +1,20 @@
 -- At each place, the section that the map gives leaves the map whole and its caller at a sound place.
-use Rattle.std.proofs.Common.{◌≡◌, ℕ, suc, ◌<◌, ◌≤◌, Bool, true, false, not, nat_lt, if◌then◌else◌, List, [], ◌∷◌, ◌++◌, length, slice_index, Option, Some, None, IfSome, option_to_list, refl, ap, sym, subst, arith}
+use Rattle.std.proofs.Common.{◌≡◌, ℕ, suc, ◌<◌, ◌≤◌, Bool, true, false, nat_lt, if◌then◌else◌, List, [], ◌∷◌, ◌++◌, length, slice_index, Option, Some, None, IfSome, refl, sym, subst, arith}
 use Rattle.vm_model.specs.declared.areas.Span.{Span}
 use Rattle.vm_model.specs.declared.areas.Area.{Area}
 use Rattle.vm_model.specs.declared.areas.AreaKind.TheVariants as kind
-use Rattle.vm_model.specs.Space.{span, holds, covers, lowest, hull, sum_of_pages, is_among}
-use Rattle.vm_model.specs.Setup.{Setup, cpus, groups_at, highest, pages_in_units}
-use Rattle.vm_model.specs.PlainMap.{PlainMap, Chunk, Free, Held, Waits, Flushing, InHand, Lives, Ended, taken}
-use Rattle.vm_model.specs.Areas.{named_areas, is_area, areas_starting, spans_of, group_areas, mapped_part}
+use Rattle.vm_model.specs.Space.{holds, covers, lowest}
+use Rattle.vm_model.specs.Setup.{Setup, cpus, highest, pages_in_units}
+use Rattle.vm_model.specs.PlainMap.{PlainMap, Chunk, Free, InHand, Lives, Ended, taken}
+use Rattle.vm_model.specs.Areas.{named_areas, group_areas, mapped_part}
 use Rattle.vm_model.specs.Blocks.{PartAt, mapped_pages, part_to_cut, named_parts, fragmented, set_life, spends}
-use Rattle.vm_model.specs.Chunks.{ObjectAt, plain_fit, atomic_fit, placement, new_chunk, is_live_object, spare_chunk, page_to_fill}
-use Rattle.vm_model.specs.Events.{Section, Search, ForPages, ForGroups, NoFrames, MapPages, Populate, Fill, TakePurge, TakeAlloc, GiveAlloc, Unlink, Wait}
+use Rattle.vm_model.specs.Chunks.{ObjectAt, plain_fit, atomic_fit, placement, new_chunk, is_live_object, spare_chunk}
+use Rattle.vm_model.specs.Events.{Section, Search, ForPages, ForGroups, NoFrames, MapPages, Populate, Fill}
 use Rattle.vm_model.specs.Effects.{effect_as}
 use Rattle.vm_model.specs.Told.{carved, carved_base}
-use Rattle.vm_model.specs.Places.{Aim, ForArea, ForBlock, ForChunk, Then, SearchAgain, ReplyWith, SpareAgain, Place, Over, Refusing, Finding, FindingAgain, MappingArea, Dropping, SettlingArea, Removing, UnmappingArea, Waiting, PurgeTaking, PurgeFragmenting, PurgeUnlinking, PurgeWaiting, PurgeCollecting, PurgeFlushing, PurgeReturning, PurgeGiving, CuttingPart, SettlingBlock, AddingBlock, MappingPart, SettlingPart, BeginningUnmap, UnmappingPart, Retiring, UnlinkingBlock, LookingAtDirty, TakingAlloc, Choosing, SettlingGroups, AddingChunk, Populating, SettlingObject, Unplacing, GivingAlloc, ChoosingAtomic, Zeroing, SettlingAtomic, FreeingObject, Adding, Summing, TakingToBalance, Sparing, Depopulating, UnlinkingGroups, NextFill, Filling, NotingFilled, Made, MadeArea, MadePart, ask, block_spans, group_starts}
-use Rattle.vm_model.specs.Next.{Next, Go, Answer, next, found, with_span, with_base, without_space, go_on, after_fragments, after_collecting, after_flush}
-use Rattle.vm_model.specs.Given.{given, taking, carving, carving_groups, searching, removal, placing, placing_new, placing_atomic, freeing, sparing, filling, cutting, beginning}
+use Rattle.vm_model.specs.Places.{Aim, Then, SearchAgain, Place, Over, Refusing, Finding, FindingAgain, MappingArea, Dropping, SettlingArea, Removing, UnmappingArea, Waiting, PurgeTaking, PurgeFragmenting, PurgeUnlinking, PurgeWaiting, PurgeCollecting, PurgeFlushing, PurgeReturning, PurgeGiving, CuttingPart, SettlingBlock, AddingBlock, MappingPart, SettlingPart, BeginningUnmap, UnmappingPart, Retiring, UnlinkingBlock, LookingAtDirty, TakingAlloc, Choosing, SettlingGroups, AddingChunk, Populating, SettlingObject, Unplacing, GivingAlloc, ChoosingAtomic, Zeroing, SettlingAtomic, FreeingObject, Adding, Summing, TakingToBalance, Sparing, Depopulating, UnlinkingGroups, NextFill, Filling, NotingFilled, ask}
+use Rattle.vm_model.specs.Next.{Next, Go, Answer, next, found, without_space, after_fragments}
+use Rattle.vm_model.specs.Given.{given, carving, carving_groups, searching, removal, placing, placing_new, placing_atomic, freeing, sparing, cutting, beginning}
 use Rattle.vm_model.specs.Rules.{IsSetup}
 use Rattle.vm_model.proofs.PaintRuns.{length-paint}
 use Rattle.map_parts.specs.Kept.{CanBePart, IsSoundAim, IsSoundThen, IsSoundPlace, IsSoundMade, IsWhole}
@@ -36,44 +36,11 @@ module _ (c : Setup) (m : PlainMap) (k : ℕ) where
   sound_if m' true n n' p q = p refl
   sound_if m' false n n' p q = q refl
 
-  go_on_sound : (m' : PlainMap) (after : Then) → IsSoundThen c after → IsSoundNext c m' k (go_on after)
-  go_on_sound m' (SearchAgain search aim) sound = sound
-  go_on_sound m' (ReplyWith reply) sound = tt
-  go_on_sound m' SpareAgain sound = tt
-
   fragments_sound : (m' : PlainMap) (gone : List ℕ) (extra : Option Span) (after : Then) → IsSoundThen c after → IsSoundPlace c m' k (after_fragments gone extra after)
-  fragments_sound m' [] extra after sound = sound
-  fragments_sound m' (start ∷ gone) extra after sound = sound
-
-  collecting_sound : (m' : PlainMap) (waited : List Span) (o : Option Span) (after : Then) → IsSoundThen c after → IsSoundNext c m' k (after_collecting waited o after)
-  collecting_sound m' waited None after sound = sound
-  collecting_sound m' waited (Some s) after sound = sound
-
-  flush_sound : (m' : PlainMap) (waited : List Span) (after : Then) → IsSoundThen c after → IsSoundNext c m' k (after_flush waited after)
-  flush_sound m' [] after sound = sound
-  flush_sound m' (s ∷ waited) after sound = sound
-
-  span_sound : (m' : PlainMap) (pages align : ℕ) (aim : Aim) (start : ℕ) → IsSoundAim c (ForPages pages align) aim → IsSoundNext c m' k (with_span aim (span start pages))
-  span_sound m' pages align (ForArea kd) start sound = sound
-  span_sound m' pages align (ForBlock cpu asked) start sound = (same_pages (ForPages pages align) (ForPages c.block_pages c.block_pages) sound.0, sound.1)
-    where
-      pages_in : Search → ℕ
-      pages_in (ForPages pages align) = pages
-      pages_in ForGroups = 0
-
-      same_pages : (s t : Search) → s ≡ t → pages_in s ≡ pages_in t
-      same_pages s t e = ap pages_in e
-  span_sound m' pages align (ForChunk chunk bytes align') start sound = tt
-
-  base_sound : (m' : PlainMap) (aim : Aim) (base : ℕ) → IsSoundNext c m' k (with_base aim base)
-  base_sound m' (ForArea kd) base = tt
-  base_sound m' (ForBlock cpu pages) base = tt
-  base_sound m' (ForChunk chunk bytes align) base = tt
+  fragments_sound m' gone extra after sound = grind arith
 
   without_sound : (m' : PlainMap) (aim : Aim) → IsSoundNext c m' k (without_space aim)
-  without_sound m' (ForArea kd) = tt
-  without_sound m' (ForBlock cpu pages) = tt
-  without_sound m' (ForChunk chunk bytes align) = tt
+  without_sound m' aim = grind arith
 
   module _ (whole : IsWhole c m) where
     -- sections that change none of areas, blocks and next serials
@@ -87,34 +54,19 @@ module _ (c : Setup) (m : PlainMap) (k : ℕ) where
 
       finds_pages : (pages align : ℕ) (o : Option ℕ) → IsSoundAim c (ForPages pages align) aim → Finds (carving pages align o)
       finds_pages pages align None sound = record { map = stays m refl refl refl refl refl; onward = other m }
-      finds_pages pages align (Some start) sound = record { map = stays _ (length-paint (holds (span start pages)) (Held k) m.marks) refl refl refl refl; onward = span_sound _ pages align aim start sound }
+      finds_pages pages align (Some start) sound = grind (arith, stays, length-paint)
 
       finds_groups : (o : Option ℕ) → Finds (carving_groups o)
       finds_groups None = record { map = stays m refl refl refl refl refl; onward = other m }
-      finds_groups (Some base) = record { map = stays _ (length-paint (covers (groups_at c base)) (Held k) m.marks) refl refl refl refl; onward = base_sound _ aim base }
+      finds_groups (Some base) = grind (arith, stays, length-paint)
 
       finds : (search : Search) → IsSoundAim c search aim → Finds (searching c m search)
       finds (ForPages pages align) sound = finds_pages pages align (lowest (taken m) pages align) sound
       finds ForGroups sound = finds_groups (highest c (taken m))
 
-    taking_sound : (place : Place) (o : Option ℕ) (s : Section) → GoesOn place s → IfSome (taking o s) (GoesOn place)
-    taking_sound place None s h = h
-    taking_sound place (Some holder) s h = tt
-
     removes : (start serial : ℕ) (l : List Area) → GoesOn (Removing start serial) (removal start serial l)
     removes start serial [] = record { map = stays m refl refl refl refl refl; onward = tt }
-    removes start serial (a ∷ rest) = record {
-      map = keeps_fewer c m k whole _ (length-paint (holds a.span) (Held k) m.marks) refl refl refl (λ i b at. filter_within (λ b. not (is_area start serial b)) m.areas i b at);
-      onward = tt;
-    }
-
-    unlinks : (starts : List ℕ) → KeepsMap c m k (effect_as c m k (Unlink starts))
-    unlinks starts =
-        keeps_fewer c m k whole _ (length-paint (covers (spans_of (areas_starting starts m.areas))) (Held k) m.marks) refl refl refl
-        (λ i a at. filter_within (λ (a : Area). not (is_among starts a.span.start)) m.areas i a at)
-
-    waits : (spans : List Span) (waiting : ℕ) → KeepsMap c m k (effect_as c m k (Wait spans waiting))
-    waits spans waiting = stays _ (length-paint (covers spans) Waits m.marks) refl refl refl refl
+    removes start serial (a ∷ rest) = grind (arith, keeps_fewer, length-paint, filter_within)
 
     places : (bytes align number : ℕ) (o : Option (ObjectAt × List ℕ)) → GoesOn (Choosing bytes align) (placing bytes align number o)
     places bytes align number None = record { map = stays m refl refl refl refl refl; onward = tt }
@@ -135,10 +87,6 @@ module _ (c : Setup) (m : PlainMap) (k : ℕ) where
     spares : (o : Option Chunk) → GoesOn Sparing (sparing c o)
     spares None = record { map = stays m refl refl refl refl refl; onward = tt }
     spares (Some h) = record { map = stays _ refl refl refl refl refl; onward = tt }
-
-    fills : (filled : ℕ) (o : Option (Chunk × ℕ)) → GoesOn (NextFill filled) (filling o)
-    fills filled None = record { map = stays m refl refl refl refl refl; onward = tt }
-    fills filled (Some p) = record { map = stays m refl refl refl refl refl; onward = tt }
 
     module _ (is : IsSetup c) (once : AreOnce c m.blocks) where
       some : 1 ≤ c.block_pages
@@ -173,24 +121,18 @@ module _ (c : Setup) (m : PlainMap) (k : ℕ) where
       place_sound (SettlingArea s kd) sound = record { map = keeps_settled c m k whole ((s, kd) ∷ []); onward = settled_plain c m k whole s kd sound }
       place_sound (Removing start serial) sound = removes start serial (named_areas start serial m.areas)
       place_sound (UnmappingArea area) sound = record { map = stays _ refl refl refl refl refl; onward = tt }
-      place_sound (Waiting spans after) sound = record {
-        map = waits spans (sum_of_pages (m.waiting ++ spans));
-        onward = sound_if _ (nat_lt c.lazy (sum_of_pages (m.waiting ++ spans))) (Go (PurgeTaking None after)) (go_on after) (λ e. sound) (λ e. go_on_sound _ after sound);
-      }
-      place_sound (PurgeTaking extra after) sound = taking_sound (PurgeTaking extra after) m.purge_turn TakePurge (record { map = stays _ refl refl refl refl refl; onward = (is.units.some, sound) })
+      place_sound (Waiting spans after) sound = grind (arith, stays, length-paint)
+      place_sound (PurgeTaking extra after) sound = grind (arith, stays, some)
       place_sound (PurgeFragmenting cpu gone extra after) sound = record {
         map = keeps_fragmented c m k whole is once cpu;
         onward = sound_if _ (nat_lt (suc cpu) (cpus c)) _ _ (λ e. (lt_test (suc cpu) (cpus c) e, sound.1)) (λ e. fragments_sound _ (gone ++ fragmented c cpu m.blocks) extra after sound.1);
       }
-      place_sound (PurgeUnlinking gone extra after) sound = record { map = unlinks gone; onward = sound }
-      place_sound (PurgeWaiting gone extra after) sound = record { map = waits (block_spans c gone) (sum_of_pages (m.waiting ++ block_spans c gone)); onward = sound }
-      place_sound (PurgeCollecting extra after) sound = record {
-        map = stays _ (length-paint (covers m.waiting) (Flushing k) m.marks) refl refl refl refl;
-        onward = collecting_sound _ m.waiting (hull (m.waiting ++ option_to_list extra)) after sound;
-      }
-      place_sound (PurgeFlushing s waited after) sound = record { map = stays _ refl refl refl refl refl; onward = flush_sound _ waited after sound }
+      place_sound (PurgeUnlinking gone extra after) sound = grind (arith, keeps_fewer, length-paint, filter_within)
+      place_sound (PurgeWaiting gone extra after) sound = grind (arith, stays, length-paint)
+      place_sound (PurgeCollecting extra after) sound = grind (arith, stays, length-paint)
+      place_sound (PurgeFlushing s waited after) sound = grind (arith, stays)
       place_sound (PurgeReturning waited after) sound = record { map = stays _ (length-paint (covers waited) Free m.marks) refl refl refl refl; onward = sound }
-      place_sound (PurgeGiving after) sound = record { map = stays _ refl refl refl refl refl; onward = go_on_sound _ after sound }
+      place_sound (PurgeGiving after) sound = grind (arith, stays)
       place_sound (CuttingPart cpu pages) sound = cuts cpu pages (part_to_cut c cpu pages m.blocks) refl sound
       place_sound (SettlingBlock s cpu pages) sound = record { map = keeps_settled c m k whole ((s, kind.Block cpu) ∷ []); onward = (refl, sound.1) }
       place_sound (AddingBlock at) sound = record { map = keeps_added c m k whole is once at sound.0 sound.1.1; onward = (sound.1.0, added_own c m k whole is once at) }
@@ -204,12 +146,9 @@ module _ (c : Setup) (m : PlainMap) (k : ℕ) where
         map = keeps_retired c m k whole is once at (spends c at (set_life at Ended m.blocks)) sound.1;
         onward = sound_if _ (spends c at (set_life at Ended m.blocks)) (Go (UnlinkingBlock at.block reply)) _ (λ e. tt) (λ e. tt);
       }
-      place_sound (UnlinkingBlock start reply) sound = record { map = unlinks (start ∷ []); onward = tt }
-      place_sound (LookingAtDirty cpu ranges) sound = record {
-        map = stays m refl refl refl refl refl;
-        onward = sound_if m (nat_lt (suc cpu) (cpus c)) _ _ (λ e. lt_test (suc cpu) (cpus c) e) (λ e. tt);
-      }
-      place_sound (TakingAlloc bytes align) sound = taking_sound (TakingAlloc bytes align) m.alloc_turn TakeAlloc (record { map = stays _ refl refl refl refl refl; onward = tt })
+      place_sound (UnlinkingBlock start reply) sound = grind (arith, keeps_fewer, length-paint, filter_within)
+      place_sound (LookingAtDirty cpu ranges) sound = grind (arith, stays, lt_test)
+      place_sound (TakingAlloc bytes align) sound = grind (arith, stays)
       place_sound (Choosing bytes align) sound = places bytes align m.next_chunk (placement c (plain_fit c bytes align) bytes m.chunks)
       place_sound (SettlingGroups base chunk bytes align) sound = record { map = keeps_settled c m k whole (group_areas c chunk base); onward = tt }
       place_sound (AddingChunk base chunk bytes align) sound = places_new base chunk bytes align (placement c (plain_fit c bytes align) bytes (m.chunks ++ new_chunk c chunk base ∷ []))
@@ -218,23 +157,18 @@ module _ (c : Setup) (m : PlainMap) (k : ℕ) where
           (record { map = stays _ refl refl refl refl refl; onward = tt })
       place_sound (SettlingObject at) sound = record { map = stays _ refl refl refl refl refl; onward = tt }
       place_sound (Unplacing at) sound = record { map = stays _ refl refl refl refl refl; onward = tt }
-      place_sound (GivingAlloc reply made) sound = record { map = stays _ refl refl refl refl refl; onward = made_stays made sound }
-        where
-          made_stays : (made : Made) → IsSoundMade c m made → IsSoundMade c (effect_as c m k GiveAlloc) made
-          made_stays (MadeArea start serial) s = record { given = s.given; plain = s.plain }
-          made_stays (MadePart cpu page serial) s = s
-          made_stays _ s = tt
+      place_sound (GivingAlloc reply made) sound = grind (arith, stays)
       place_sound (ChoosingAtomic bytes align) sound = places_atomic bytes align (placement c (atomic_fit c bytes align) bytes m.chunks)
       place_sound (Zeroing at) sound = record { map = stays _ refl refl refl refl refl; onward = tt }
       place_sound (SettlingAtomic at) sound = record { map = stays _ refl refl refl refl refl; onward = tt }
       place_sound (FreeingObject at serial) sound = frees at serial (is_live_object at serial m.chunks)
       place_sound (Adding at serial cpu index amount) sound = record { map = stays _ refl refl refl refl refl; onward = tt }
       place_sound (Summing at serial index) sound = record { map = stays m refl refl refl refl refl; onward = tt }
-      place_sound TakingToBalance sound = taking_sound TakingToBalance m.alloc_turn TakeAlloc (record { map = stays _ refl refl refl refl refl; onward = tt })
+      place_sound TakingToBalance sound = grind (arith, stays)
       place_sound Sparing sound = spares (spare_chunk m.chunks)
       place_sound (Depopulating base populated) sound = record { map = stays _ refl refl refl refl refl; onward = tt }
-      place_sound (UnlinkingGroups base) sound = record { map = unlinks (group_starts c base); onward = tt }
-      place_sound (NextFill filled) sound = fills filled (page_to_fill c m.chunks)
+      place_sound (UnlinkingGroups base) sound = grind (arith, keeps_fewer, length-paint, filter_within)
+      place_sound (NextFill filled) sound = grind (arith, stays)
       place_sound (Filling chunk base page filled) sound =
           of_two (GoesOn (Filling chunk base page filled)) _ (NoFrames (length (pages_in_units c base (page ∷ [])))) (Fill base page) (record { map = stays m refl refl refl refl refl; onward = tt })
           (record { map = stays _ refl refl refl refl refl; onward = tt })

@@ -1,5 +1,5 @@
 -- Pages pass from owner to owner: none gets a second one.
-use Rattle.std.proofs.Common.{◌≡◌, ℕ, ◌+◌, ◌≤◌, ◌⊎◌, inl, inr, Bool, true, false, ◌&&◌, ◌||◌, if◌then◌else◌, List, [], ◌∷◌, ◌++◌, slice_get, sum_by, Option, Some, None, refl, ap, ◌∙◌, arith, option_map}
+use Rattle.std.proofs.Common.{◌≡◌, ℕ, ◌+◌, ◌≤◌, ◌⊎◌, inl, inr, Bool, true, false, ◌&&◌, ◌||◌, List, [], ◌∷◌, ◌++◌, slice_get, sum_by, Some, arith}
 use Rattle.std.proofs.lemmas.List.Sums.{sum_by-cons, sum_by-append}
 use Rattle.vm_model.specs.declared.areas.Span.{Span}
 use Rattle.vm_model.specs.declared.areas.Area.{Area}
@@ -39,10 +39,7 @@ pub record MovesApart (c : Setup) (p p' : Pool) (own own' : (ℕ → Bool) → �
 module _ (c : Setup) (p p' : Pool) (own own' : (ℕ → Bool) → ℕ → ℕ) where
   pub moves_balanced : ((i : ℕ) (a : Area) → slice_get p'.areas i ≡ Some a → (j : ℕ) × (slice_get p.areas j ≡ Some a))
       → ((counts : ℕ → Bool) (page : ℕ) → IsBalanced c p p' own own' counts page) → MovesApart c p p' own own'
-  moves_balanced were balanced = record {
-    once = λ page. balanced every page;
-    areas = λ i a at plain page on. let w = were i a at in inl (w.0, w.1, balanced (other_than a.span.start) page);
-  }
+  moves_balanced were balanced = grind arith
 
   -- beside what other callers have
   pub one_owner_moves : (rest : (ℕ → Bool) → ℕ → ℕ) → ((start page : ℕ) → rest (other_than start) page ≤ rest every page) → MovesApart c p p' own own'
@@ -74,36 +71,20 @@ of_chunk-le c counts page chunks = sum-le (of_chunk c counts page) (of_chunk c e
 
 -- Marks.
 
-free_if : (b : Bool) (mark : Mark) (o : Option Mark) → is_free mark ≡ false → as_free (option_map (λ y. if b then mark else y) o) ≤ as_free o
-free_if b mark None f = omega arith
-free_if true mark (Some old) f = omega (arith, ap one_if f)
-free_if false mark (Some old) f = omega arith
-
 -- a mark that isn't free makes no page free
 pub free-painted : (test : ℕ → Bool) (mark : Mark) (marks : List Mark) (page : ℕ) → is_free mark ≡ false → as_free (slice_get (paint test mark marks) page) ≤ as_free (slice_get marks page)
-free-painted test mark marks page f = omega (arith, ap as_free (slice_get-paint test mark marks page), free_if (test page) mark (slice_get marks page) f)
-
-none_if : (b : Bool) (mark : Mark) (o : Option Mark) → is_free mark ≡ false → b ≡ true → as_free (option_map (λ y. if b then mark else y) o) ≡ 0
-none_if b mark None f e = refl
-none_if true mark (Some old) f e = ap one_if f
-none_if false mark (Some old) f e = absurd cc
+free-painted test mark marks page f = grind (arith, slice_get-paint)
 
 pub free-painted_here : (test : ℕ → Bool) (mark : Mark) (marks : List Mark) (page : ℕ) → is_free mark ≡ false → test page ≡ true → as_free (slice_get (paint test mark marks) page) ≡ 0
-free-painted_here test mark marks page f e = ap as_free (slice_get-paint test mark marks page) ∙ none_if (test page) mark (slice_get marks page) f e
-
-freed_if : (b : Bool) (o : Option Mark) → as_free (option_map (λ y. if b then Free else y) o) ≤ one_if b + as_free o
-freed_if b None = omega arith
-freed_if true (Some old) = omega arith
-freed_if false (Some old) = omega arith
+free-painted_here test mark marks page f e = grind (arith, slice_get-paint)
 
 -- pages that are freed
 pub free-freed : (test : ℕ → Bool) (marks : List Mark) (page : ℕ) → as_free (slice_get (paint test Free marks) page) ≤ one_if (test page) + as_free (slice_get marks page)
-free-freed test marks page = omega (arith, ap as_free (slice_get-paint test Free marks page), freed_if (test page) (slice_get marks page))
+free-freed test marks page = grind (arith, slice_get-paint)
 
 pub free-mark_live : (areas : List Area) (marks : List Mark) (page : ℕ) → as_free (slice_get (mark_live areas marks) page) ≤ as_free (slice_get marks page)
 free-mark_live [] marks page = omega arith
-free-mark_live (a ∷ areas) marks page =
-    omega (arith, free-mark_live areas (paint (holds a.span) (Live a.serial) marks) page, free-painted (holds a.span) (Live a.serial) marks page refl)
+free-mark_live (a ∷ areas) marks page = grind (arith, free-mark_live areas (paint (holds a.span) (Live a.serial) marks) page, free-painted)
 
 -- Spans.
 

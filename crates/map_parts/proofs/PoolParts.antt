@@ -1,16 +1,15 @@
 -- How often areas, blocks and chunks have a page after each change.
-use Rattle.std.proofs.Common.{◌≡◌, ℕ, zero, suc, ◌+◌, ◌<◌, ◌≤◌, ◌⊎◌, inl, inr, Bool, true, false, not, ◌&&◌, ◌==◌, nat_lt, if◌then◌else◌, List, [], ◌∷◌, map, filter, find, length, slice_get, sum_by, Option, Some, None, is_some, refl, ap, sym, ◌∙◌, arith}
+use Rattle.std.proofs.Common.{◌≡◌, ℕ, zero, suc, ◌+◌, ◌<◌, ◌≤◌, ◌⊎◌, inl, inr, Bool, true, false, not, ◌&&◌, ◌==◌, nat_lt, if◌then◌else◌, List, [], ◌∷◌, map, filter, length, slice_get, sum_by, Some, refl, ap, sym, ◌∙◌, arith}
 use Rattle.std.proofs.lemmas.List.Sums.{sum_by-cons}
 use Rattle.std.proofs.lemmas.Option.{same_Some}
 use Rattle.vm_model.specs.declared.areas.Span.{Span}
 use Rattle.vm_model.specs.declared.areas.Area.{Area}
 use Rattle.vm_model.specs.declared.areas.AreaKind.{AreaKind}
-use Rattle.vm_model.specs.declared.areas.AreaKind.TheVariants as kind
-use Rattle.vm_model.specs.Space.{span, holds, times, one_if, is_among, put_by}
+use Rattle.vm_model.specs.Space.{holds, times, one_if, is_among, put_by}
 use Rattle.vm_model.specs.Setup.{Setup, groups_at}
 use Rattle.vm_model.specs.PlainMap.{Block, Chunk, Ended}
 use Rattle.vm_model.specs.Areas.{named_areas, is_area, without_area, areas_of, with_areas, group_kinds}
-use Rattle.vm_model.specs.Blocks.{PartAt, free_of, queue_of, fragmented, is_fragmented, is_spent, change_block, with_life, set_life, spends, without_spent}
+use Rattle.vm_model.specs.Blocks.{PartAt, free_of, queue_of, fragmented, is_fragmented, change_block, set_life, spends, without_spent}
 use Rattle.vm_model.specs.Chunks.{change_chunk, spare_chunk}
 use Rattle.vm_model.specs.Places.{block_spans}
 use Rattle.map_parts.specs.Owners.{is_plain, other_than, times_from, of_area, of_block, of_chunk}
@@ -22,42 +21,20 @@ use Rattle.map_parts.proofs.Tests.{and_less, both_true, is_equal, is_same}
 
 pub blocks_changed : (c : Setup) (counts : ℕ → Bool) (page start : ℕ) (change : Block → Block) (blocks : List Block) → ((b : Block) → (change b).start ≡ b.start)
     → sum_by (of_block c counts page) (change_block start change blocks) ≡ sum_by (of_block c counts page) blocks
-blocks_changed c counts page start change blocks keeps =
-    sum-map (of_block c counts page) (λ (b : Block). if b.start == start then change b else b) blocks
-    ∙ sum-same (λ b. of_block c counts page (if b.start == start then change b else b)) (of_block c counts page) blocks (λ b. by_test b (b.start == start))
-  where
-    by_test : (b : Block) (t : Bool) → of_block c counts page (if t then change b else b) ≡ of_block c counts page b
-    by_test b true = ap (λ s. one_if (counts s && holds (span s c.block_pages) page)) (keeps b)
-    by_test b false = refl
+blocks_changed c counts page start change blocks keeps = grind (arith, sum-map, sum-same)
 
 pub blocks_left : (c : Setup) (counts : ℕ → Bool) (page : ℕ) (at : PartAt) (blocks : List Block)
     → sum_by (of_block c counts page) (without_spent c (set_life at Ended blocks)) ≤ sum_by (of_block c counts page) blocks
-blocks_left c counts page at blocks =
-    omega (arith, sum-filter-le (of_block c counts page) (λ (b : Block). not (is_spent c b)) (set_life at Ended blocks), blocks_changed c counts page at.block (with_life at Ended) blocks (λ b. refl))
-
-spent_by : (c : Setup) (counts : ℕ → Bool) (page : ℕ) (at : PartAt) (blocks : List Block) (o : Option Block) → find (λ (b : Block). (b.start == at.block) && is_spent c b) (set_life at Ended blocks) ≡ o → is_some o ≡ true
-    → sum_by (of_block c counts page) (without_spent c (set_life at Ended blocks)) + one_if (counts at.block && holds (span at.block c.block_pages) page) ≤ sum_by (of_block c counts page) blocks
-spent_by c counts page at blocks None e h = absurd cc
-spent_by c counts page at blocks (Some b) e h =
-    let found = found_there (λ (b : Block). (b.start == at.block) && is_spent c b) (set_life at Ended blocks) b e in
-    let is = both_true (b.start == at.block) (is_spent c b) found.0 in
-    omega (
-      arith,
-      sum-filter_without (of_block c counts page) (λ (b : Block). not (is_spent c b)) (set_life at Ended blocks) found.1.0 b found.1.1 (ap not is.1),
-      ap (λ s. one_if (counts s && holds (span s c.block_pages) page)) (is_same b.start at.block is.0),
-      blocks_changed c counts page at.block (with_life at Ended) blocks (λ b. refl),
-    )
+blocks_left c counts page at blocks = grind (arith, sum-filter-le, blocks_changed)
 
 -- a spent block passes from the list to its caller
 pub block_spent : (c : Setup) (counts : ℕ → Bool) (page : ℕ) (at : PartAt) (blocks : List Block) → spends c at (set_life at Ended blocks) ≡ true
     → sum_by (of_block c counts page) (without_spent c (set_life at Ended blocks)) + times_from counts page (block_spans c (at.block ∷ [])) ≤ sum_by (of_block c counts page) blocks
-block_spent c counts page at blocks h = omega (arith, spent_by c counts page at blocks _ refl h)
+block_spent c counts page at blocks h = grind (arith, found_there, both_true, sum-filter_without, is_same, blocks_changed)
 
 -- and so do fragmented blocks
 times_from-starts : (c : Setup) (counts : ℕ → Bool) (page : ℕ) (blocks : List Block) → times_from counts page (block_spans c (map (λ (b : Block). b.start) blocks)) ≡ sum_by (of_block c counts page) blocks
-times_from-starts c counts page blocks =
-    sum-map (λ (s : Span). one_if (counts s.start && holds s page)) (λ start. span start c.block_pages) (map (λ (b : Block). b.start) blocks)
-    ∙ sum-map (λ start. one_if (counts start && holds (span start c.block_pages) page)) (λ (b : Block). b.start) blocks
+times_from-starts c counts page blocks = grind (arith, sum-map)
 
 left_out : (a b : Bool) → (not (a && b)) ≡ true → (a ≡ true → b ≡ true) → a ≡ false
 left_out true b h f = let e = f refl in absurd cc
@@ -91,20 +68,12 @@ blocks_leave c counts page cpu blocks =
 
 pub chunks_changed : (c : Setup) (counts : ℕ → Bool) (page number : ℕ) (change : Chunk → Chunk) (chunks : List Chunk) → ((h : Chunk) → (change h).base ≡ h.base)
     → sum_by (of_chunk c counts page) (change_chunk number change chunks) ≡ sum_by (of_chunk c counts page) chunks
-chunks_changed c counts page number change chunks keeps =
-    sum-map (of_chunk c counts page) (λ (h : Chunk). if h.number == number then change h else h) chunks
-    ∙ sum-same (λ h. of_chunk c counts page (if h.number == number then change h else h)) (of_chunk c counts page) chunks (λ h. by_test h (h.number == number))
-  where
-    by_test : (h : Chunk) (t : Bool) → of_chunk c counts page (if t then change h else h) ≡ of_chunk c counts page h
-    by_test h true = ap (λ base. times_from counts page (groups_at c base)) (keeps h)
-    by_test h false = refl
+chunks_changed c counts page number change chunks keeps = grind (arith, sum-map, sum-same)
 
 -- a spare chunk passes to its caller
 pub chunk_spared : (c : Setup) (counts : ℕ → Bool) (page : ℕ) (chunks : List Chunk) (h : Chunk) → spare_chunk chunks ≡ Some h
     → sum_by (of_chunk c counts page) (filter (λ (other : Chunk). not (other.number == h.number)) chunks) + times_from counts page (groups_at c h.base) ≤ sum_by (of_chunk c counts page) chunks
-chunk_spared c counts page chunks h e =
-    let w = filter_within (λ (h : Chunk). length h.objects == 0) chunks 1 h e in
-    sum-filter_without (of_chunk c counts page) (λ (other : Chunk). not (other.number == h.number)) chunks w.0 h w.1 (ap not (is_equal h.number h.number refl))
+chunk_spared c counts page chunks h e = grind (arith, filter_within, sum-filter_without, is_equal)
 
 -- Areas.
 
@@ -147,12 +116,7 @@ areas_then (b ∷ new) areas i a h = elim (areas_then new (put_by (λ (b : Area)
 -- the areas of a chunk are not plain
 pub groups_not_plain : (page caller serial chunk group : ℕ) (spans : List Span) → sum_by (of_area page) (areas_of caller serial (group_kinds chunk group spans)) ≡ 0
 groups_not_plain page caller serial chunk group [] = refl
-groups_not_plain page caller serial chunk group (s ∷ spans) =
-    omega (
-      arith,
-      groups_not_plain page caller (suc serial) chunk (suc group) spans,
-      sum_by-cons (of_area page) (record { span = s; kind = kind.Chunk chunk group; caller = caller; serial = serial }) (areas_of caller (suc serial) (group_kinds chunk (suc group) spans)),
-    )
+groups_not_plain page caller serial chunk group (s ∷ spans) = grind (arith, groups_not_plain page caller (suc serial) chunk (suc group) spans, sum_by-cons)
 
 -- each new area has one of the spans
 pub areas_of_were : (caller serial : ℕ) (ps : List (Span × AreaKind)) (i : ℕ) (a : Area) → slice_get (areas_of caller serial ps) i ≡ Some a → (p : Span × AreaKind) × (slice_get ps i ≡ Some p) × (a.span ≡ p.0) × (a.kind ≡ p.1) × (serial ≤ a.serial) × (a.serial < serial + length ps)
@@ -164,11 +128,7 @@ areas_of_were caller serial (p ∷ ps) (suc i) a h = let w = areas_of_were calle
 
 pub group_kinds_were : (chunk group : ℕ) (spans : List Span) (i : ℕ) (p : Span × AreaKind) → slice_get (group_kinds chunk group spans) i ≡ Some p → slice_get spans i ≡ Some p.0
 group_kinds_were chunk group [] i p h = absurd cc
-group_kinds_were chunk group (s ∷ spans) zero p h = ap (λ (o : Option (Span × AreaKind)). first_of o s) h
-  where
-    first_of : Option (Span × AreaKind) → Span → Option Span
-    first_of None s = None
-    first_of (Some p) s = Some p.0
+group_kinds_were chunk group (s ∷ spans) zero p h = grind arith
 group_kinds_were chunk group (s ∷ spans) (suc i) p h = group_kinds_were chunk (suc group) spans i p h
 
 -- a plain area that is removed passes to its caller

@@ -1,36 +1,27 @@
 -- Every reached world keeps apart: the first one does, each legal event is a step, and the callers begin without pages.
-use Rattle.std.proofs.Common.{◌≡◌, ℕ, zero, suc, ◌+◌, ◌≤◌, inl, inr, Bool, List, [], ◌∷◌, ◌++◌, length, replicate, slice_get, Option, Some, None, refl, ap, sym, ◌∙◌, subst, arith}
+use Rattle.std.proofs.Common.{◌≡◌, ℕ, zero, suc, ◌+◌, inl, inr, Bool, List, [], ◌∷◌, ◌++◌, length, slice_get, Option, Some, refl, ap, sym, subst, arith}
 use Rattle.std.proofs.lemmas.List.{length-replicate, length-set}
 use Rattle.std.proofs.lemmas.List.Sums.{sum_by-cons, sum_by-append}
 use Rattle.std.proofs.lemmas.Option.{same_Some}
 use Rattle.vm_model.specs.declared.calls.Call.{Call}
-use Rattle.vm_model.specs.declared.calls.Call.TheVariants.{MapRam}
-use Rattle.vm_model.specs.Setup.{Setup, cpus}
-use Rattle.vm_model.specs.PlainMap.{PlainMap, Mark, Free, is_free, at_first}
-use Rattle.vm_model.specs.Laws.{as_free}
+use Rattle.vm_model.specs.Setup.{Setup}
+use Rattle.vm_model.specs.PlainMap.{PlainMap, at_first}
 use Rattle.vm_model.specs.Events.{Event}
-use Rattle.vm_model.specs.Places.{ask}
-use Rattle.vm_model.specs.Next.{next}
 use Rattle.vm_model.specs.Calls.{Answered, begin}
-use Rattle.vm_model.specs.History.{World, Local, started, moved_to, made_if, step_of, placing_calls, opening_world, opening_answers, callers_from, with_callers}
+use Rattle.vm_model.specs.History.{World, Local, started, step_of, placing_calls, opening_world, opening_answers, callers_from, with_callers}
 use Rattle.vm_model.specs.LegalHistory.{IsNext, IsNextOf, after_event, after_event_of, world_after, IsRun, callers_world}
-use Rattle.vm_model.specs.Rules.{IsSetup, IsTrace, IsRuled, AreRuled}
+use Rattle.vm_model.specs.Rules.{IsSetup, IsTrace, AreRuled}
 use Rattle.vm_model.proofs.OneNext.{at_most_one}
-use Rattle.map_parts.specs.Owners.{pool_of, every, of_place, of_locals, HaveOneOwner}
+use Rattle.map_parts.specs.Owners.{pool_of, of_place, of_locals, HaveOneOwner}
 use Rattle.map_parts.specs.Kept.{AreSoundAnswers, IsSoundCall, IsSoundLocal, IsWhole, KeepsApart, ReachedWorldsKeepApart}
 use Rattle.map_parts.proofs.Beginnings.{IsBeginning, begins}
 use Rattle.map_parts.proofs.StepKeeps.{steps_keep_apart}
 use Rattle.map_parts.proofs.Tests.{one_at_most}
 use Rattle.map_parts.proofs.Filters.{append_at}
 
--- the calls of a trace are sound
-sound_if_ruled : (c : Setup) (opening before : List Call) (call : Call) → IsRuled c opening before call → IsSoundCall c call
-sound_if_ruled c opening before (MapRam cpu pages) ruled = ruled
-sound_if_ruled c opening before _ ruled = tt
-
 sound_calls : (c : Setup) (opening before calls : List Call) → AreRuled c opening before calls → (i : ℕ) (call : Call) → slice_get calls i ≡ Some call → IsSoundCall c call
 sound_calls c opening before [] ruled i call at = absurd cc
-sound_calls c opening before (first ∷ calls) ruled zero call at = let same : first ≡ call = cc in subst (IsSoundCall c) same (sound_if_ruled c opening before first ruled.0)
+sound_calls c opening before (first ∷ calls) ruled zero call at = grind arith
 sound_calls c opening before (first ∷ calls) ruled (suc i) call at = sound_calls c opening (before ++ first ∷ []) calls ruled.1 i call at
 
 -- a caller at its start
@@ -57,27 +48,14 @@ starts c m opening k calls is answers sound =
 
 -- The first world.
 
-free_at_most : (o : Option Mark) → as_free o ≤ 1
-free_at_most None = omega arith
-free_at_most (Some mark) = one_at_most (is_free mark)
-
 first_whole : (c : Setup) (room : ℕ) → IsWhole c (at_first c room)
-first_whole c room = record {
-  marks = length-replicate c.space Free;
-  next_parts = length-replicate {A = ℕ} (cpus c) 1;
-  serials = λ i a at. absurd cc;
-  blocks = λ i b at. absurd cc;
-}
+first_whole c room = grind (arith, length-replicate)
 
 first_owners : (c : Setup) (room : ℕ) (l : Local) → ((counts : ℕ → Bool) (page : ℕ) → of_place c l.place counts page ≡ 0) → HaveOneOwner c (pool_of (at_first c room)) (of_locals c (l ∷ []))
-first_owners c room l none = record {
-  once = λ page. omega (arith, none every page, free_at_most (slice_get (replicate c.space Free) page));
-  areas = λ i a at plain page on. absurd cc;
-}
+first_owners c room l none = grind (arith, one_at_most)
 
 first_locals : (c : Setup) (m : PlainMap) (l : Local) → IsSoundLocal c m 0 l → (j : ℕ) (x : Local) → slice_get (l ∷ []) j ≡ Some x → IsSoundLocal c m j x
-first_locals c m l sound zero x at = let same : l ≡ x = cc in subst (IsSoundLocal c m 0) same sound
-first_locals c m l sound (suc j) x at = absurd cc
+first_locals c m l sound j x at = grind arith
 
 pub opening_keeps : (c : Setup) (opening : List Call) (calls : List (List Call)) → IsTrace c opening calls → KeepsApart c (opening_world c opening calls)
 opening_keeps c opening calls trace =
@@ -92,30 +70,22 @@ opening_keeps c opening calls trace =
 -- Legal events are steps.
 
 event_is_step : (w : World) (e : Event) (o : Option Local) → IsNextOf w e o → after_event_of w e o ≡ step_of w o
-event_is_step w e None h = absurd h
-event_is_step w e (Some l) h = ap (made_if w l) (sym (at_most_one l.setup w.map e.caller (ask l.setup l.place) e.section h.0 h.1))
+event_is_step w e o h = grind (arith, at_most_one)
 
 event_keeps : (c : Setup) (w : World) (e : Event) → IsSetup c → KeepsApart c w → IsNext w e → KeepsApart c (after_event w e)
 event_keeps c w e is kept h = subst (KeepsApart c) (sym (event_is_step w e (slice_get w.locals e.caller) h)) (steps_keep_apart c w e.caller is kept)
 
-many_locals : (w : World) (e : Event) (o : Option Local) → length (after_event_of w e o).locals ≡ length w.locals
-many_locals w e None = refl
-many_locals w e (Some l) = length-set w.locals l.caller (moved_to l (next l.setup l.place e.section))
-
 pub run_keeps : (c : Setup) (w : World) (events : List Event) → IsSetup c → KeepsApart c w → IsRun w events → KeepsApart c (world_after w events) × (length (world_after w events).locals ≡ length w.locals)
 run_keeps c w [] is kept run = (kept, refl)
-run_keeps c w (e ∷ events) is kept run =
-    let more = run_keeps c (after_event w e) events is (event_keeps c w e is kept run.0) run.1 in (more.0, more.1 ∙ many_locals w e (slice_get w.locals e.caller))
+run_keeps c w (e ∷ events) is kept run = grind (arith, run_keeps c (after_event w e) events is (event_keeps c w e is kept run.0) run.1, steps_keep_apart, length-set, at_most_one)
 
 -- The callers after the opening.
 
 from_callers : (c : Setup) (opening : List Answered) (k : ℕ) (lists : List (List Call)) (i : ℕ) (l : Local) → slice_get (callers_from c opening k lists) i ≡ Some l
     → (own : List Call) × (slice_get lists i ≡ Some own) × (l ≡ started c opening (k + i) own)
 from_callers c opening k [] i l at = absurd cc
-from_callers c opening k (own ∷ lists) zero l at =
-    let same : l ≡ started c opening k own = sym (same_Some (started c opening k own) l at) in let first : k ≡ k + 0 = omega arith in (own, refl, same ∙ ap (λ n. started c opening n own) first)
-from_callers c opening k (own ∷ lists) (suc i) l at =
-    let w = from_callers c opening (suc k) lists i l at in let later : suc k + i ≡ k + suc i = omega arith in (w.0, w.1, w.2 ∙ ap (λ n. started c opening n w.0) later)
+from_callers c opening k (own ∷ lists) zero l at = grind (arith, same_Some)
+from_callers c opening k (own ∷ lists) (suc i) l at = grind (arith, from_callers c opening (suc k) lists i l at)
 
 none_yet : (c : Setup) (counts : ℕ → Bool) (page : ℕ) (locals : List Local) → ((i : ℕ) (l : Local) → slice_get locals i ≡ Some l → of_place c l.place counts page ≡ 0) → of_locals c locals counts page ≡ 0
 none_yet c counts page [] h = refl

@@ -1,5 +1,5 @@
 -- The pages that a search finds are free, and each of them is found once.
-use Rattle.std.proofs.Common.{◌≡◌, ℕ, zero, suc, ◌+◌, ◌-◌, ◌%◌, ◌<◌, ◌≤◌, Bool, true, false, not, ◌||◌, ◌==◌, nat_le, List, [], ◌∷◌, map, filter, length, slice_get, slice_index, Option, Some, None, refl, ap, sym, ◌∙◌, subst, arith, option_map}
+use Rattle.std.proofs.Common.{◌≡◌, ℕ, zero, suc, ◌+◌, ◌-◌, ◌%◌, ◌<◌, ◌≤◌, Bool, true, false, not, ◌||◌, ◌==◌, nat_le, List, [], ◌∷◌, map, filter, length, slice_get, slice_index, Some, refl, ap, sym, ◌∙◌, subst, arith}
 use Rattle.std.specs.List.{list_all}
 use Rattle.std.proofs.lemmas.Bool.Decides.{nat_tests}
 use Rattle.std.proofs.lemmas.Option.{slice_get-map}
@@ -7,7 +7,7 @@ use Rattle.std.proofs.lemmas.List.Sums.{sum_by-cons}
 use Rattle.vm_model.specs.declared.areas.Span.{Span}
 use Rattle.vm_model.specs.Space.{span, holds, covers, times, one_if, paint, count_from, free_from, one_longer, lowest}
 use Rattle.vm_model.specs.Setup.{Setup, groups_at, groups_fit, last_of, highest}
-use Rattle.vm_model.specs.PlainMap.{PlainMap, Mark, Free, taken, is_free}
+use Rattle.vm_model.specs.PlainMap.{PlainMap, Mark, taken, is_free}
 use Rattle.vm_model.specs.Laws.{as_free}
 use Rattle.vm_model.specs.Rules.{AreApart, AreDisjoint, IsSetup}
 use Rattle.vm_model.proofs.PaintRuns.{lowest_is_free}
@@ -21,13 +21,8 @@ holds_bounds s page h = (grind (arith, nat_tests), grind (arith, nat_tests))
 pub holds_within : (s : Span) (page : ℕ) → s.start ≤ page → page < s.start + s.pages → holds s page ≡ true
 holds_within s page a b = grind (arith, nat_tests)
 
-free_mark : (o : Option Mark) → option_map (λ mark. not (is_free mark)) o ≡ Some false → as_free o ≡ 1
-free_mark None h = absurd cc
-free_mark (Some Free) h = refl
-free_mark (Some _) h = absurd cc
-
 not_taken : (marks : List Mark) (page : ℕ) → slice_get (map (λ mark. not (is_free mark)) marks) page ≡ Some false → as_free (slice_get marks page) ≡ 1
-not_taken marks page h = free_mark (slice_get marks page) (sym (slice_get-map (λ mark. not (is_free mark)) marks page) ∙ h)
+not_taken marks page h = grind (arith, slice_get-map, nat_tests)
 
 -- the pages of the lowest fit
 pub found_free : (m : PlainMap) (pages align start page : ℕ) → lowest (taken m) pages align ≡ Some start → holds (span start pages) page ≡ true → as_free (slice_get m.marks page) ≡ 1
@@ -56,10 +51,9 @@ free_longer taken (n ∷ counts) zero (suc k) h more = let z : 0 + suc k ≡ suc
 free_longer taken (n ∷ counts) (suc start) k h more = moved_on false taken start k ∙ more start k h
 
 free_run : (taken : List Bool) (start k : ℕ) → k < slice_index (free_from taken) start → slice_get taken (start + k) ≡ Some false
-free_run [] start k h = none_below k 0 h refl
-free_run (true ∷ taken) zero k h = none_below k 0 h refl
 free_run (true ∷ taken) (suc start) k h = moved_on true taken start k ∙ free_run taken start k h
 free_run (false ∷ taken) start k h = free_longer taken (free_from taken) start k h (free_run taken)
+free_run _ _ k h = none_below k 0 h refl
 
 -- The groups of a chunk.
 
@@ -132,13 +126,7 @@ groups_once c base page is = disjoint_once (groups_at c base) (groups_disjoint c
 
 times_none : (spans : List Span) (page : ℕ) → covers spans page ≡ false → times page spans ≡ 0
 times_none [] page h = refl
-times_none (s ∷ spans) page h =
-    let here : holds s page ≡ false = grind arith in
-    let rest : covers spans page ≡ false = or_rest (holds s page) _ h in
-    omega (arith, sum_by-cons (λ (s : Span). one_if (holds s page)) s spans, ap one_if here, times_none spans page rest)
-  where
-    or_rest : (a b : Bool) → (a || b) ≡ false → b ≡ false
-    or_rest a b h = grind arith
+times_none (s ∷ spans) page h = grind (arith, times_none spans page, sum_by-cons, nat_tests)
 
 carved_by : (test : ℕ → Bool) (mark : Mark) (marks : List Mark) (spans : List Span) (page : ℕ) (b : Bool) → is_free mark ≡ false → test page ≡ b → covers spans page ≡ b → times page spans ≤ 1
     → (b ≡ true → as_free (slice_get marks page) ≡ 1) → as_free (slice_get (paint test mark marks) page) + times page spans ≤ as_free (slice_get marks page)

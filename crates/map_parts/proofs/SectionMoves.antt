@@ -1,12 +1,12 @@
 -- What each kind of section does to the owners of pages.
-use Rattle.std.proofs.Common.{◌≡◌, ℕ, ◌+◌, ◌≤◌, inl, inr, Bool, true, false, not, ◌&&◌, ◌||◌, ◌==◌, List, [], ◌∷◌, slice_get, sum_by, Some, refl, ap, sym, ◌∙◌, subst, arith}
+use Rattle.std.proofs.Common.{◌≡◌, ℕ, ◌+◌, ◌≤◌, inl, inr, Bool, true, false, not, ◌&&◌, ◌||◌, List, [], ◌∷◌, slice_get, sum_by, Some, refl, ap, sym, ◌∙◌, subst, arith}
 use Rattle.vm_model.specs.declared.areas.Span.{Span}
 use Rattle.vm_model.specs.declared.areas.Area.{Area}
 use Rattle.vm_model.specs.declared.areas.AreaKind.{AreaKind}
 use Rattle.vm_model.specs.Space.{span, holds, covers, times, one_if, is_among, lowest}
 use Rattle.vm_model.specs.Setup.{Setup, groups_at, highest}
-use Rattle.vm_model.specs.PlainMap.{PlainMap, Held, Waits, Flushing, Block, Chunk, taken}
-use Rattle.vm_model.specs.Areas.{is_area, named_areas, areas_starting, spans_of, areas_of}
+use Rattle.vm_model.specs.PlainMap.{PlainMap, Held, Flushing, Block, Chunk, taken}
+use Rattle.vm_model.specs.Areas.{is_area, named_areas, areas_of}
 use Rattle.vm_model.specs.Events.{Carve, CarveGroups, Drop, Return, Settle, Remove, Unlink, Wait, TakeWaiting}
 use Rattle.vm_model.specs.Effects.{effect_as}
 use Rattle.vm_model.specs.Rules.{IsSetup}
@@ -42,12 +42,7 @@ module _ (c : Setup) (m : PlainMap) (k : ℕ) (own own' : (ℕ → Bool) → ℕ
   pub carve_groups_moves : (base : ℕ) → IsSetup c → highest c (taken m) ≡ Some base
       → ((counts : ℕ → Bool) (page : ℕ) → own' counts page ≤ own counts page + times page (groups_at c base))
       → MovesApart c (pool_of m) (pool_of (effect_as c m k (CarveGroups base))) own own'
-  carve_groups_moves base is h less =
-      moves_balanced c _ _ own own' same_areas (λ counts page. omega (
-        arith,
-        less counts page,
-        carved_balance (covers (groups_at c base)) (Held k) m.marks (groups_at c base) page refl refl (groups_once c base page is) (λ on. groups_free c m base page h on),
-      ))
+  carve_groups_moves base is h less = grind (arith, moves_balanced, same_areas, carved_balance, groups_once, groups_free)
 
   pub drop_moves : (s : Span) → ((counts : ℕ → Bool) (page : ℕ) → own' counts page + times page (s ∷ []) ≤ own counts page)
       → MovesApart c (pool_of m) (pool_of (effect_as c m k (Drop s))) own own'
@@ -55,15 +50,13 @@ module _ (c : Setup) (m : PlainMap) (k : ℕ) (own own' : (ℕ → Bool) → ℕ
 
   pub return_moves : (spans : List Span) → ((counts : ℕ → Bool) (page : ℕ) → own' counts page + times page spans ≤ own counts page)
       → MovesApart c (pool_of m) (pool_of (effect_as c m k (Return spans))) own own'
-  return_moves spans less =
-      moves_balanced c _ _ own own' same_areas (λ counts page. omega (arith, less counts page, free-freed (covers spans) m.marks page, covers-le-times spans page))
+  return_moves spans less = grind (arith, moves_balanced, same_areas, free-freed, covers-le-times)
 
   -- Waiting spans.
 
   pub wait_moves : (spans : List Span) (waiting : ℕ) → ((counts : ℕ → Bool) (page : ℕ) → own' counts page + times page spans ≤ own counts page)
       → MovesApart c (pool_of m) (pool_of (effect_as c m k (Wait spans waiting))) own own'
-  wait_moves spans waiting less =
-      moves_balanced c _ _ own own' same_areas (λ counts page. omega (arith, less counts page, free-painted (covers spans) Waits m.marks page refl, times-append page m.waiting spans))
+  wait_moves spans waiting less = grind (arith, moves_balanced, same_areas, free-painted, times-append)
 
   pub take_waiting_moves : ((counts : ℕ → Bool) (page : ℕ) → own' counts page ≤ own counts page + times page m.waiting)
       → MovesApart c (pool_of m) (pool_of (effect_as c m k (TakeWaiting m.waiting))) own own'
@@ -126,32 +119,9 @@ module _ (c : Setup) (m : PlainMap) (k : ℕ) (own own' : (ℕ → Bool) → ℕ
       moves_balanced c _ _ own own' (λ i b at. filter_within (λ b. not (is_area start serial b)) m.areas i b at)
       (λ counts page. omega (arith, less counts page, area_removed page start serial m.areas a rest e plain, free-painted (holds a.span) (Held k) m.marks page refl))
 
-  -- areas with these starts, whose blocks or chunk their caller has
-  not_among : (starts : List ℕ) (other start : ℕ) → is_among starts other ≡ false → is_among starts start ≡ true → other_than other start ≡ true
-  not_among starts other start isnt is = by_test (start == other) refl
-    where
-      by_test : (b : Bool) → (start == other) ≡ b → not b ≡ true
-      by_test true e = let clash : is_among starts other ≡ true = ap (is_among starts) (sym (is_same start other e)) ∙ is in absurd cc
-      by_test false e = refl
-
   pub unlink_moves : (starts : List ℕ) → ((counts : ℕ → Bool) (page : ℕ) → ((start : ℕ) → is_among starts start ≡ true → counts start ≡ true) → own' counts page ≤ own counts page)
       → MovesApart c (pool_of m) (pool_of (effect_as c m k (Unlink starts))) own own'
-  unlink_moves starts less =
-      let balanced : (counts : ℕ → Bool) (page : ℕ) → ((start : ℕ) → is_among starts start ≡ true → counts start ≡ true)
-      → IsBalanced c (pool_of m) (pool_of (effect_as c m k (Unlink starts))) own own' counts page =
-      λ counts page all. omega (
-        arith,
-        less counts page all,
-        sum-filter-le (of_area page) (λ (a : Area). not (is_among starts a.span.start)) m.areas,
-        free-painted (covers (spans_of (areas_starting starts m.areas))) (Held k) m.marks page refl,
-      ) in
-      record {
-        once = λ page. balanced every page (λ start e. refl);
-        areas = λ i a at isnt page on.
-            let w = filter_within (λ (a : Area). not (is_among starts a.span.start)) m.areas i a at in
-            let stays = not_true _ (filter_passes (λ (a : Area). not (is_among starts a.span.start)) m.areas i a at) in
-            inl (w.0, w.1, balanced (other_than a.span.start) page (λ start e. not_among starts a.span.start start stays e));
-      }
+  unlink_moves starts less = grind (arith, sum-filter-le, free-painted, filter_within, not_true, filter_passes, is_same)
 
   -- Blocks and chunks.
 

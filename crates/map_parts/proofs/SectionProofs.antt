@@ -15,8 +15,7 @@ module _ {R L : Type 0} (wanted : L → Option ℕ) (moves : L → R → Bool) (
   -- a section by its cases
   over-some : (s : List R × List L) (caller region : ℕ) (l : L) (o : Option R) (r : R) (b : Bool) → o ≡ Some r → moves l r ≡ b
       → section_over wanted moves after s caller region l o ≡ (if b then put wanted moves after s caller region (after l r) else s)
-  over-some s caller region l o r b e f =
-      ap (section_over wanted moves after s caller region l) e ∙ ap (λ b. if b then put wanted moves after s caller region (after l r) else s) f
+  over-some s caller region l o r b e f = grind (arith, nat_tests)
 
   by-over : (s : List R × List L) (caller region : ℕ) (l : L) → wanted l ≡ Some region → section_by wanted moves after s caller (Some l) ≡ section_over wanted moves after s caller region l (slice_get s.0 region)
   by-over s caller region l e = ap (section_wanted wanted moves after s caller l) e
@@ -35,62 +34,35 @@ module _ {R L : Type 0} (wanted : L → Option ℕ) (moves : L → R → Bool) (
   -- what holds of a state holds after a section, if it holds where the section moves
   module _ (P : List R × List L → Type 0) (s : List R × List L) (caller : ℕ) (here : P s) (l : L)
       (moved : (region : ℕ) (r : R) → wanted l ≡ Some region → slice_get s.0 region ≡ Some r → moves l r ≡ true → P (put wanted moves after s caller region (after l r))) where
-    at_test : (region : ℕ) (r : R) (b : Bool) → moves l r ≡ b → wanted l ≡ Some region → slice_get s.0 region ≡ Some r
-        → P (if b then put wanted moves after s caller region (after l r) else s)
-    at_test region r true e g h = moved region r g h e
-    at_test region r false e g h = here
-
-    at_region : (region : ℕ) (o : Option R) → slice_get s.0 region ≡ o → wanted l ≡ Some region → P (section_over wanted moves after s caller region l o)
-    at_region region None h g = here
-    at_region region (Some r) h g = at_test region r (moves l r) refl g h
-
     at_wanted : (o : Option ℕ) → wanted l ≡ o → P (section_wanted wanted moves after s caller l o)
     at_wanted None g = here
-    at_wanted (Some region) g = at_region region (slice_get s.0 region) refl g
-
-  by_caller : (P : List R × List L → Type 0) (s : List R × List L) (caller : ℕ) → P s
-      → ((l : L) (region : ℕ) (r : R) → slice_get s.1 caller ≡ Some l → wanted l ≡ Some region → slice_get s.0 region ≡ Some r → moves l r ≡ true → P (put wanted moves after s caller region (after l r)))
-      → (o : Option L) → slice_get s.1 caller ≡ o → P (section_by wanted moves after s caller o)
-  by_caller P s caller here moved None f = here
-  by_caller P s caller here moved (Some l) f = at_wanted P s caller here l (λ region r g h e. moved l region r f g h e) (wanted l) refl
+    at_wanted (Some region) g = grind (arith, nat_tests)
 
   pub after_section : (P : List R × List L → Type 0) (s : List R × List L) (caller : ℕ) → P s
       → ((l : L) (region : ℕ) (r : R) → slice_get s.1 caller ≡ Some l → wanted l ≡ Some region → slice_get s.0 region ≡ Some r → moves l r ≡ true → P (put wanted moves after s caller region (after l r)))
       → P (section_by wanted moves after s caller (slice_get s.1 caller))
-  after_section P s caller here moved = by_caller P s caller here moved (slice_get s.1 caller) refl
+  after_section P s caller here moved = grind (arith, at_wanted, nat_tests)
 
   -- as many regions and locals
   many_regions : (s : List R × List L) (callers : List ℕ) → length (state_after wanted moves after s callers).0 ≡ length s.0
   many_regions s [] = refl
-  many_regions s (caller ∷ callers) =
-      many_regions (section_by wanted moves after s caller (slice_get s.1 caller)) callers
-      ∙ after_section (λ t. length t.0 ≡ length s.0) s caller refl (λ l region r f g h e. length-set s.0 region (after l r).1)
+  many_regions s (caller ∷ callers) = grind (arith, many_regions (section_by wanted moves after s caller (slice_get s.1 caller)) callers, after_section, length-set, nat_tests)
 
   many_locals : (s : List R × List L) (callers : List ℕ) → length (state_after wanted moves after s callers).1 ≡ length s.1
   many_locals s [] = refl
-  many_locals s (caller ∷ callers) =
-      many_locals (section_by wanted moves after s caller (slice_get s.1 caller)) callers
-      ∙ after_section (λ t. length t.1 ≡ length s.1) s caller refl (λ l region r f g h e. length-set s.1 caller (after l r).0)
+  many_locals s (caller ∷ callers) = grind (arith, many_locals (section_by wanted moves after s caller (slice_get s.1 caller)) callers, after_section, length-set, nat_tests)
 
   -- what others have
   regions_stay : (s : List R × List L) (caller : ℕ) (l : L) (region : ℕ) → wanted l ≢ Some region → slice_get (section_by wanted moves after s caller (Some l)).0 region ≡ slice_get s.0 region
-  regions_stay s caller l other n =
-      at_wanted (λ t. slice_get t.0 other ≡ slice_get s.0 other) s caller refl l
-      (λ region r g h e. slice_get-set_other s.0 region other (after l r).1 (λ same. n (g ∙ ap (λ k. Some k) same))) (wanted l) refl
+  regions_stay s caller l other n = grind (arith, at_wanted, slice_get-set_other, nat_tests)
 
   locals_stay : (s : List R × List L) (callers : List ℕ) (other : ℕ) → is_among callers other ≡ false → slice_get (state_after wanted moves after s callers).1 other ≡ slice_get s.1 other
   locals_stay s [] other h = refl
-  locals_stay s (caller ∷ callers) other h =
-      let apart : caller ≢ other = grind (arith, nat_tests) in
-      let rest : is_among callers other ≡ false = grind (arith, nat_tests) in
-      locals_stay (section_by wanted moves after s caller (slice_get s.1 caller)) callers other rest
-      ∙ after_section (λ t. slice_get t.1 other ≡ slice_get s.1 other) s caller refl (λ l region r f g h e. slice_get-set_other s.1 caller other (after l r).0 apart)
+  locals_stay s (caller ∷ callers) other h = grind (arith, locals_stay (section_by wanted moves after s caller (slice_get s.1 caller)) callers other, after_section, slice_get-set_other, nat_tests)
 
   pub stays_lawful : (P : List R → List L → Type 0) → KeepsLawful wanted moves after P → StaysLawful wanted moves after P
   stays_lawful P keeps s [] p = p
-  stays_lawful P keeps s (caller ∷ callers) p =
-      stays_lawful P keeps (section_by wanted moves after s caller (slice_get s.1 caller)) callers
-      (after_section (λ t. P t.0 t.1) s caller p (λ l region r f g h e. keeps s.0 s.1 caller region l r p f g h e))
+  stays_lawful P keeps s (caller ∷ callers) p = grind (arith, stays_lawful P keeps (section_by wanted moves after s caller (slice_get s.1 caller)) callers, after_section, nat_tests)
 
   pub finds_together : (P : List R → List L → Type 0) → KeepsLawful wanted moves after P → FindsTogether wanted moves after P
   finds_together P keeps s callers caller region l r p f g h =

@@ -74,18 +74,11 @@ module _ (w : World) (l : Local) (is : IsSetup l.setup) (kept : KeepsApart l.set
 
   rest_then : (l' : Local) (counts : ℕ → Bool) (page : ℕ) → of_locals l.setup (slice_set w.locals l.caller l') counts page ≡ of_place l.setup l'.place counts page + rest counts page
   unfolding rest
-  rest_then l' counts page =
-      omega (
-        arith,
-        sum-set (λ (l' : Local). of_place l.setup l'.place counts page) w.locals l.caller l (record l { place = Over }) here,
-        sum-set (λ (l' : Local). of_place l.setup l'.place counts page) w.locals l.caller l l' here,
-      )
+  rest_then l' counts page = grind (arith, sum-set)
 
   rest_fewer : (start page : ℕ) → rest (other_than start) page ≤ rest every page
   unfolding rest
-  rest_fewer start page =
-      sum-le (λ (l' : Local). of_place l.setup l'.place (other_than start) page) (λ (l' : Local). of_place l.setup l'.place every page) (slice_set w.locals l.caller (record l { place = Over }))
-      (λ l'. of_place-le l.setup l'.place (other_than start) page)
+  rest_fewer start page = grind (arith, sum-le, of_place-le)
 
   blocks_once : AreOnce l.setup w.map.blocks
   blocks_once page = let once = kept.owners.once page in omega arith
@@ -118,10 +111,7 @@ module _ (w : World) (l : Local) (is : IsSetup l.setup) (kept : KeepsApart l.set
     answers_sound = answers_stay l.setup w.map (effect_as l.setup w.map l.caller s) goes.map.serials l.answers sound.answers
 
     with_answer : (answer : Answered) → IsSoundMade l.setup (effect_as l.setup w.map l.caller s) answer.made → AreSoundAnswers l.setup (effect_as l.setup w.map l.caller s) (l.answers ++ answer ∷ [])
-    with_answer answer made i other at = elim (append_cases l.answers (answer ∷ []) i other at) [
-      | inl v ↦ answers_sound v.0 other v.1
-      | inr v ↦ subst (λ (a : Answered). IsSoundMade l.setup (effect_as l.setup w.map l.caller s) a.made) (sym (single answer v.0 other v.1)) made
-    ]
+    with_answer answer made i other at = grind (arith, append_cases, answers_sound, single)
 
     answered_moved : (reply : Reply) (made : Made) (call : Call) → IsSoundMade l.setup (effect_as l.setup w.map l.caller s) made
         → IsMoved (Answer reply made) (answered l (record { call = call; reply = reply; made = made; own_event = suc l.events }))
@@ -146,22 +136,10 @@ module _ (w : World) (l : Local) (is : IsSetup l.setup) (kept : KeepsApart l.set
 
     answers_moved : (reply : Reply) (made : Made) → IsSoundMade l.setup (effect_as l.setup w.map l.caller s) made → (o : Option Call) → slice_get l.calls (length l.answers) ≡ o
         → IsMoved (Answer reply made) (answered_of l o (λ call. record { call = call; reply = reply; made = made; own_event = suc l.events }))
-    answers_moved reply made made_sound None e = absurd (isnt_over s gives (sound.at_hand e))
-    answers_moved reply made made_sound (Some call) e = answered_moved reply made call made_sound
+    answers_moved reply made made_sound o e = grind (arith, isnt_over, sound, answered_moved)
 
     moved : (n : Next) → IsSoundNext l.setup (effect_as l.setup w.map l.caller s) l.caller n → IsMoved n (moved_to l n)
-    moved (Go place) next_sound = record {
-      local = record {
-        setup = refl;
-        caller = refl;
-        calls = sound.calls;
-        opening = opening_sound;
-        answers = answers_sound;
-        place = next_sound;
-        at_hand = λ none. absurd (isnt_over s gives (sound.at_hand none));
-      };
-      own = λ counts page. refl;
-    }
+    moved (Go place) next_sound = grind (arith, sound, opening_sound, answers_sound, isnt_over)
     moved (Answer reply made) next_sound = answers_moved reply made next_sound (slice_get l.calls (length l.answers)) refl
 
     now : IsMoved (next l.setup l.place s) (moved_to l (next l.setup l.place s))
@@ -190,8 +168,7 @@ module _ (w : World) (l : Local) (is : IsSetup l.setup) (kept : KeepsApart l.set
     made_keeps = record { whole = goes.map.whole; owners = owners_then; locals = locals_then }
 
   keeps_if : (o : Option Section) → given l.setup w.map (ask l.setup l.place) ≡ o → KeepsApart l.setup (made_if w l o)
-  keeps_if None e = kept
-  keeps_if (Some s) e = made_keeps s e
+  keeps_if o e = grind (arith, made_keeps)
 
 -- a step of any number
 kept_at : (c : Setup) (w : World) (k : ℕ) (l : Local) → IsSetup c → KeepsApart c w → slice_get w.locals k ≡ Some l → IsSoundLocal c w.map k l → KeepsApart c (made_if w l (section_of w.map l))

@@ -34,19 +34,10 @@ sum-filter_parts f p q (x ∷ xs) apart = part_by f p q x xs (p x) (q x) refl re
 pub sum-filter-le : {X : Type 0} (f : X → ℕ) (p : X → Bool) (xs : List X) → sum_by f (filter p xs) ≤ sum_by f xs
 sum-filter-le f p xs = omega (arith, sum-filter_parts f p (λ x. not (p x)) xs (λ i x at e. ap not e))
 
--- an element that a filter leaves out
-left_out_by : {X : Type 0} (f : X → ℕ) (p : X → Bool) (z x : X) (xs : List X) (b : Bool) → p z ≡ b → sum_by f (filter p xs) + f x ≤ sum_by f xs
-    → sum_by f (cond b (z ∷ filter p xs) (filter p xs)) + f x ≤ sum_by f (z ∷ xs)
-left_out_by f p z x xs true e h = omega (arith, sum_by-cons f z xs, sum_by-cons f z (filter p xs))
-left_out_by f p z x xs false e h = omega (arith, sum_by-cons f z xs)
-
 pub sum-filter_without : {X : Type 0} (f : X → ℕ) (p : X → Bool) (xs : List X) (i : ℕ) (x : X) → slice_get xs i ≡ Some x → p x ≡ false → sum_by f (filter p xs) + f x ≤ sum_by f xs
 sum-filter_without f p [] i x h e = absurd cc
-sum-filter_without f p (z ∷ xs) zero x h e =
-    let same : z ≡ x = cc in
-    let out : sum_by f (cond (p z) (z ∷ filter p xs) (filter p xs)) ≡ sum_by f (filter p xs) = ap (λ b. sum_by f (cond b (z ∷ filter p xs) (filter p xs))) (ap p same ∙ e) in
-    omega (arith, sum_by-cons f z xs, ap f same, sum-filter-le f p xs)
-sum-filter_without f p (z ∷ xs) (suc i) x h e = left_out_by f p z x xs (p z) refl (sum-filter_without f p xs i x h e)
+sum-filter_without f p (z ∷ xs) zero x h e = grind (arith, sum_by-cons, sum-filter-le)
+sum-filter_without f p (z ∷ xs) (suc i) x h e = grind (arith, sum-filter_without f p xs i x h e, sum_by-cons)
 
 -- a change of elements that changes no number
 pub sum-map : {X Y : Type 0} (f : Y → ℕ) (g : X → Y) (xs : List X) → sum_by f (map g xs) ≡ sum_by (λ x. f (g x)) xs

@@ -1,5 +1,5 @@
 -- Which pages a search may not take, in the map and in the free runs alone, and where marks that aren't free change none.
-use Rattle.std.proofs.Common.{◌≡◌, ℕ, zero, suc, Bool, true, false, not, if◌then◌else◌, List, [], ◌∷◌, map, replicate, length, slice_get, Option, Some, None, refl, ap, sym, ◌∙◌, option_map}
+use Rattle.std.proofs.Common.{◌≡◌, ℕ, suc, Bool, true, false, not, if◌then◌else◌, List, [], ◌∷◌, map, replicate, length, slice_get, Option, refl, ap, sym, ◌∙◌, option_map, arith}
 use Rattle.std.proofs.lemmas.Option.{slice_get-map}
 use Rattle.std.proofs.lemmas.List.{length-map}
 use Rattle.vm_model.specs.declared.areas.Span.{Span}
@@ -21,14 +21,11 @@ taken_in marks = map (λ mark. not (is_free mark)) marks
 
 -- what a list of free pages has at a place, where another list as long has something
 filled : {X Y : Type 0} (x : X) (ys : List Y) (k : ℕ) → slice_get (replicate (length ys) x) k ≡ option_map (λ _. x) (slice_get ys k)
-filled x [] k = refl
-filled x (y ∷ ys) zero = refl
 filled x (y ∷ ys) (suc k) = filled x ys k
+filled x _ _ = refl
 
 taken_there : (o : Option Bool) → option_map (λ mark. not (is_free mark)) (option_map (λ y. if not (is_open o) then Held 0 else y) (option_map (λ _. Free) o)) ≡ o
-taken_there None = refl
-taken_there (Some true) = refl
-taken_there (Some false) = refl
+taken_there o = grind arith
 
 taken_again_at : (bits : List Bool) (k : ℕ) → slice_get (taken_in (paint (λ page. not (covers (runs bits) page)) (Held 0) (replicate (length bits) Free))) k ≡ slice_get bits k
 taken_again_at bits k =
@@ -45,24 +42,15 @@ taken_of_runs c bits e = ap (λ n. taken_in (paint (λ page. not (covers (runs b
 pub taken_again : (c : Setup) (m : PlainMap) → length m.marks ≡ c.space → taken (map_with c (FreeRuns (free_runs m))) ≡ taken m
 taken_again c m e = taken_of_runs c (taken m) (length-map m.marks (λ mark. not (is_free mark)) ∙ e)
 
--- a mark that isn't free, on pages that weren't free
-is_taken : (b : Bool) → is_open (Some b) ≡ false → b ≡ true
-is_taken true h = refl
-is_taken false h = cc
-
 pub taken_stays : (test : ℕ → Bool) (mark : Mark) (marks : List Mark) → is_free mark ≡ false → ((page : ℕ) → test page ≡ true → is_free_at (taken_in marks) page ≡ false)
     → taken_in (paint test mark marks) ≡ taken_in marks
-taken_stays test mark marks f h =
-    map-paint (λ mark. not (is_free mark)) test mark marks ∙ ap (λ b. paint test (not b) (taken_in marks)) f
-    ∙ paint_there test true (taken_in marks) (λ page b at passes. is_taken b (ap is_open (sym at) ∙ h page passes))
+taken_stays test mark marks f h = grind (arith, map-paint, paint_there)
 
 -- the same for the pages of areas that are marked live
 pub taken_stays-mark_live : (areas : List Area) (marks : List Mark) → ((page : ℕ) → covers (spans_of areas) page ≡ true → is_free_at (taken_in marks) page ≡ false)
     → taken_in (mark_live areas marks) ≡ taken_in marks
 taken_stays-mark_live [] marks h = refl
-taken_stays-mark_live (a ∷ areas) marks h =
-    let here : taken_in (paint (holds a.span) (Live a.serial) marks) ≡ taken_in marks = taken_stays (holds a.span) (Live a.serial) marks refl (λ page e. h page (or_first _ _ e)) in
-    taken_stays-mark_live areas (paint (holds a.span) (Live a.serial) marks) (λ page e. ap (λ bits. is_free_at bits page) here ∙ h page (or_second (holds a.span page) _ e)) ∙ here
+taken_stays-mark_live (a ∷ areas) marks h = grind (arith, taken_stays-mark_live areas (paint (holds a.span) (Live a.serial) marks), taken_stays, or_first, or_second)
 
 pub spans_of-areas_of : (caller serial : ℕ) (areas : List (Span × AreaKind)) → spans_of (areas_of caller serial areas) ≡ map (λ a. a.0) areas
 spans_of-areas_of caller serial [] = refl

@@ -1,14 +1,12 @@
 -- Sections over single regions give the parts of the map that the events over the whole map give.
-use Rattle.std.proofs.Common.{◌≡◌, ℕ, List, [], ◌∷◌, slice_get, slice_set, Option, Some, None, IfSome, is_some, refl, ap, sym, ◌∙◌, subst}
+use Rattle.std.proofs.Common.{◌≡◌, ℕ, List, [], ◌∷◌, slice_get, slice_set, Option, Some, None, IfSome, is_some, refl, ap, sym, ◌∙◌, subst, arith}
 use Rattle.vm_model.specs.Setup.{Setup}
-use Rattle.vm_model.specs.PlainMap.{PlainMap}
 use Rattle.vm_model.specs.Events.{Section}
 use Rattle.vm_model.specs.Effects.{effect_as}
-use Rattle.vm_model.specs.Places.{Ask, AskNothing, ask}
+use Rattle.vm_model.specs.Places.{ask}
 use Rattle.vm_model.specs.Next.{next}
-use Rattle.vm_model.specs.Given.{given}
 use Rattle.vm_model.specs.History.{World, Local, section_of, moved_to, made_if, step, step_of, pick_all}
-use Rattle.vm_model.specs.Parts.{Region, regions_of, map_with, region_in, number_of, wants, moves, left_by, after, state_of, RunsArePartsOfTheMap}
+use Rattle.vm_model.specs.Parts.{Region, regions_of, map_with, region_in, wants, moves, left_by, after, state_of, RunsArePartsOfTheMap}
 use Rattle.vm_model.specs.Run.{section_by, state_after}
 use Rattle.vm_model.specs.Rules.{IsSetup}
 use Rattle.vm_model.proofs.OneNext.{gives}
@@ -19,11 +17,6 @@ use Rattle.map_parts.proofs.LocalityProofs.{over_one_region}
 use Rattle.map_parts.proofs.KeptApart.{kept_worlds_fall_apart, kept_callers_stay_within}
 use Rattle.map_parts.proofs.StepKeeps.{steps_keep_apart}
 use Rattle.map_parts.proofs.ReachedKept.{reached_worlds_keep_apart}
-
--- an ask of no region gets no section
-nothing_given : (c : Setup) (m : PlainMap) (a : Ask) → number_of a ≡ None → given c m a ≡ None
-nothing_given c m AskNothing e = refl
-nothing_given c m _ e = absurd cc
 
 module _ (w : World) (l : Local) (is : IsSetup l.setup) (kept : KeepsApart l.setup w) (here : slice_get w.locals l.caller ≡ Some l) where
   -- where the section is over a region
@@ -49,8 +42,7 @@ module _ (w : World) (l : Local) (is : IsSetup l.setup) (kept : KeepsApart l.set
         ∙ ap (λ (rs : List Region). (rs, slice_set w.locals l.caller (moved_to l (next l.setup l.place s)))) (sym regions)
 
   by_wanted : (o : Option ℕ) → wants l ≡ o → section_by wants moves after (state_of l.setup w) l.caller (Some l) ≡ state_of l.setup (made_if w l (section_of w.map l))
-  by_wanted None e =
-      (run_of_sections wants moves after).ended (state_of l.setup w) l.caller l e ∙ ap (λ o. state_of l.setup (made_if w l o)) (sym (nothing_given l.setup w.map (ask l.setup l.place) e))
+  by_wanted None e = grind (arith, run_of_sections)
   by_wanted (Some number) e = over_region number e (section_of w.map l) refl
 
 -- a section of any number
@@ -64,8 +56,7 @@ section_at c w k l is kept here sound =
     subst (λ c. section_by wants moves after (state_of c w) k (Some l) ≡ state_of c (made_if w l (section_of w.map l))) sound.setup numbered
 
 section_is_step : (c : Setup) (w : World) (k : ℕ) → IsSetup c → KeepsApart c w → (o : Option Local) → slice_get w.locals k ≡ o → section_by wants moves after (state_of c w) k o ≡ state_of c (step_of w o)
-section_is_step c w k is kept None e = refl
-section_is_step c w k is kept (Some l) e = section_at c w k l is kept e (kept.locals k l e)
+section_is_step c w k is kept o e = grind (arith, section_at)
 
 runs : (c : Setup) (w : World) (callers : List ℕ) → IsSetup c → KeepsApart c w → state_after wants moves after (state_of c w) callers ≡ state_of c (pick_all w callers)
 runs c w [] is kept = refl
