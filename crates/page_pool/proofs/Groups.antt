@@ -5,10 +5,12 @@ use Rattle.std.proofs.lemmas.Bool.Decides.{nat_tests}
 use Rattle.std.proofs.lemmas.List.{same_lists, length-replicate, length-set, get_or-set_same, get_or-set_other}
 use Rattle.std.proofs.lemmas.List.Sums.{sum_by-set, sum_by-cons}
 use Rattle.std.proofs.lemmas.Option.{get_or_from_slice_get}
-use Rattle.vm_model.specs.Space.{count_from}
+use Rattle.vm_model.specs.Space.{span, holds, paint, count_from}
 use Rattle.vm_model.proofs.Tabulated.{length-tabulated, slice_get-tabulated, same_tabulated}
 use Rattle.page_pool.specs.Late.{with_blanks}
 use Rattle.page_pool.specs.Groups.{in_groups, with_groups, is_unwritten, AreGroups, IsOwn}
+use Rattle.page_pool.proofs.Painting.{paint-again}
+use Rattle.page_pool.proofs.Flags.{rest_in_group}
 use Rattle.page_pool.proofs.LateWrites.{length-with_blanks, read_before, read_behind}
 
 -- Groups of which none was written.
@@ -180,3 +182,19 @@ length-with_groups blank numbers written n = length-tabulated (in_groups blank n
 
 pub read_group : {X : Type 0} (blank : X) (numbers : List ℕ) (written : List X) (n place : ℕ) (d : X) → place < n → get_or (with_groups blank numbers written n) place d ≡ in_groups blank numbers written place
 read_group blank numbers written n place d low = tabulated_at (in_groups blank numbers written) n place d low
+
+-- A group that was never written.
+
+unwritten_at : {X : Type 0} (blank : X) (numbers : List ℕ) (written : List X) (capacity n place : ℕ) → AreGroups X blank numbers written capacity → get_or numbers (place / 128) 0 ≡ 0 → place < n
+    → get_or (with_groups blank numbers written n) place blank ≡ blank
+unwritten_at blank numbers written capacity n place is none low =
+    read_group blank numbers written n place blank low
+    ∙ ap (λ i. get_or written i blank) (let e : 128 * get_or numbers (place / 128) 0 + place % 128 ≡ place % 128 = omega arith in e)
+    ∙ is.unwritten (place % 128) (omega arith)
+
+pub cleared_unwritten : {X : Type 0} (blank : X) (numbers : List ℕ) (written : List X) (capacity n first count : ℕ) → AreGroups X blank numbers written capacity → get_or numbers (first / 128) 0 ≡ 0 → first % 128 + count ≤ 128
+    → with_groups blank numbers written n ≡ paint (holds (span first count)) blank (with_groups blank numbers written n)
+cleared_unwritten blank numbers written capacity n first count is none few =
+    sym (paint-again (holds (span first count)) blank (with_groups blank numbers written n) (λ place held low.
+    let same : place / 128 ≡ first / 128 = rest_in_group 128 first count place (omega arith) (omega arith) held in
+    unwritten_at blank numbers written capacity n place is (ap (λ group. get_or numbers group 0) same ∙ none) (omega (arith, length-with_groups blank numbers written n))))
