@@ -127,3 +127,12 @@ paint_from-again t x (y ∷ ys) p h =
 
 pub paint-again : {X : Type 0} (t : ℕ → Bool) (x : X) (ys : List X) → ((i : ℕ) → t i ≡ true → i < length ys → get_or ys i x ≡ x) → paint t x ys ≡ ys
 paint-again t x ys h = paint_from-again t x ys 0 (λ i held low. h i (ap t (let e : i ≡ 0 + i = omega arith in e) ∙ held) low)
+
+-- what is read of a list that was painted
+read_from : {X : Type 0} (t : ℕ → Bool) (x : X) (ys : List X) (p k : ℕ) (d : X) → k < length ys → get_or (paint_from p t x ys) k d ≡ (if t (p + k) then x else get_or ys k d)
+read_from t x [] p k d h = absurd (omega arith)
+read_from t x (y ∷ ys) p zero d h = ap (λ n. if t n then x else y) (let e : p ≡ p + 0 = omega arith in e)
+read_from t x (y ∷ ys) p (suc k) d h = read_from t x ys (suc p) k d (omega arith) ∙ ap (λ n. if t n then x else get_or ys k d) (let e : suc p + k ≡ p + suc k = omega arith in e)
+
+pub read-paint : {X : Type 0} (t : ℕ → Bool) (x : X) (ys : List X) (k : ℕ) (d : X) → k < length ys → get_or (paint t x ys) k d ≡ (if t k then x else get_or ys k d)
+read-paint t x ys k d h = read_from t x ys 0 k d h ∙ ap (λ n. if t n then x else get_or ys k d) (let e : 0 + k ≡ k = omega arith in e)

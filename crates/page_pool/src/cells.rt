@@ -35,6 +35,16 @@ impl Model for Cells {
     ghost invariant = { λ c. HasGroups ℤ (pos 0) (1024 * c.frames) c.numbers.items c.written.items (vec_capacity c.written) };
 }
 
+/// So many words from one on are 0.
+fn clear_words(words: &mut [i64], first: usize, count: usize)
+    requires { first + count ≤ length words.old }
+    ensures { words.new ≡ paint (holds (span first count)) (pos 0) words.old }
+{
+    for place in first..first + count {
+        words[place] = 0;
+    }
+}
+
 impl Cells {
     /// The cells of so many frames, each 0. An error comes also where there are more than 2 ^ 28.
     pub(crate) fn zero(alloc: Global, frames: u32) -> Result<Cells, AllocError>
@@ -88,11 +98,13 @@ impl Cells {
         requires some { 0 < count }
         ensures { self.new ≡ paint (holds (span first count)) (pos 0) self.old }
     {
-        if self.numbers[first / GROUP] == 0 {
-            return;
-        }
-        for cell in first..first + count {
-            self.write(cell, 0);
+        let number = self.numbers[first / GROUP] as usize;
+        if number > 0 {
+            clear_words(
+                self.written.as_mut_slice(),
+                number * GROUP + first % GROUP,
+                count,
+            );
         }
     }
 
