@@ -1,14 +1,17 @@
 -- Groups of elements that are written when they are first asked for.
-use Rattle.std.proofs.Common.{◌≡◌, ◌≢◌, ℕ, zero, suc, ◌+◌, ◌-◌, ◌*◌, ◌/◌, ◌%◌, ◌^◌, ◌<◌, ◌≤◌, ◌==◌, ◌⊎◌, inl, inr, false, cond, List, ◌∷◌, length, map, count_by, replicate, get_or, slice_set, refl, ap, sym, ◌∙◌, arith}
+use Rattle.std.proofs.Common.{◌≡◌, ◌≢◌, ℕ, zero, suc, ◌+◌, ◌-◌, ◌*◌, ◌/◌, ◌%◌, ◌^◌, ◌<◌, ◌≤◌, ◌==◌, ◌⊎◌, inl, inr, Bool, true, false, cond, if◌then◌else◌, List, ◌∷◌, length, map, count_by, replicate, get_or, slice_set, refl, ap, sym, ◌∙◌, arith}
 use Rattle.std.proofs.lemmas.Bool.{cases_eq}
 use Rattle.std.proofs.lemmas.Bool.Decides.{nat_tests}
 use Rattle.std.proofs.lemmas.List.{same_lists, length-replicate, length-set, get_or-set_same, get_or-set_other}
 use Rattle.std.proofs.lemmas.List.Sums.{sum_by-set, sum_by-cons}
 use Rattle.std.proofs.lemmas.Option.{get_or_from_slice_get}
-use Rattle.vm_model.specs.Space.{count_from}
+use Rattle.vm_model.specs.Space.{span, holds, paint, count_from}
 use Rattle.vm_model.proofs.Tabulated.{length-tabulated, slice_get-tabulated, same_tabulated}
 use Rattle.page_pool.specs.Late.{with_blanks}
 use Rattle.page_pool.specs.Groups.{in_groups, with_groups, is_unwritten, AreGroups, IsOwn}
+use Rattle.vm_model.proofs.Paint.{length-paint_from}
+use Rattle.page_pool.proofs.Painting.{paint-again, read-paint}
+use Rattle.page_pool.proofs.Flags.{rest_in_group}
 use Rattle.page_pool.proofs.LateWrites.{length-with_blanks, read_before, read_behind}
 
 -- Groups of which none was written.
@@ -180,3 +183,79 @@ length-with_groups blank numbers written n = length-tabulated (in_groups blank n
 
 pub read_group : {X : Type 0} (blank : X) (numbers : List ℕ) (written : List X) (n place : ℕ) (d : X) → place < n → get_or (with_groups blank numbers written n) place d ≡ in_groups blank numbers written place
 read_group blank numbers written n place d low = tabulated_at (in_groups blank numbers written) n place d low
+
+-- A group that was never written.
+
+unwritten_at : {X : Type 0} (blank : X) (numbers : List ℕ) (written : List X) (capacity n place : ℕ) → AreGroups X blank numbers written capacity → get_or numbers (place / 128) 0 ≡ 0 → place < n
+    → get_or (with_groups blank numbers written n) place blank ≡ blank
+unwritten_at blank numbers written capacity n place is none low =
+    read_group blank numbers written n place blank low
+    ∙ ap (λ i. get_or written i blank) (let e : 128 * get_or numbers (place / 128) 0 + place % 128 ≡ place % 128 = omega arith in e)
+    ∙ is.unwritten (place % 128) (omega arith)
+
+pub cleared_unwritten : {X : Type 0} (blank : X) (numbers : List ℕ) (written : List X) (capacity n first count : ℕ) → AreGroups X blank numbers written capacity → get_or numbers (first / 128) 0 ≡ 0 → first % 128 + count ≤ 128
+    → with_groups blank numbers written n ≡ paint (holds (span first count)) blank (with_groups blank numbers written n)
+cleared_unwritten blank numbers written capacity n first count is none few =
+    sym (paint-again (holds (span first count)) blank (with_groups blank numbers written n) (λ place held low.
+    let same : place / 128 ≡ first / 128 = rest_in_group 128 first count place (omega arith) (omega arith) held in
+    unwritten_at blank numbers written capacity n place is (ap (λ group. get_or numbers group 0) same ∙ none) (omega (arith, length-with_groups blank numbers written n))))
+
+-- Places of a group that was written, when they are blank.
+
+shifted : (low first count place k : ℕ) → place + first ≡ k + low → holds (span low count) place ≡ holds (span first count) k
+shifted low first count place k h = grind (arith, nat_tests)
+
+same_number : (a b count number rest : ℕ) → b + count ≤ 128 → rest < 128 → holds (span (128 * a + b) count) (128 * number + rest) ≡ true → a ≡ number
+same_number a b count number rest few small held =
+    let low : 128 * a + b ≤ 128 * number + rest = grind (arith, nat_tests) in
+    let high : 128 * number + rest < 128 * a + b + count = grind (arith, nat_tests) in
+    omega arith
+
+not_true : (b : Bool) → b ≢ true → b ≡ false
+not_true true never = absurd (never refl)
+not_true false never = refl
+
+same_test : (numbers : List ℕ) (first count k : ℕ) → first % 128 + count ≤ 128 → (get_or numbers (first / 128) 0 ≡ get_or numbers (k / 128) 0 → first / 128 ≡ k / 128) → ((k / 128 ≡ first / 128) ⊎ (k / 128 ≢ first / 128))
+    → holds (span (128 * get_or numbers (first / 128) 0 + first % 128) count) (128 * get_or numbers (k / 128) 0 + k % 128) ≡ holds (span first count) k
+same_test numbers first count k few groups (inl same) =
+    let number : get_or numbers (k / 128) 0 ≡ get_or numbers (first / 128) 0 = ap (λ group. get_or numbers group 0) same in
+    shifted (128 * get_or numbers (first / 128) 0 + first % 128) first count (128 * get_or numbers (k / 128) 0 + k % 128) k (omega arith)
+same_test numbers first count k few groups (inr apart) =
+    not_true _ (λ held. apart (sym (groups (same_number (get_or numbers (first / 128) 0) (first % 128) count (get_or numbers (k / 128) 0) (k % 128) few (omega arith) held))))
+    ∙ sym (not_true _ (λ held. apart (rest_in_group 128 first count k (omega arith) (omega arith) held)))
+
+either_way : {X : Type 0} (b : Bool) (x y : X) → y ≡ x → (if b then x else y) ≡ x
+either_way true x y h = refl
+either_way false x y h = h
+
+pub groups_cleared : {X : Type 0} (blank : X) (numbers : List ℕ) (written : List X) (capacity first count : ℕ) → AreGroups X blank numbers written capacity
+    → AreGroups X blank numbers (paint (holds (span first count)) blank written) capacity
+groups_cleared blank numbers written capacity first count is =
+    let t = holds (span first count) in
+    let long : length (paint t blank written) ≡ length written = length-paint_from t blank written 0 in
+    record {
+      full = omega (arith, is.full);
+      room = is.room;
+      small = is.small;
+      within = λ group. omega (arith, is.within group);
+      apart = is.apart;
+      unwritten = λ place low. read-paint t blank written place blank (omega (arith, is.within 0)) ∙ either_way (t place) blank (get_or written place blank) (is.unwritten place low);
+    }
+
+pub cleared_in_group : {X : Type 0} (blank : X) (numbers : List ℕ) (written : List X) (capacity n first count : ℕ) → AreGroups X blank numbers written capacity → 0 < get_or numbers (first / 128) 0 → first % 128 + count ≤ 128
+    → with_groups blank numbers (paint (holds (span (128 * get_or numbers (first / 128) 0 + first % 128) count)) blank written) n ≡ paint (holds (span first count)) blank (with_groups blank numbers written n)
+cleared_in_group {X = X} blank numbers written capacity n first count is some few =
+    let inner = holds (span (128 * get_or numbers (first / 128) 0 + first % 128) count) in
+    let outer = holds (span first count) in
+    let before : List X = with_groups blank numbers written n in
+    let now : List X = with_groups blank numbers (paint inner blank written) n in
+    let long = length-tabulated (in_groups blank numbers written) n 0 in
+    let long_now = length-tabulated (in_groups blank numbers (paint inner blank written)) n 0 in
+    same_lists now (paint outer blank before) (long_now ∙ sym (length-paint_from outer blank before 0 ∙ long))
+    (λ k d h.
+    let low : k < n = omega arith in
+    let place = 128 * get_or numbers (k / 128) 0 + k % 128 in
+    tabulated_at (in_groups blank numbers (paint inner blank written)) n k d low
+    ∙ read-paint inner blank written place blank (omega (arith, is.within (k / 128)))
+    ∙ ap (λ b. if b then blank else get_or written place blank) (same_test numbers first count k few (is.apart (first / 128) (k / 128) some) (cases_eq (k / 128) (first / 128)))
+    ∙ sym (read-paint outer blank before k d (omega arith) ∙ ap (λ y. if outer k then blank else y) (tabulated_at (in_groups blank numbers written) n k d low)))

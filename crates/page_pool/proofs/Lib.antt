@@ -6,7 +6,6 @@ pub mod Shared
 pub mod Painting
 pub mod Looks
 pub mod Kept
-pub mod CellWrites
 pub mod UnitPages
 pub mod Populating
 pub mod Depopulating

@@ -1,5 +1,5 @@
 -- Places that are set one by one, and the same places painted.
-use Rattle.std.proofs.Common.{◌≡◌, ◌≢◌, ℕ, zero, suc, ◌+◌, ◌-◌, ◌≤◌, Bool, true, false, ◌||◌, ◌==◌, if◌then◌else◌, List, [], ◌∷◌, length, ◌<◌, slice_get, slice_set, Option, Some, None, option_map, refl, ap, sym, ◌∙◌, arith}
+use Rattle.std.proofs.Common.{◌≡◌, ◌≢◌, ℕ, zero, suc, ◌+◌, ◌-◌, ◌≤◌, min, Bool, true, false, ◌||◌, ◌==◌, if◌then◌else◌, List, [], ◌∷◌, length, ◌<◌, get_or, slice_get, slice_set, Option, Some, None, option_map, refl, ap, sym, ◌∙◌, arith}
 use Rattle.std.proofs.lemmas.Bool.Decides.{nat_tests}
 use Rattle.std.proofs.lemmas.List.{set-get_or}
 use Rattle.vm_model.specs.Bits.{value_at}
@@ -8,10 +8,13 @@ use Rattle.vm_model.specs.Space.{span, end_of, holds, paint_from, paint}
 use Rattle.vm_model.proofs.Elements.{same_by_get}
 use Rattle.vm_model.proofs.Paint.{slice_get-paint}
 
+paint_from-within : {X : Type 0} (t t' : ℕ → Bool) (x : X) (ys : List X) (p : ℕ) → ((i : ℕ) → p ≤ i → i < p + length ys → t i ≡ t' i) → paint_from p t x ys ≡ paint_from p t' x ys
+paint_from-within t t' x [] p h = refl
+paint_from-within t t' x (y ∷ ys) p h =
+    ap (λ b. (if b then x else y) ∷ paint_from (suc p) t x ys) (h p (omega arith) (omega arith)) ∙ ap (λ zs. (if t' p then x else y) ∷ zs) (paint_from-within t t' x ys (suc p) (λ i a b. h i (omega arith) (omega arith)))
+
 paint_from-alike : {X : Type 0} (t t' : ℕ → Bool) (x : X) (ys : List X) (p : ℕ) → ((i : ℕ) → p ≤ i → t i ≡ t' i) → paint_from p t x ys ≡ paint_from p t' x ys
-paint_from-alike t t' x [] p h = refl
-paint_from-alike t t' x (y ∷ ys) p h =
-    ap (λ b. (if b then x else y) ∷ paint_from (suc p) t x ys) (h p (omega arith)) ∙ ap (λ zs. (if t' p then x else y) ∷ zs) (paint_from-alike t t' x ys (suc p) (λ i a. h i (omega arith)))
+paint_from-alike t t' x ys p h = paint_from-within t t' x ys p (λ i a b. h i a)
 
 unchanged : {X : Type 0} (x : X) (o : Option X) → option_map (λ y. if false then x else y) o ≡ o
 unchanged x None = refl
@@ -104,3 +107,32 @@ paint_one k x ys = sym (ap (λ zs. slice_set zs k x) (sym (paint-none (λ i. fal
 -- a place that already has the value
 pub set_again : (bits : List Bool) (place : ℕ) (value : Bool) → place < length bits → value_at bits place ≡ value → slice_set bits place value ≡ bits
 set_again bits place value within is = ap (slice_set bits place) (sym is) ∙ set-get_or bits place false
+
+-- The places of a span that the list has are painted, up to the place at hand.
+pub paint-up : {X : Type 0} (first count place : ℕ) (x : X) (ys now : List X) → first ≤ place → min (first + count) (length ys) ≤ place → (first ≤ min (first + count) (length ys) → place ≤ min (first + count) (length ys))
+    → now ≡ paint (holds (span first (place - first))) x ys → now ≡ paint (holds (span first count)) x ys
+paint-up first count place x ys now from all upto is =
+    is ∙ paint_from-within (holds (span first (place - first))) (holds (span first count)) x ys 0 (λ i low high. let e : holds (span first (place - first)) i ≡ holds (span first count) i = grind (arith, nat_tests) in e)
+
+-- places that already have the value
+paint_from-again : {X : Type 0} (t : ℕ → Bool) (x : X) (ys : List X) (p : ℕ) → ((i : ℕ) → t (p + i) ≡ true → i < length ys → get_or ys i x ≡ x) → paint_from p t x ys ≡ ys
+paint_from-again t x [] p h = refl
+paint_from-again t x (y ∷ ys) p h =
+    ap (λ z. z ∷ paint_from (suc p) t x ys) (kept (t p) x y (λ held. h 0 (ap t (let e : p + 0 ≡ p = omega arith in e) ∙ held) (omega arith)))
+    ∙ ap (λ zs. y ∷ zs) (paint_from-again t x ys (suc p) (λ i held low. h (suc i) (ap t (let e : p + suc i ≡ suc p + i = omega arith in e) ∙ held) (omega arith)))
+  where
+    kept : {X : Type 0} (b : Bool) (x y : X) → (b ≡ true → y ≡ x) → (if b then x else y) ≡ y
+    kept true x y h = sym (h refl)
+    kept false x y h = refl
+
+pub paint-again : {X : Type 0} (t : ℕ → Bool) (x : X) (ys : List X) → ((i : ℕ) → t i ≡ true → i < length ys → get_or ys i x ≡ x) → paint t x ys ≡ ys
+paint-again t x ys h = paint_from-again t x ys 0 (λ i held low. h i (ap t (let e : i ≡ 0 + i = omega arith in e) ∙ held) low)
+
+-- what is read of a list that was painted
+read_from : {X : Type 0} (t : ℕ → Bool) (x : X) (ys : List X) (p k : ℕ) (d : X) → k < length ys → get_or (paint_from p t x ys) k d ≡ (if t (p + k) then x else get_or ys k d)
+read_from t x [] p k d h = absurd (omega arith)
+read_from t x (y ∷ ys) p zero d h = ap (λ n. if t n then x else y) (let e : p ≡ p + 0 = omega arith in e)
+read_from t x (y ∷ ys) p (suc k) d h = read_from t x ys (suc p) k d (omega arith) ∙ ap (λ n. if t n then x else get_or ys k d) (let e : suc p + k ≡ p + suc k = omega arith in e)
+
+pub read-paint : {X : Type 0} (t : ℕ → Bool) (x : X) (ys : List X) (k : ℕ) (d : X) → k < length ys → get_or (paint t x ys) k d ≡ (if t k then x else get_or ys k d)
+read-paint t x ys k d h = read_from t x ys 0 k d h ∙ ap (λ n. if t n then x else get_or ys k d) (let e : 0 + k ≡ k = omega arith in e)

@@ -1,5 +1,5 @@
 -- Lists in groups of 128 elements, of which those that were never written share the elements of one.
-use Rattle.std.specs.Prelude.{◌≡◌, ℕ, ◌+◌, ◌*◌, ◌/◌, ◌%◌, ◌^◌, ◌<◌, ◌≤◌, ◌==◌, Bool, Option, None, List, length, map, count_by, slice_index_or}
+use Rattle.std.specs.Prelude.{◌≡◌, ℕ, ◌+◌, ◌*◌, ◌/◌, ◌%◌, ◌^◌, ◌<◌, ◌≤◌, ◌==◌, Bool, List, length, map, count_by, slice_index_or}
 use Rattle.vm_model.specs.Space.{count_from}
 
 -- the element at a place, whose group has a number; those without one have 0
@@ -22,10 +22,10 @@ pub record AreGroups (X : Type 0) (blank : X) (numbers : List ℕ) (written : Li
   pub apart : (group other : ℕ) → 0 < slice_index_or numbers group 0 → slice_index_or numbers group 0 ≡ slice_index_or numbers other 0 → group ≡ other
   pub unwritten : (place : ℕ) → place < 128 → slice_index_or written place blank ≡ blank
 
--- so many pages have their groups
-pub record HasGroups (pages : ℕ) (numbers : List ℕ) (written : List (Option ℕ)) (capacity : ℕ) : Type 0 where
-  pub groups : AreGroups (Option ℕ) None numbers written capacity
-  pub places : pages ≤ 128 * length numbers
+-- so many elements have their groups
+pub record HasGroups (X : Type 0) (blank : X) (n : ℕ) (numbers : List ℕ) (written : List X) (capacity : ℕ) : Type 0 where
+  pub groups : AreGroups X blank numbers written capacity
+  pub places : n ≤ 128 * length numbers
 
 -- a group has a number of its own, and no element has changed
 pub record IsOwn (X : Type 0) (blank : X) (numbers : List ℕ) (written : List X) (new_numbers : List ℕ) (new_written : List X) (capacity group first : ℕ) : Type 0 where

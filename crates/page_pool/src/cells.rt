@@ -1,46 +1,85 @@
 //! The words of memory.
-ghost use Rattle.std.specs.Prelude.{◌≡◌, ◌*◌, ◌+◌, ◌<◌, ◌^◌, IfOk, length, replicate, slice_index_or, slice_set, pos};
+ghost use Rattle.std.specs.Prelude.{◌≡◌, ◌*◌, ◌+◌, ◌%◌, ◌<◌, ◌≤◌, ◌^◌, IfOk, length, replicate, slice_index_or, slice_set, pos};
 ghost use Rattle.vm_model.specs.Space.{span, holds, paint};
 
+use crate::own_groups::{GROUP, own_group};
 use std::alloc::{AllocError, Global};
 use std::marker::Model;
 
-/// The cells of frames, 1,024 of 4 bytes a frame. Those behind the last one that was ever written are 0, and take no
-/// time.
+/// How many cells a frame has.
+const CELLS: usize = 1024;
+
+/// How many groups of cells a frame has.
+const GROUPS: usize = CELLS / GROUP;
+
+/// The most frames whose groups have numbers.
+const MOST_FRAMES: u32 = 1 << 28;
+
+/// The cells of frames, 1,024 of 4 bytes a frame. A group of cells none of which was ever written takes 4 bytes, and
+/// shares the words of the group with number 0, which are 0.
 #[derive(Drop)]
 pub(crate) struct Cells {
+    numbers: Vec<u32>,
     written: Vec<i64>,
     frames: u32,
 }
 
 impl Model for Cells {
-    ghost use Rattle.std.specs.Prelude.{ℤ, List, length, vec_capacity};
-    ghost use Rattle.page_pool.specs.Words.{with_unwritten, HaveRoom};
+    ghost use Rattle.std.specs.Prelude.{◌*◌, ℤ, List, pos, vec_capacity};
+    ghost use Rattle.page_pool.specs.Groups.{with_groups, HasGroups};
 
     ghost Value = { List ℤ };
 
-    ghost view = { λ c. with_unwritten c.written.items c.frames };
+    ghost view = { λ c. with_groups (pos 0) c.numbers.items c.written.items (1024 * c.frames) };
 
-    ghost invariant = { λ c. HaveRoom c.frames (length c.written.items) (vec_capacity c.written) };
+    ghost invariant = { λ c. HasGroups ℤ (pos 0) (1024 * c.frames) c.numbers.items c.written.items (vec_capacity c.written) };
+}
+
+/// So many words from one on are 0.
+fn clear_words(words: &mut [i64], first: usize, count: usize)
+    requires { first + count ≤ length words.old }
+    ensures { words.new ≡ paint (holds (span first count)) (pos 0) words.old }
+{
+    for place in first..first + count {
+        words[place] = 0;
+    }
 }
 
 impl Cells {
-    /// The cells of so many frames, each 0.
+    /// The cells of so many frames, each 0. An error comes also where there are more than 2 ^ 28.
     pub(crate) fn zero(alloc: Global, frames: u32) -> Result<Cells, AllocError>
         ensures { IfOk result (λ cells. cells ≡ replicate (1024 * frames) (pos 0)) }
     {
-        let written = Vec::with_capacity(alloc, 1024 * frames as usize)?;
-        Ok(Cells { written, frames })
+        if frames > MOST_FRAMES {
+            return Err(AllocError);
+        }
+        let groups = GROUPS * frames as usize;
+        let numbers = vec![in alloc; 0; groups]?;
+        let mut written = Vec::with_capacity(alloc, (groups + 1) * GROUP)?;
+        written.resize(GROUP, 0)?;
+        Ok(Cells {
+            numbers,
+            written,
+            frames,
+        })
+    }
+
+    /// How many cells there are.
+    fn len(&self) -> usize
+        ensures { result ≡ length self.now }
+    {
+        CELLS * self.frames as usize
     }
 
     /// The word in a cell, and 0 where there is no such cell.
     pub(crate) fn read(&self, cell: usize) -> i64
         ensures { result ≡ slice_index_or self.now cell (pos 0) }
     {
-        match self.written.get(cell) {
-            Some(word) => *word,
-            None => 0,
+        if cell >= self.len() {
+            return 0;
         }
+        let number = self.numbers[cell / GROUP] as usize;
+        self.written[number * GROUP + cell % GROUP]
     }
 
     /// Writes a cell. The room for it was there from the start.
@@ -48,26 +87,38 @@ impl Cells {
         requires { cell < length self.old }
         ensures { self.new ≡ slice_set self.old cell word }
     {
-        if cell < self.written.len() {
-            self.written[cell] = word;
-            return;
-        }
-        let Ok(()) = self.written.resize(cell, 0) else {
-            unreachable!();
-        };
-        let Ok(()) = self.written.push(word) else {
-            unreachable!();
-        };
+        let first = own_group(&mut self.numbers, &mut self.written, 0, cell / GROUP);
+        self.written[first + cell % GROUP] = word;
     }
 
-    /// So many cells from one on are 0.
+    /// So many cells of one group are 0. It takes no time where none of the group was ever written.
+    fn clear_in_group(&mut self, first: usize, count: usize)
+        requires inside { first + count ≤ length self.old }
+        requires group { first % 128 + count ≤ 128 }
+        requires some { 0 < count }
+        ensures { self.new ≡ paint (holds (span first count)) (pos 0) self.old }
+    {
+        let number = self.numbers[first / GROUP] as usize;
+        if number > 0 {
+            clear_words(
+                self.written.as_mut_slice(),
+                number * GROUP + first % GROUP,
+                count,
+            );
+        }
+    }
+
+    /// So many cells from one on are 0. It takes time for each group, and for each cell of those that were written.
     pub(crate) fn clear(&mut self, first: usize, count: usize)
         requires { first + count < 2 ^ 64 }
         ensures { self.new ≡ paint (holds (span first count)) (pos 0) self.old }
     {
-        let end = (first + count).min(self.written.len());
-        for cell in first..end {
-            self.written[cell] = 0;
+        let end = (first + count).min(self.len());
+        let mut cell = first;
+        while cell < end {
+            let count = (GROUP - cell % GROUP).min(end - cell);
+            self.clear_in_group(cell, count);
+            cell += count;
         }
     }
 }

@@ -14,6 +14,7 @@
 mod cells;
 mod free_frames;
 pub mod laws;
+mod own_groups;
 mod page_map;
 mod page_side;
 mod stale_pages;

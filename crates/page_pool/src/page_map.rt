@@ -1,12 +1,9 @@
 //! Which frame each page has, as the kernel's page tables keep it.
-ghost use Rattle.std.specs.Prelude.{◌≡◌, ◌<◌, Option, None, ℕ, IfOk, length, replicate, slice_index_or, slice_set, vec_capacity};
-ghost use Rattle.page_pool.specs.Groups.{AreGroups, IsOwn};
+ghost use Rattle.std.specs.Prelude.{◌≡◌, ◌<◌, None, IfOk, length, replicate, slice_index_or, slice_set};
 
+use crate::own_groups::{GROUP, own_group};
 use std::alloc::{AllocError, Global};
 use std::marker::Model;
-
-/// How many pages a group has. Its frames are written, all none, when one of its pages gets a frame for the first time.
-const GROUP: usize = 128;
 
 /// The frames of pages. A group of pages none of which ever had one takes 4 bytes, and shares the frames of the group with
 /// number 0, which are none.
@@ -25,24 +22,7 @@ impl Model for PageMap {
 
     ghost view = { λ m. with_groups None m.numbers.items m.written.items m.pages };
 
-    ghost invariant = { λ m. HasGroups m.pages m.numbers.items m.written.items (vec_capacity m.written) };
-}
-
-/// The place of the first page of a group among the written ones, after its pages were written if they never were.
-fn own_group(numbers: &mut Vec<u32>, written: &mut Vec<Option<u32>>, group: usize) -> usize
-    requires within { group < length numbers.old.items }
-    requires groups { AreGroups (Option ℕ) None numbers.old.items written.old.items (vec_capacity written.old) }
-    ensures { IsOwn (Option ℕ) None numbers.old.items written.old.items numbers.new.items written.new.items (vec_capacity written.new) group result }
-{
-    if numbers[group] > 0 {
-        return numbers[group] as usize * GROUP;
-    }
-    let first = written.len();
-    let Ok(()) = written.resize(first + GROUP, None) else {
-        unreachable!();
-    };
-    numbers[group] = (first / GROUP) as u32;
-    first
+    ghost invariant = { λ m. HasGroups (Option ℕ) None m.pages m.numbers.items m.written.items (vec_capacity m.written) };
 }
 
 impl PageMap {
@@ -84,7 +64,7 @@ impl PageMap {
         ensures { self.new ≡ slice_set self.old page frame }
     {
         let place = page as usize;
-        let first = own_group(&mut self.numbers, &mut self.written, place / GROUP);
+        let first = own_group(&mut self.numbers, &mut self.written, None, place / GROUP);
         self.written[first + place % GROUP] = frame;
     }
 }

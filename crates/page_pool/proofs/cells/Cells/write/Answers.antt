@@ -1,27 +1,45 @@
-use Rattle.std.proofs.Common.{◌≡◌, vec_len, ◌∷◌, [], ◌++◌, ◌-◌, ◌*◌, length, replicate, slice_set, take, pos, ap, ◌∙◌, w64, to_z, of_z, arith}
+use Rattle.std.proofs.Common.{◌≡◌, ◌+◌, ◌*◌, ◌/◌, ◌%◌, ℤ, pos, vec_capacity, length, get_or, slice_set, to_z, of_z, w64, ap, sym, ◌∙◌, subst, arith}
 use Rattle.std.proofs.lemmas.Int.{ints}
-use Rattle.std.proofs.lemmas.List.{take_all}
-use Rattle.page_pool.specs.Words.{with_unwritten}
-use Rattle.page_pool.proofs.LateWrites.{written_before, written_behind}
-use Rattle.page_pool.proofs.CellWrites.{length-with_unwritten}
+use Rattle.page_pool.specs.Groups.{with_groups, AreGroups}
+use Rattle.page_pool.proofs.Groups.{length-with_groups, groups_set, written_in_group, same_view}
 use Rattle.page_pool.proofs.cells.Cells.write.Goals as goal
 
-pub returns-then-cell-len : goal.returns-then-cell-len
-returns-then-cell-len c =
-    let written = c.self.inside.written.items in
-    ap (λ word. with_unwritten (slice_set written c.args.cell word) c.self.inside.frames) (let e : to_z w64 (of_z w64 c.args.word) ≡ c.args.word = omega (arith, ints) in e) ∙ written_before (pos 0) written (1024 * c.self.inside.frames) c.args.cell c.args.word (omega arith)
-    ∙ ap (λ cells. slice_set cells c.args.cell c.args.word) c.self.view_is
+pub own_group-first-requires-clause-within : goal.own_group-first-requires-clause-within
+own_group-first-requires-clause-within c =
+    let long = length-with_groups (pos 0) c.self.inside.numbers.items c.self.inside.written.items (1024 * c.self.inside.frames) in
+    let same = ap length c.self.view_is in
+    omega (arith, c.self.invariant.places)
+
+pub index_mut-requires : goal.index_mut-requires
+index_mut-requires c =
+    let own = c.own_group-first.ensures in
+    omega (arith, own.at, own.groups.within (c.args.cell / 128), c.own_group-first.new.written.ok.0)
+
+pub invariant_of-self : goal.invariant_of-self
+invariant_of-self c =
+    let own = c.own_group-first.ensures in
+    let numbers = c.own_group-first.new.numbers.items in
+    let written = c.own_group-first.new.written.items in
+    let capacity = vec_capacity c.own_group-first.new.written in
+    let word = to_z w64 (of_z w64 c.args.word) in
+    let place : c.own_group-first.result + c.args.cell % 128 ≡ 128 * get_or numbers (c.args.cell / 128) 0 + c.args.cell % 128 = omega (arith, own.at) in
+    record {
+      groups = subst (λ i. AreGroups ℤ (pos 0) numbers (slice_set written i word) capacity) (sym place)
+          (groups_set (pos 0) word numbers written capacity (c.args.cell / 128) (c.args.cell % 128) own.groups own.own);
+      places = omega (arith, own.count, c.self.invariant.places);
+    }
 
 pub returns : goal.returns
 returns c =
-    let written = c.self.inside.written.items in
-    let gap = replicate (c.args.cell - length written) (pos 0) in
-    let long = ap length c.self.view_is in
-    let whole : take c.args.cell written ≡ written = take_all c.args.cell written (omega arith) in
-    let same : vec_len c.self.inside.written ≡ length written = omega arith in
+    let own = c.own_group-first.ensures in
+    let numbers = c.own_group-first.new.numbers.items in
+    let written = c.own_group-first.new.written.items in
+    let cells = 1024 * c.self.inside.frames in
+    let long = length-with_groups (pos 0) c.self.inside.numbers.items c.self.inside.written.items cells in
+    let same = ap length c.self.view_is in
     let word : to_z w64 (of_z w64 c.args.word) ≡ c.args.word = omega (arith, ints) in
-    let now : c.push.new.self.items ≡ (written ++ gap) ++ c.args.word ∷ [] =
-    c.in-Ok-push.ensures.items ∙ ap (λ x. c.resize.new.self.items ++ x ∷ []) word ∙ ap (λ items. items ++ c.args.word ∷ []) (c.in-Ok.ensures.items ∙ ap (λ n. take c.args.cell written ++ replicate (c.args.cell - n) (pos 0)) same ∙ ap (λ items. items ++ gap) whole) in
-    ap (λ items. with_unwritten items c.self.inside.frames) now
-    ∙ written_behind (pos 0) written (1024 * c.self.inside.frames) c.args.cell c.args.word (omega arith) (omega (arith, length-with_unwritten written c.self.inside.frames c.self.invariant.fits))
-    ∙ ap (λ cells. slice_set cells c.args.cell c.args.word) c.self.view_is
+    let place : c.own_group-first.result + c.args.cell % 128 ≡ 128 * get_or numbers (c.args.cell / 128) 0 + c.args.cell % 128 = omega (arith, own.at) in
+    ap (λ w. with_groups (pos 0) numbers (slice_set written (c.own_group-first.result + c.args.cell % 128) w) cells) word
+    ∙ ap (λ i. with_groups (pos 0) numbers (slice_set written i c.args.word) cells) place
+    ∙ written_in_group (pos 0) c.args.word numbers written (vec_capacity c.own_group-first.new.written) cells c.args.cell own.groups own.own (omega arith)
+    ∙ ap (λ words. slice_set words c.args.cell c.args.word) (same_view (pos 0) c.self.inside.numbers.items numbers c.self.inside.written.items written cells own.same ∙ c.self.view_is)
