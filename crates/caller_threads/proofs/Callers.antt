@@ -1,5 +1,5 @@
 -- What splits, joins and events leave of the callers of a pass.
-use Rattle.std.proofs.Common.{◌≡◌, ◌≢◌, ◌⊎◌, inl, inr,  ℕ, zero, suc, ◌+◌, ◌<◌, ◌≤◌, List, [], ◌∷◌, length, map, Option, Some, None, Result, Ok, Err, slice_get, slice_set, true, refl, sym, ap, ◌∙◌, subst, arith}
+use Rattle.std.proofs.Common.{◌≡◌, ◌≢◌, ◌⊎◌, inl, inr, ℕ, zero, suc, ◌+◌, ◌<◌, ◌≤◌, List, [], ◌∷◌, length, map, Option, Some, None, Result, Ok, Err, slice_get, slice_set, true, refl, sym, ap, ◌∙◌, subst, arith}
 use Rattle.vm_model.specs.History.{Local}
 use Rattle.vm_model.specs.Parts.{Region, wants}
 use Rattle.section_table.specs.declared.views.Held.{Held}

@@ -11,6 +11,7 @@ const LOOKS: u64 = 1_000_000_000;
 
 /// The number of the free blocks, and of the blocks of processor 0.
 const FREE_BLOCKS: u16 = 3;
+
 const BLOCKS: u16 = 8;
 
 /// Caller 2 is held among the free blocks until caller 1 is among the blocks of its processor, and caller 1 is held there

@@ -40,7 +40,7 @@ gather-requires-clause-numbered g c =
     let many : length new ≡ length old = search rules in
     let made = c.in_ok-workers-2.ensures.each in
     still_numbered 1 old new c.args.shares.items c.in_ok-workers.ensures.shares many
-        (λ k d low. let job = (made k d low).1 in subst (λ (w : Worker). HasSameLines w.share (get_or new k d).share) (sym (job.job_is d)) job.call.met.lines) c.requires.numbered
+    (λ k d low. let job = (made k d low).1 in subst (λ (w : Worker). HasSameLines w.share (get_or new k d).share) (sym (job.job_is d)) job.call.met.lines) c.requires.numbered
 
 pub returns-clause-shares : goal.returns-clause-shares
 returns-clause-shares g c =

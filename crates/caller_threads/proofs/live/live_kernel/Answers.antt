@@ -80,7 +80,7 @@ returns-clause-run g c =
       picks,
       subst (HasEnded setup sections picks) (sym c.from_parts-kernel.ensures)
           (run_ended setup sections start st c.in_ok-table.table.table.shared.key v c.in_ok-regions.field-0 told.regions told.locals c.in_ok-regions.ensures (subst (λ n. HasAll (1 + n) v) shares c.in_ok-pass.ensures.all) c.in_ok-pass.ensures.ended
-              c.append.new.self.items more),
+          c.append.new.self.items more),
       ap (drop c.len-opening.result) (ap (λ (k : KernelState). k.moved) c.from_parts-kernel.ensures ∙ more)
           ∙ ap (λ n. drop n (start.moved ++ picks)) opened
           ∙ dropped start.moved picks,
