@@ -1,7 +1,6 @@
 -- A pass keeps its callers through an event; a split shares them out, and a join brings them together.
-use Rattle.std.proofs.Common.{◌≡◌, ◌≢◌, ℕ, zero, suc, ◌+◌, ◌<◌, List, [], ◌∷◌, set, Option, Some, None, Result, Ok, Err, slice_get, IfOk, refl, sym, ap, ◌∙◌, subst, arith}
+use Rattle.std.proofs.Common.{◌≡◌, ◌≢◌, ℕ, zero, suc, ◌<◌, List, [], ◌∷◌, set, Option, Some, None, Result, Ok, Err, slice_get, IfOk, refl, sym, ap, ◌∙◌, subst, arith}
 use Rattle.vm_model.proofs.Elements.{slice_get-set_other}
-use Rattle.section_table.specs.declared.views.Held.{Held}
 use Rattle.section_table.specs.declared.views.View.{View}
 use Rattle.section_table.specs.declared.acted.Acted.{Acted}
 use Rattle.section_table.specs.declared.acted.Acted.TheVariants.{Moved, Ended, Halted}

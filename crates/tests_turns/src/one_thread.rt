@@ -1,5 +1,4 @@
 //! Two walkers on one thread, in one pass or in two.
-ghost use Rattle.std.specs.Prelude.{◌≡◌, length};
 
 use crate::rooms::{Room, Walker};
 use crate::walks::{close_both, open, part, visit, visit_each, walker};

@@ -1,5 +1,4 @@
 //! Two walkers on threads of their own.
-ghost use Rattle.std.specs.Prelude.{◌≡◌, length};
 
 use crate::rooms::ROOMS;
 use crate::walks::{close_both, open, part, walk, walker};

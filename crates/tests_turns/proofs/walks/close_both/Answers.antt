@@ -1,4 +1,4 @@
-use Rattle.std.proofs.Common.{◌≡◌, sym, subst}
+use Rattle.std.proofs.Common.{sym, subst}
 use Rattle.section_table.specs.Views.{HasAll}
 use Rattle.tests_turns.proofs.Kept.{both_have}
 use Rattle.tests_turns.proofs.walks.close_both.Goals as goal

@@ -1,4 +1,3 @@
-use Rattle.std.proofs.Common.{◌≡◌}
 use Rattle.tests_turns.proofs.Kept.{ok_map, starting_has}
 use Rattle.tests_turns.proofs.walks.open.Goals as goal
 

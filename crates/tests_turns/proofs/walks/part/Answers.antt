@@ -1,4 +1,4 @@
-use Rattle.std.proofs.Common.{◌<◌, arith}
+use Rattle.std.proofs.Common.{arith}
 use Rattle.tests_turns.proofs.Kept.{ok_map, alone_has}
 use Rattle.tests_turns.proofs.walks.part.Goals as goal
 

@@ -1,4 +1,3 @@
-use Rattle.std.proofs.Common.{◌≡◌}
 use Rattle.tests_turns.specs.Walking.{walking}
 use Rattle.tests_turns.proofs.Kept.{acts_keep}
 use Rattle.tests_turns.proofs.walks.visit.Goals as goal
