@@ -1,12 +1,12 @@
 -- What splits, joins and events leave of the callers of a pass.
-use Rattle.std.proofs.Common.{◌≡◌, ◌≢◌, ◌⊎◌, inl, inr, ℕ, zero, suc, ◌+◌, ◌<◌, ◌≤◌, List, [], ◌∷◌, length, map, Option, Some, None, Result, Ok, Err, slice_get, slice_set, true, refl, sym, ap, ◌∙◌, subst, arith}
+use Rattle.std.proofs.Common.{◌≡◌, ◌≢◌, ◌⊎◌, inl, inr, ℕ, zero, suc, ◌<◌, ◌≤◌, List, [], ◌∷◌, length, Option, Some, None, Result, Ok, Err, slice_get, slice_set, refl, sym, ap, ◌∙◌, subst, arith}
 use Rattle.vm_model.specs.History.{Local}
 use Rattle.vm_model.specs.Parts.{Region, wants}
 use Rattle.section_table.specs.declared.views.Held.{Held}
 use Rattle.section_table.specs.declared.views.View.{View}
 use Rattle.section_table.specs.declared.acted.Acted.{Acted}
 use Rattle.section_table.specs.declared.acted.Acted.TheVariants.{Moved, Ended, Halted}
-use Rattle.section_table.specs.Views.{Has, HasCaller, without, alone, both_of, with_event, starting, only, merged}
+use Rattle.section_table.specs.Views.{Has, HasCaller, without, alone, both_of, with_event, starting}
 use Rattle.section_table.specs.Acts.{Acts}
 use Rattle.section_table.proofs.Lists.{got_set}
 use Rattle.section_table.proofs.Splits.{only_that, only_here}

@@ -1,11 +1,11 @@
 -- What a table over a kernel's parts comes to is a kernel whose callers have ended.
-use Rattle.std.proofs.Common.{All, ◌≡◌, ℕ, zero, suc, ◌+◌, ◌<◌, ◌≤◌, Bool, true, false, cond, List, [], ◌∷◌, ◌++◌, length, map, drop, Option, Some, None, slice_get, refl, sym, ap, ◌∙◌, subst, arith, length-set, length-append}
+use Rattle.std.proofs.Common.{◌≡◌, ℕ, suc, ◌+◌, ◌<◌, ◌≤◌, Bool, true, false, cond, List, [], ◌∷◌, ◌++◌, length, map, Option, Some, None, slice_get, refl, sym, ap, ◌∙◌, subst, arith, length-set}
 use Rattle.std.specs.List.{range_with_len}
 use Rattle.std.proofs.lemmas.List.{length-map}
 use Rattle.std.proofs.lemmas.List.FromFn.{length-range_with_len}
 use Rattle.vm_model.specs.declared.calls.Call.{Call}
 use Rattle.vm_model.specs.Setup.{Setup}
-use Rattle.vm_model.specs.Places.{ask, AskNothing}
+use Rattle.vm_model.specs.Places.{ask}
 use Rattle.vm_model.specs.History.{World, Local, step, pick_all}
 use Rattle.vm_model.specs.LegalHistory.{AllOver}
 use Rattle.vm_model.specs.Parts.{Region, regions_of, state_of, wants, moves, after}
@@ -13,11 +13,11 @@ use Rattle.vm_model.specs.Run.{section_by, section_wanted, section_over, put, st
 use Rattle.section_laws.specs.Lawful.{IsRunning, IsLawful}
 use Rattle.section_laws.specs.Turns.{reach, all_move, AllMove}
 use Rattle.section_laws.proofs.KeptLawful.{next_running, reach_is, turns_are_picks}
-use Rattle.kernel_steps.specs.Kernels.{KernelState, IsStanding, IsSomewhere, movers, start_of, opening_of, callers_of}
-use Rattle.kernel_steps.specs.Runs.{HasRun, HasEnded}
+use Rattle.kernel_steps.specs.Kernels.{KernelState, IsStanding, IsSomewhere, start_of, opening_of, callers_of}
+use Rattle.kernel_steps.specs.Runs.{HasEnded}
 use Rattle.kernel_steps.proofs.Callers.{few_callers}
 use Rattle.kernel_steps.proofs.CallersThere.{all_there}
-use Rattle.kernel_steps.proofs.Moves.{movers_picked, dropped}
+use Rattle.kernel_steps.proofs.Moves.{movers_picked}
 use Rattle.kernel_steps.proofs.SectionsMade.{asks_nothing}
 use Rattle.count_lines.specs.declared.share.Share.{Share}
 use Rattle.count_lines.specs.Shares.{caller_of}

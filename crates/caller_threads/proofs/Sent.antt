@@ -1,5 +1,4 @@
 -- A worker may go to another thread.
-use denote.Hole.{as_row}
 use denote.Param.Send.{IsSend, sendable}
 use denote.Param.SendFields.{declared_send}
 use Rattle.std.proofs.Crossing.{crosses}

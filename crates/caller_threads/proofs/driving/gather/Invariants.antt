@@ -1,4 +1,4 @@
-use Rattle.std.proofs.Common.{◌≡◌, ◌+◌, ◌<◌, ◌≤◌, ◌++◌, ℕ, All, length, map}
+use Rattle.std.proofs.Common.{◌≡◌, ◌+◌, ◌++◌, All, length, map}
 use Rattle.std.specs.Vec.Iter.{into_iter_items}
 use Rattle.section_table.specs.Views.{HasAll}
 use Rattle.caller_threads.specs.Workers.{AllEnded, IsDone, AreNumbered, share_of}
