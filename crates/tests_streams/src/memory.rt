@@ -24,6 +24,16 @@ fn at_once(rt: HostRuntime) -> Result<(), Fail> {
 }
 
 #[test]
+fn a_failing_write(rt: HostRuntime) -> Result<(), Fail> {
+    let mut source = SteadySource::new(rt.alloc(), b"vmtrace 1\nspace 16\nend\n")?;
+    let mut sink = MemorySink::new(rt.alloc(), 10, &[2])?;
+    sink.reserve(400)?;
+    let status = replay(rt.alloc(), Mode::Replay, &mut source, &mut sink);
+    assert!(rt; status.code() == 5 && sink.as_slice() == b"vmreport 1".as_slice());
+    Ok(())
+}
+
+#[test]
 fn a_failing_read(rt: HostRuntime) -> Result<(), Fail> {
     for (failing, status, text) in [(3, 4, b"".as_slice()), (7, 4, b"".as_slice()), (8, 0, FREE)] {
         let trace = b"vmtrace 1\nspace 16\nend\n";
