@@ -193,6 +193,11 @@ unwritten_at blank numbers written capacity n place is none low =
     ∙ ap (λ i. get_or written i blank) (let e : 128 * get_or numbers (place / 128) 0 + place % 128 ≡ place % 128 = omega arith in e)
     ∙ is.unwritten (place % 128) (omega arith)
 
+-- no group was ever written
+pub none_written : {X : Type 0} (blank : X) (numbers : List ℕ) (written : List X) (capacity n place : ℕ) → AreGroups X blank numbers written capacity → length written ≤ 128 → place < n
+    → get_or (with_groups blank numbers written n) place blank ≡ blank
+none_written blank numbers written capacity n place is few low = unwritten_at blank numbers written capacity n place is (omega (arith, is.within (place / 128))) low
+
 pub cleared_unwritten : {X : Type 0} (blank : X) (numbers : List ℕ) (written : List X) (capacity n first count : ℕ) → AreGroups X blank numbers written capacity → get_or numbers (first / 128) 0 ≡ 0 → first % 128 + count ≤ 128
     → with_groups blank numbers written n ≡ paint (holds (span first count)) blank (with_groups blank numbers written n)
 cleared_unwritten blank numbers written capacity n first count is none few =

@@ -11,3 +11,4 @@ pub mod Populating
 pub mod Depopulating
 pub mod WordSums
 pub mod Groups
+pub mod BlankWords

@@ -1,6 +1,7 @@
 //! The words of memory.
-ghost use Rattle.std.specs.Prelude.{◌≡◌, ◌*◌, ◌+◌, ◌%◌, ◌<◌, ◌≤◌, ◌^◌, IfOk, length, replicate, slice_index_or, slice_set, pos};
+ghost use Rattle.std.specs.Prelude.{◌≡◌, ◌*◌, ◌+◌, ◌%◌, ◌<◌, ◌≤◌, ◌^◌, IfOk, IsTrue, length, replicate, slice_index_or, slice_set, pos};
 ghost use Rattle.vm_model.specs.Space.{span, holds, paint};
+ghost use Rattle.page_pool.specs.Words.{AreBlank};
 
 use crate::own_groups::{GROUP, own_group};
 use std::alloc::{AllocError, Global};
@@ -69,6 +70,13 @@ impl Cells {
         ensures { result ≡ length self.now }
     {
         CELLS * self.frames as usize
+    }
+
+    /// Whether no cell was ever written. Each is 0 then.
+    pub(crate) fn is_blank(&self) -> bool
+        ensures { IsTrue result → AreBlank self.now }
+    {
+        self.written.len() == GROUP
     }
 
     /// The word in a cell, and 0 where there is no such cell.

@@ -75,6 +75,9 @@ impl PageSide {
         requires mapped { (page : ℕ) → is_among (pages_at base units.now (pages_of_bytes off bytes)) page ≡ true → IsMapped self.old page }
         ensures zeroed { self.new ≡ with_zeroed base units.now off bytes self.old }
     {
+        if self.cells.is_blank() {
+            return;
+        }
         for unit in units {
             self.zero_unit(base, *unit, off, bytes);
         }

@@ -1,9 +1,16 @@
-use Rattle.std.proofs.Common.{◌+◌, drop, slice_get, ap, sym, ◌∙◌}
+use Rattle.std.proofs.Common.{◌+◌, drop, slice_get, ap, refl, sym, subst, ◌∙◌}
 use Rattle.vm_model.specs.Frames.{pages_of_bytes}
 use Rattle.page_pool.specs.Pages.{Pages}
 use Rattle.page_pool.specs.Units.{with_zeroed}
+use Rattle.page_pool.specs.Words.{AreBlank}
+use Rattle.page_pool.proofs.BlankWords.{zeroed-blank}
 use Rattle.page_pool.proofs.UnitPages.{units_from, units_end, among_units}
 use Rattle.page_pool.proofs.page_side.PageSide.zero_words.Goals as goal
+
+pub returns-then-is_blank : goal.returns-then-is_blank
+returns-then-is_blank c = record {
+  zeroed = sym (zeroed-blank c.args.base c.args.units.now c.args.off c.args.bytes c.args.self.now (subst (λ (p : Pages). AreBlank p.cells) c.self.view_is (c.if-is_blank.ensures refl)));
+}
 
 pub zero_unit-requires : goal.zero_unit-requires
 zero_unit-requires c = λ page h.
