@@ -18,18 +18,14 @@ use Rattle.map_laws.proofs.AreaWorlds.{IsLegalStep, event_legal, legally_lasts}
 use Rattle.map_laws.proofs.BlockFacts.{to_same}
 use Rattle.map_laws.proofs.Words.{HaveCells, have_cells_section, have_cells_first, AreCells, HasFrame, added_other}
 use Rattle.map_laws.proofs.Deeds.{adds_at}
-use Rattle.map_laws.proofs.Frames.{IsFramed}
-use Rattle.map_laws.proofs.Lists.{there}
-use Rattle.map_laws.proofs.MadeNext.{IsNow}
+use Rattle.map_laws.proofs.Frames.{IsFramed, there}
+use Rattle.map_laws.proofs.SizedCalls.{IsNow, AreSized, sized_lasts, sized_first}
 use Rattle.map_laws.proofs.ObjectFacts.{IsObject, object_only}
-use Rattle.map_laws.proofs.ObjectLaws.{objects_mapped}
+use Rattle.map_laws.proofs.MapLaws.{objects_mapped}
 use Rattle.map_laws.proofs.ObjectsReady.{named_live}
-use Rattle.map_laws.proofs.ObjectWords.{IsWordOf, IsWordy, word_whole, word_mapped, one_word}
-use Rattle.map_laws.proofs.ObjectWorlds.{SomeonePlaces}
-use Rattle.map_laws.proofs.SizedCalls.{AreSized, sized_lasts, sized_first}
+use Rattle.map_laws.proofs.ObjectWords.{IsWordOf, IsWordy, word_whole, word_mapped, one_word, add_within}
+use Rattle.map_laws.proofs.TraceWorlds.{SomeonePlaces, IsTraceWorld, trace_reached}
 use Rattle.map_laws.proofs.SumLaws.{sums_are_the_adds}
-use Rattle.map_laws.proofs.TraceWorlds.{IsTraceWorld, trace_reached}
-use Rattle.map_laws.proofs.UsedWords.{add_within}
 use Rattle.call_laws.specs.Adds.{AddsChangeOneWord}
 
 never_word : (a b c d : Bool) → (a ≡ true → b ≡ true → ⊥) → (a && b && c && d) ≡ false

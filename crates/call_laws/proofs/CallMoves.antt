@@ -12,7 +12,7 @@ use Rattle.vm_model.specs.History.{Local, started, answered, answered_of, moved_
 use Rattle.vm_model.specs.LegalHistory.{Meets, Makes}
 use Rattle.vm_model.specs.ObjectShapes.{HasShape}
 use Rattle.vm_model.proofs.CallShapes.{calls_have_shapes}
-use Rattle.map_laws.proofs.Lists.{append_cases}
+use Rattle.map_laws.proofs.Frames.{append_cases}
 use Rattle.map_laws.proofs.Places.{answers_call}
 use Rattle.call_laws.specs.Histories.{OwnSection, sections, events_at, sections_for, sections_since, Leads, IsSettled, IsAnswerOf}
 use Rattle.call_laws.proofs.Owns.{more_own, for-more, since-more, for-last, since-none, events_at-more}

@@ -20,17 +20,14 @@ use Rattle.vm_model.specs.Calls.{Answered}
 use Rattle.vm_model.specs.History.{World, Local, started, moved_to, made_by, opening_world, opening_answers, callers_from}
 use Rattle.vm_model.specs.LegalHistory.{Meets}
 use Rattle.vm_model.specs.Rules.{IsSetup, IsTrace}
-use Rattle.map_laws.proofs.AreaFacts.{IsHolding, guard_part}
+use Rattle.map_laws.proofs.AreaFacts.{IsHolding, guard_part, unpainted, painted_still}
 use Rattle.map_laws.proofs.AreaStarts.{asks_settle, no_settle, areas_after}
 use Rattle.map_laws.proofs.AreaWorlds.{IsLegalStep, IsLegallyLasting}
-use Rattle.map_laws.proofs.Chosen.{IsIn, filter_has}
-use Rattle.map_laws.proofs.Frames.{IsFramed, has_call, not_over}
-use Rattle.map_laws.proofs.Lists.{set_cases, append_cases}
+use Rattle.map_laws.proofs.Chosen.{IsIn, filter_has, covers_one, holds_from}
+use Rattle.map_laws.proofs.Frames.{IsFramed, has_call, not_over, set_cases, append_cases}
 use Rattle.map_laws.proofs.OutMoves.{with_in}
 use Rattle.map_laws.proofs.Places.{IsPlainKind, IsProper, OnNext, HaveBeginnings, AtOver, begins_with, answers_call}
 use Rattle.map_laws.proofs.PlaceRows.{PlaceRow, Mapped, Removed, place_row}
-use Rattle.map_laws.proofs.Spans.{covers_one, holds_from}
-use Rattle.map_laws.proofs.Touched.{unpainted, painted_still}
 use Rattle.map_laws.proofs.TraceWorlds.{IsTraceWorld, trace_first, trace_lasts, holding_here, proper_here}
 use Rattle.call_laws.specs.Guards.{OnGuard, OnGuardInHand}
 use Rattle.vm_model.specs.declared.areas.AreaKind.TheVariants as kind

@@ -24,14 +24,12 @@ use Rattle.map_laws.proofs.AreaWorlds.{IsLegalStep, IsLegallyLasting, legally_la
 use Rattle.map_laws.proofs.BlockFacts.{IsBlockArea, IsBlockAt}
 use Rattle.map_laws.proofs.BlockPlaces.{with_keeps}
 use Rattle.map_laws.proofs.BlockWorlds.{only_one}
-use Rattle.map_laws.proofs.Chosen.{IsIn, filter_in}
+use Rattle.map_laws.proofs.Chosen.{IsIn, filter_in, covers_one, holds_from}
 use Rattle.map_laws.proofs.ChunkFacts.{IsChunkAt, start_of}
 use Rattle.map_laws.proofs.ChunkNoted.{with_new}
 use Rattle.map_laws.proofs.Deeds.{removes_at, UnlinksAt, OfPurge, OfBlock, OfGroups, unlinks_at}
-use Rattle.map_laws.proofs.Frames.{IsFramed}
-use Rattle.map_laws.proofs.Lists.{same_or, set_same, set_other, append_first}
+use Rattle.map_laws.proofs.Frames.{IsFramed, same_or, set_same, set_other, append_first}
 use Rattle.map_laws.proofs.OutMoves.{same_area}
-use Rattle.map_laws.proofs.Spans.{covers_one, holds_from}
 use Rattle.map_laws.proofs.WaitStories.{more_events, event_first, event_last, WhichEvent, Before, Last, which_event, behind_flushed, taken_before}
 use Rattle.map_laws.proofs.TraceWorlds.{areas_once, holding_here}
 use Rattle.map_laws.proofs.WaitReached.{IsWaitedWorld, wait_lasts, wait_first}

@@ -9,8 +9,7 @@ use Rattle.vm_model.specs.History.{World, Local, history_of}
 use Rattle.vm_model.specs.Rules.{IsTrace}
 use Rattle.vm_model.specs.Laws.{IsOneLegalHistory}
 use Rattle.map_laws.proofs.TurnProofs.{turns_kept, purge_last}
-use Rattle.map_laws.proofs.MapLaws.{areas_apart, guard_unmapped, free_clean, parts_disjoint}
-use Rattle.map_laws.proofs.ObjectLaws.{objects_mapped}
+use Rattle.map_laws.proofs.MapLaws.{areas_apart, guard_unmapped, free_clean, parts_disjoint, objects_mapped}
 use Rattle.map_laws.proofs.CarriedKept.{carried_kept}
 use Rattle.map_laws.proofs.SumLaws.{sums_are_the_adds}
 use Rattle.map_laws.proofs.WaitReached.{pages_wait, freed_pages_waited}

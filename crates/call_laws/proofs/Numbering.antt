@@ -6,7 +6,7 @@ use Rattle.vm_model.specs.Events.{Event}
 use Rattle.vm_model.specs.Tables.{noted, numbers_of}
 use Rattle.vm_model.specs.History.{World, Local}
 use Rattle.vm_model.specs.Calls.{Answered}
-use Rattle.map_laws.proofs.Lists.{there}
+use Rattle.map_laws.proofs.Frames.{there}
 use Rattle.map_laws.proofs.TurnProofs.{turns_proper}
 use Rattle.call_laws.specs.Histories.{OwnSection, own_if, own_from, own_sections, events_at}
 use Rattle.call_laws.specs.Numbers.{IsNumbered, ReportsTellLastEvents}

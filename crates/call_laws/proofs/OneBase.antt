@@ -22,10 +22,9 @@ use Rattle.vm_model.specs.Rules.{IsTrace}
 use Rattle.map_laws.proofs.AreaStarts.{asks_settle, no_settle, areas_after}
 use Rattle.map_laws.proofs.AreaWorlds.{IsLegalStep, legally_lasts}
 use Rattle.map_laws.proofs.Chosen.{IsIn}
-use Rattle.map_laws.proofs.ChunkNumbers.{chunk_number}
+use Rattle.map_laws.proofs.ChunkAdded.{chunk_number}
 use Rattle.map_laws.proofs.ChunkWorlds.{alone}
-use Rattle.map_laws.proofs.Frames.{IsFramed}
-use Rattle.map_laws.proofs.Lists.{there, same_or, set_same, set_other, append_first}
+use Rattle.map_laws.proofs.Frames.{IsFramed, there, same_or, set_same, set_other, append_first}
 use Rattle.map_laws.proofs.OutMoves.{with_in}
 use Rattle.map_laws.proofs.Places.{IsPlainKind, IsProper}
 use Rattle.map_laws.proofs.TraceWorlds.{IsTraceWorld, trace_first, trace_lasts, proper_here}

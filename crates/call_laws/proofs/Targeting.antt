@@ -16,7 +16,7 @@ use Rattle.vm_model.specs.LegalHistory.{IsReached}
 use Rattle.vm_model.specs.Rules.{IsTrace, IsRuled, AreRuled, IsVmallocCall, IsMapRamCall, IsAllocCall, named_call}
 use Rattle.vm_model.specs.Shapes.{IsRefused, IsVfree, IsUnmapRam}
 use Rattle.vm_model.specs.ObjectShapes.{HasShape, IsFreePercpu, IsAdd, IsSum}
-use Rattle.map_laws.proofs.Lists.{there}
+use Rattle.map_laws.proofs.Frames.{there}
 use Rattle.call_laws.specs.Histories.{OwnSection, own_sections, sections, sections_for, IsNoAddress, IsSettled, IsAnswerOf, HasShapesOfCalls}
 use Rattle.call_laws.proofs.Unusable.{IsNoArea, IsNoMapping, IsNoObject, IsUnusable}
 use Rattle.call_laws.specs.Targets.{target_in, CanMake, Names, IsTargeted, TargetsAreWhatTheirCallsGot}
