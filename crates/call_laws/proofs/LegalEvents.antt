@@ -86,10 +86,9 @@ in_drop (suc n) [] i o h = cc
 in_drop (suc n) (x ∷ own) i o h = let is = in_drop n own i o h in record { place = suc is.place; at = is.at }
 
 in_take : (n : ℕ) (own : List OwnSection) (i : ℕ) (o : OwnSection) → slice_get (take n own) i ≡ Some o → IsOneOf own o
-in_take zero own i o h = cc
-in_take (suc n) [] i o h = cc
 in_take (suc n) (x ∷ own) zero o h = record { place = 0; at = h }
 in_take (suc n) (x ∷ own) (suc i) o h = let is = in_take n own i o h in record { place = suc is.place; at = is.at }
+in_take _ _ i o h = cc
 
 -- those of one call are some of all
 pub one_between : (first last : ℕ) (own : List OwnSection) (o : OwnSection) → IsOneOf (drop first (take last own)) o → IsOneOf own o
