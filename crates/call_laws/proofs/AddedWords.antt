@@ -1,5 +1,5 @@
 -- An add changes one word, in every world that a legal history leads to.
-use Rattle.std.proofs.Common.{◌≡◌, ◌≢◌, ℕ, ◌+◌, ◌*◌, ◌/◌, ◌<◌, Bool, true, false, ◌&&◌, ◌==◌, List, slice_get, slice_index, Option, Some, None, ℤ, refl, ap, sym, ◌∙◌, subst}
+use Rattle.std.proofs.Common.{◌≡◌, ◌≢◌, ℕ, ◌+◌, ◌*◌, ◌/◌, ◌<◌, Bool, true, false, List, slice_get, slice_index, Option, Some, ℤ, refl, ap, sym, ◌∙◌, subst, arith}
 use Rattle.std.proofs.lemmas.Option.{get_or_from_slice_get}
 use Rattle.vm_model.specs.declared.calls.Call.{Call}
 use Rattle.vm_model.specs.Setup.{Setup, cpus}
@@ -9,33 +9,24 @@ use Rattle.vm_model.specs.Chunks.{ObjectAt, copy_at, object_pages}
 use Rattle.vm_model.specs.Events.{AddWord}
 use Rattle.vm_model.specs.Legal.{IsLegalAs, OnPages, IsMapped}
 use Rattle.vm_model.specs.Effects.{effect, effect_as}
-use Rattle.vm_model.specs.Places.{Adding, ask}
+use Rattle.vm_model.specs.Places.{Adding}
 use Rattle.vm_model.specs.History.{World, Local}
-use Rattle.vm_model.specs.LegalHistory.{IsReached, IsNext, Meets}
+use Rattle.vm_model.specs.LegalHistory.{IsReached, IsNext}
 use Rattle.vm_model.specs.Rules.{IsTrace}
 use Rattle.vm_model.specs.Laws.{object_at, word_of, is_word, grown_if}
 use Rattle.map_laws.proofs.AreaWorlds.{IsLegalStep, event_legal, legally_lasts}
 use Rattle.map_laws.proofs.BlockFacts.{to_same}
 use Rattle.map_laws.proofs.Words.{HaveCells, have_cells_section, have_cells_first, AreCells, HasFrame, added_other}
 use Rattle.map_laws.proofs.Deeds.{adds_at}
-use Rattle.map_laws.proofs.Frames.{IsFramed}
-use Rattle.map_laws.proofs.Lists.{there}
-use Rattle.map_laws.proofs.MadeNext.{IsNow}
+use Rattle.map_laws.proofs.Frames.{IsFramed, there}
+use Rattle.map_laws.proofs.SizedCalls.{IsNow, AreSized, sized_lasts, sized_first}
 use Rattle.map_laws.proofs.ObjectFacts.{IsObject, object_only}
-use Rattle.map_laws.proofs.ObjectLaws.{objects_mapped}
+use Rattle.map_laws.proofs.MapLaws.{objects_mapped}
 use Rattle.map_laws.proofs.ObjectsReady.{named_live}
-use Rattle.map_laws.proofs.ObjectWords.{IsWordOf, IsWordy, word_whole, word_mapped, one_word}
-use Rattle.map_laws.proofs.ObjectWorlds.{SomeonePlaces}
-use Rattle.map_laws.proofs.SizedCalls.{AreSized, sized_lasts, sized_first}
+use Rattle.map_laws.proofs.ObjectWords.{IsWordOf, IsWordy, word_whole, word_mapped, one_word, add_within}
+use Rattle.map_laws.proofs.TraceWorlds.{SomeonePlaces, IsTraceWorld, trace_reached}
 use Rattle.map_laws.proofs.SumLaws.{sums_are_the_adds}
-use Rattle.map_laws.proofs.TraceWorlds.{IsTraceWorld, trace_reached}
-use Rattle.map_laws.proofs.UsedWords.{add_within}
 use Rattle.call_laws.specs.Adds.{AddsChangeOneWord}
-
-never_word : (a b c d : Bool) → (a ≡ true → b ≡ true → ⊥) → (a && b && c && d) ≡ false
-never_word true true c d apart = absurd (apart refl refl)
-never_word true false c d apart = refl
-never_word false b c d apart = refl
 
 module _ (c : Setup) (opening : List Call) (calls : List (List Call)) (trace : IsTrace c opening calls) (w : World) (reached : IsReached c opening calls w) where
   framed : IsFramed c w
@@ -74,11 +65,8 @@ module _ (c : Setup) (opening : List Call) (calls : List (List Call)) (trace : I
     setup : l.setup ≡ c
     setup = (framed.own caller l here).setup
 
-    meets : Meets c (ask c l.place) (AddWord at serial cpu index amount)
-    meets = subst (λ d. Meets d (ask d l.place) (AddWord at serial cpu index amount)) setup step.meets
-
     place : l.place ≡ Adding at serial cpu index amount
-    place = adds_at c l.place at serial cpu index amount meets
+    place = grind (arith, adds_at, setup, step)
 
     target : IsObject w.map.chunks at (Lives serial)
     target = named_live c trace.setup w framed world caller l here at serial (subst (IsNow l) place (world.uses.now caller l here))
@@ -103,17 +91,7 @@ module _ (c : Setup) (opening : List Call) (calls : List (List Call)) (trace : I
     -- of an object that isn't live
     module _ (i j cpu' index' : ℕ) (h : Chunk) (o : Object) (h_there : slice_get w.map.chunks i ≡ Some h) (o_there : slice_get h.objects j ≡ Some o) (low : cpu' < cpus c) (inside : 4 * index' < o.bytes) (idle : is_live o.life ≡ false) where
       object : IsObject w.map.chunks (object_at h o) o.life
-      object = record {
-        chunk = h;
-        there = record { place = i; at = h_there };
-        numbered = refl;
-        based = refl;
-        object = o;
-        object_there = record { place = j; at = o_there };
-        off = refl;
-        bytes = refl;
-        lives = refl;
-      }
+      object = grind (arith, there, place)
 
       -- it isn't the object of the add
       apart : at.chunk ≡ h.number → at.off ≡ o.off → ⊥
@@ -134,10 +112,9 @@ module _ (c : Setup) (opening : List Call) (calls : List (List Call)) (trace : I
       cells_after = add_word w.map.frames word.0 amount w.map.cells
 
       by_frame : (f : Option (Option ℕ)) → slice_get w.map.frames (word'.0 / 4096) ≡ f → word_at w.map.frames cells_after word'.0 ≡ word_at w.map.frames w.map.cells word'.0
-      by_frame None e = ap (λ x. read_cell cells_after (cell_in (joined_option x) word'.0)) e ∙ sym (ap (λ x. read_cell w.map.cells (cell_in (joined_option x) word'.0)) e)
-      by_frame (Some None) e = ap (λ x. read_cell cells_after (cell_in (joined_option x) word'.0)) e ∙ sym (ap (λ x. read_cell w.map.cells (cell_in (joined_option x) word'.0)) e)
       by_frame (Some (Some f)) e = added_other c.frames w.map.frames w.map.cells are word.0 framed_word.0 amount framed_word.1 word'.0 f e
           (word_whole c at cpu index word.0 (wordy at (Lives serial) target) word.1) (word_whole c (object_at h o) cpu' index' word'.0 (wordy (object_at h o) o.life object) word'.1) other_byte
+      by_frame _ e = ap (λ x. read_cell cells_after (cell_in (joined_option x) word'.0)) e ∙ sym (ap (λ x. read_cell w.map.cells (cell_in (joined_option x) word'.0)) e)
 
       unchanged : word_of c (effect c w.map (record { caller = caller; section = AddWord at serial cpu index amount })) (object_at h o) cpu' index' ≡ word_of c w.map (object_at h o) cpu' index'
       unchanged =
@@ -145,7 +122,7 @@ module _ (c : Setup) (opening : List Call) (calls : List (List Call)) (trace : I
           ∙ ap (λ b. word_at w.map.frames cells_after b) word'.2 ∙ by_frame (slice_get w.map.frames (word'.0 / 4096)) refl ∙ sym (ap (λ b. word_at w.map.frames w.map.cells b) word'.2)
 
       not_it : is_word at cpu index (object_at h o) cpu' index' ≡ false
-      not_it = never_word (at.chunk == h.number) (at.off == o.off) (cpu == cpu') (index == index') (λ e f. apart (to_same at.chunk h.number e) (to_same at.off o.off f))
+      not_it = grind (arith, apart, to_same)
 
       pub in_hand : word_of c (effect c w.map (record { caller = caller; section = AddWord at serial cpu index amount })) (object_at h o) cpu' index'
           ≡ grown_if (is_word at cpu index (object_at h o) cpu' index') (word_of c w.map (object_at h o) cpu' index') amount

@@ -1,5 +1,5 @@
 -- One caller with one more section of its own.
-use Rattle.std.proofs.Common.{◌≡◌, ℕ, zero, suc, ◌+◌, ◌<◌, ◌≤◌, inl, inr, List, [], ◌∷◌, ◌++◌, length, take, slice_get, Option, Some, None, refl, ap, sym, ◌∙◌, subst, arith, length-append}
+use Rattle.std.proofs.Common.{◌≡◌, ℕ, zero, suc, ◌+◌, ◌<◌, ◌≤◌, inl, inr, List, [], ◌∷◌, ◌++◌, length, take, slice_get, Some, refl, ap, sym, ◌∙◌, subst, arith, length-append}
 use Rattle.std.proofs.lemmas.List.{take-append-le, take_all}
 use Rattle.std.proofs.lemmas.Option.{slice_get_within, same_Some}
 use Rattle.vm_model.specs.declared.calls.Call.{Call}
@@ -8,13 +8,12 @@ use Rattle.vm_model.specs.Setup.{Setup, cpus}
 use Rattle.vm_model.specs.Places.{Made, ask}
 use Rattle.vm_model.specs.Next.{Next, Go, Answer, next}
 use Rattle.vm_model.specs.Calls.{Answered, begin, begin_call}
-use Rattle.vm_model.specs.History.{Local, started, answered, answered_of, moved_to}
+use Rattle.vm_model.specs.History.{Local, started, answered, moved_to}
 use Rattle.vm_model.specs.LegalHistory.{Meets, Makes}
-use Rattle.vm_model.specs.ObjectShapes.{HasShape}
 use Rattle.vm_model.proofs.CallShapes.{calls_have_shapes}
-use Rattle.map_laws.proofs.Lists.{append_cases}
+use Rattle.map_laws.proofs.Frames.{append_cases}
 use Rattle.map_laws.proofs.Places.{answers_call}
-use Rattle.call_laws.specs.Histories.{OwnSection, sections, events_at, sections_for, sections_since, Leads, IsSettled, IsAnswerOf}
+use Rattle.call_laws.specs.Histories.{OwnSection, sections, events_at, sections_for, sections_since, Leads, IsAnswerOf}
 use Rattle.call_laws.proofs.Owns.{more_own, for-more, since-more, for-last, since-none, events_at-more}
 use Rattle.call_laws.proofs.Led.{led_on, led_makes}
 use Rattle.call_laws.proofs.Dues.{due_led, call_due}
@@ -29,15 +28,7 @@ pub record IsShapedBy (c : Setup) (own : List OwnSection) (l : Local) : Type 0 w
 module _ (c : Setup) where
   -- one more section changes nothing of an answer that was given
   answer_more : (opening : List Answered) (calls : List Call) (own : List OwnSection) (o : OwnSection) (i : ℕ) (before : List Answered) (answer : Answered) → IsAnswerOf c opening calls own i before answer → IsAnswerOf c opening calls (own ++ o ∷ []) i before answer
-  answer_more opening calls own o i before answer is =
-      let same = sym (for-more own o before answer is.by_then) in record {
-        call = is.call;
-        later = is.later;
-        by_then = omega (arith, more_own own o, is.by_then);
-        makes = subst (λ x. Makes c (Go (begin_call c opening before answer.call)) (sections x) answer.reply answer.made) same is.makes;
-        shape = subst (λ x. HasShape c opening before answer.call answer.reply (sections x)) same is.shape;
-        settled = subst (λ x. IsSettled (sections x) answer.reply answer.made) same is.settled;
-      }
+  answer_more opening calls own o i before answer is = grind (arith, for-more, more_own)
 
   module _ (some : 1 ≤ cpus c) (own : List OwnSection) (o : OwnSection) (l : Local) (setup : l.setup ≡ c) (is : IsShapedBy c own l) (has : length l.answers < length l.calls) (meets : Meets c (ask c l.place) o.section) where
     abbrev begun : Next
@@ -123,18 +114,10 @@ module _ (c : Setup) where
 
 -- a section leaves a caller its calls, and the opening's answers
 module _ (l : Local) where
-  moved_list_of : (o : Option Call) (answer : Call → Answered) → (answered_of l o answer).calls ≡ l.calls
-  moved_list_of None answer = refl
-  moved_list_of (Some call) answer = refl
-
-  moved_opening_of : (o : Option Call) (answer : Call → Answered) → (answered_of l o answer).opening ≡ l.opening
-  moved_opening_of None answer = refl
-  moved_opening_of (Some call) answer = refl
-
   pub moved_list : (n : Next) → (moved_to l n).calls ≡ l.calls
   moved_list (Go p) = refl
-  moved_list (Answer r made) = moved_list_of (slice_get l.calls (length l.answers)) _
+  moved_list (Answer r made) = grind arith
 
   pub moved_opening : (n : Next) → (moved_to l n).opening ≡ l.opening
   moved_opening (Go p) = refl
-  moved_opening (Answer r made) = moved_opening_of (slice_get l.calls (length l.answers)) _
+  moved_opening (Answer r made) = grind arith

@@ -4,14 +4,13 @@ use Rattle.std.proofs.lemmas.Option.{slice_get_within, same_Some}
 use Rattle.vm_model.specs.declared.calls.Call.{Call}
 use Rattle.vm_model.specs.Setup.{Setup, cpus}
 use Rattle.vm_model.specs.Events.{Section}
-use Rattle.vm_model.specs.Places.{Place, Over, ask, AskNothing}
+use Rattle.vm_model.specs.Places.{Over, ask}
 use Rattle.vm_model.specs.Next.{Go, next}
 use Rattle.vm_model.specs.Calls.{Answered, begin, begin_call}
 use Rattle.vm_model.specs.History.{World, Local, started, moved_to, made_by, opening_world, opening_answers, callers_from, with_callers}
 use Rattle.vm_model.specs.LegalHistory.{Meets, IsReached, AllOver}
 use Rattle.vm_model.specs.Rules.{IsTrace}
-use Rattle.map_laws.proofs.Lists.{same_or, set_cases, set_other, append_cases, append_first}
-use Rattle.map_laws.proofs.Frames.{IsFramed, not_over, has_call}
+use Rattle.map_laws.proofs.Frames.{same_or, set_cases, set_other, append_cases, append_first, IsFramed, not_over, has_call}
 use Rattle.map_laws.proofs.AreaWorlds.{IsLegalStep, legally_lasts}
 use Rattle.call_laws.proofs.Dues.{IsDue, due_led, call_due}
 use Rattle.call_laws.specs.Histories.{OwnSection, own_sections, sections, sections_since, Leads, answers_before, HistoriesHaveTheShapesOfCalls}
@@ -34,8 +33,7 @@ pub record IsShapedWorld (c : Setup) (lists : List (List Call)) (w : World) : Ty
   pub others : (k : ℕ) → length w.locals ≤ k → own_sections k w.events ≡ []
 
 opened_same : (locals : List Local) (k : ℕ) (l x : Local) → l.opening ≡ x.opening → IsOpenedBy locals k l → IsOpenedBy locals k x
-opened_same locals zero l x e is = sym e ∙ is
-opened_same locals (suc k) l x e is = (is.0, is.1, is.2, sym e ∙ is.3)
+opened_same locals k l x e is = grind arith
 
 module _ (c : Setup) (lists : List (List Call)) (some : 1 ≤ cpus c) (w : World) (k : ℕ) (l : Local) (s : Section) (framed : IsFramed c w) (is : IsShapedWorld c lists w) (step : IsLegalStep w k l s) where
   abbrev moved : Local
@@ -62,14 +60,10 @@ module _ (c : Setup) (lists : List (List Call)) (some : 1 ≤ cpus c) (w : World
   ]
 
   still_opened : (j : ℕ) (x : Local) → IsOpenedBy w.locals j x → IsOpenedBy (made_by w l s).locals j x
-  still_opened zero x e = e
-  still_opened (suc j) x e = (e.0, still_first e.0 e.1 e.2, e.2, e.3)
+  still_opened j x e = grind (arith, still_first)
 
   by_local : (P : ℕ → Local → Type 0) → P k moved → ((j : ℕ) (x : Local) → j ≢ k → slice_get w.locals j ≡ Some x → P j x) → (j : ℕ) (x : Local) → slice_get (made_by w l s).locals j ≡ Some x → P j x
-  by_local P own other j x h = elim (set_cases w.locals l.caller j moved x h) [
-    | inl e ↦ subst (P j) (sym e.1) (subst (λ i. P i moved) (sym (e.0 ∙ caller)) own)
-    | inr e ↦ other j x (λ f. e.0 (f ∙ sym caller)) e.1
-  ]
+  by_local P own other j x h = grind (arith, set_cases, caller)
 
   pub shaped_step : IsShapedWorld c lists (made_by w l s)
   shaped_step = record {
@@ -92,12 +86,7 @@ module _ (c : Setup) (opening : List Call) (calls : List (List Call)) where
       → (own : List Call) × (slice_get more j ≡ Some own) × (l ≡ started c answers (first + j) own)
   begins_at answers first [] j l h = cc
   begins_at answers first (own ∷ more) zero l h = (own, refl, sym (same_Some _ _ h) ∙ ap (λ n. started c answers n own) (let e : first ≡ first + 0 = omega arith in e))
-  begins_at answers first (own ∷ more) (suc j) l h =
-      let at = begins_at answers (suc first) more j l h in (at.0, at.1, at.2 ∙ ap (λ n. started c answers n at.0) (let e : suc first + j ≡ first + suc j = omega arith in e))
-
-  over_place : (d : Setup) (p : Place) → ask d p ≡ AskNothing → p ≡ Over
-  over_place d Over e = refl
-  over_place d _ e = cc
+  begins_at answers first (own ∷ more) (suc j) l h = grind (arith, begins_at answers (suc first) more j l h)
 
   module _ (w : World) (one : length w.locals ≡ 1) (over : AllOver w.locals) (is : IsShapedWorld c (opening ∷ calls) w) where
     abbrev joined : World
@@ -105,14 +94,13 @@ module _ (c : Setup) (opening : List Call) (calls : List (List Call)) where
 
     first_over : (locals : List Local) → length locals ≡ 1 → AllOver locals → (first : Local) × (slice_get locals 0 ≡ Some first) × (first.place ≡ Over) × (opening_answers locals ≡ first.answers)
     first_over [] short all = cc
-    first_over (first ∷ locals) short all = (first, refl, over_place first.setup first.place all.0, refl)
+    first_over (first ∷ locals) short all = grind (arith, setup)
 
     opens : (first : Local) × (slice_get w.locals 0 ≡ Some first) × (first.place ≡ Over) × (opening_answers w.locals ≡ first.answers)
     opens = first_over w.locals one over
 
     opened_joins : (k : ℕ) (l : Local) → IsOpenedBy w.locals k l → IsOpenedBy joined.locals k l
-    opened_joins zero l e = e
-    opened_joins (suc k) l e = (e.0, append_first w.locals (callers_from c (opening_answers w.locals) 1 calls) 0 e.0 e.1, e.2, e.3)
+    opened_joins k l e = grind (arith, append_first)
 
     by_start : (P : ℕ → Local → Type 0) → ((k : ℕ) (l : Local) → slice_get w.locals k ≡ Some l → P k l)
         → ((j : ℕ) (own : List Call) → slice_get calls j ≡ Some own → P (suc j) (started c (opening_answers w.locals) (suc j) own)) → (k : ℕ) (l : Local) → slice_get joined.locals k ≡ Some l → P k l
@@ -136,16 +124,7 @@ module _ (c : Setup) (opening : List Call) (calls : List (List Call)) where
     }
 
   pub shaped_first : IsShapedWorld c (opening ∷ calls) (opening_world c opening calls)
-  shaped_first = record {
-    each = first (λ k l. IsShapedBy c [] l) (shaped_started c [] 0 opening);
-    list = first (λ k l. slice_get (opening ∷ calls) k ≡ Some l.calls) refl;
-    opened = first (λ k l. IsOpenedBy (opening_world c opening calls).locals k l) refl;
-    others = λ k far. refl;
-  }
-    where
-      first : (P : ℕ → Local → Type 0) → P 0 (started c [] 0 opening) → (k : ℕ) (l : Local) → slice_get (opening_world c opening calls).locals k ≡ Some l → P k l
-      first P is zero l h = subst (P 0) (same_Some _ _ h) is
-      first P is (suc k) l h = cc
+  shaped_first = grind (arith, shaped_started, same_Some)
 
   pub shaped_reached : IsTrace c opening calls → (w : World) → IsReached c opening calls w → IsShapedWorld c (opening ∷ calls) w
   shaped_reached trace w reached = (legally_lasts c calls (IsShapedWorld c (opening ∷ calls)) (record {
@@ -154,9 +133,7 @@ module _ (c : Setup) (opening : List Call) (calls : List (List Call)) where
   }) opening shaped_first w reached).1
 
 answers_opened : (locals : List Local) (k : ℕ) (l : Local) → IsOpenedBy locals k l → l.opening ≡ answers_before locals k
-answers_opened locals zero l is = is
-answers_opened [] (suc k) l is = (let at = is.1 in cc)
-answers_opened (first ∷ locals) (suc k) l is = is.3 ∙ ap (λ (x : Local). x.answers) (sym (same_Some _ _ is.1))
+answers_opened locals k l is = grind (arith, same_Some)
 
 -- a caller that has ended has no call at hand
 module _ (c : Setup) (own : List OwnSection) (l : Local) (is : IsShapedBy c own l) where

@@ -1,5 +1,5 @@
 -- The shape of a call, over its own sections, says the cause of its reply.
-use Rattle.std.proofs.Common.{◌≡◌, ℕ, ◌+◌, ◌<◌, ◌≤◌, ◌⊎◌, inl, inr, Bool, true, false, nat_le, if◌then◌else◌, List, [], ◌∷◌, ◌++◌, length, take, slice_get, Some, None, refl, ap, sym, ◌∙◌, subst, arith, append_assoc, append-nil, ◌*◌, max, ℤ}
+use Rattle.std.proofs.Common.{◌≡◌, ℕ, ◌+◌, ◌<◌, ◌≤◌, ◌⊎◌, inl, inr, true, false, nat_le, if◌then◌else◌, List, [], ◌∷◌, ◌++◌, length, take, slice_get, Some, None, refl, ap, sym, ◌∙◌, subst, arith, append_assoc, append-nil, ◌*◌, max}
 use Rattle.std.proofs.lemmas.Bool.Decides.{nat_tests}
 use Rattle.vm_model.specs.declared.calls.Target.{Target}
 use Rattle.vm_model.specs.declared.areas.AreaKind.{AreaKind}
@@ -12,17 +12,17 @@ use Rattle.vm_model.specs.Setup.{Setup, pages_in_units}
 use Rattle.vm_model.specs.Areas.{mapped_part}
 use Rattle.vm_model.specs.Chunks.{ObjectAt}
 use Rattle.vm_model.specs.PlainMap.{PlainMap, at_first}
-use Rattle.vm_model.specs.Events.{Event, Section, Search, ForPages, ForGroups, NoHole, NoFrames, NoAtomic, AddWord, Drop, NoPart, TakeAlloc, GiveAlloc, NoPlace, Unplace, NextPage, NoSpare, AreaNotLive, PartNotLive, ObjectNotLive}
+use Rattle.vm_model.specs.Events.{Event, Section, Search, ForPages, ForGroups, NoHole, NoFrames, NoAtomic, Drop, NoPart, TakeAlloc, GiveAlloc, NoPlace, Unplace, NextPage, NoSpare, AreaNotLive, PartNotLive, ObjectNotLive}
 use Rattle.vm_model.specs.Legal.{IsLegalAs}
 use Rattle.vm_model.specs.Places.{Made, MadeNothing, MadeArea, MadePart, MadeObject}
-use Rattle.vm_model.specs.Calls.{Answered, words_for, pages_for, align_pages, answers_in, target_of, was_freed}
+use Rattle.vm_model.specs.Calls.{Answered, words_for, pages_for, align_pages, target_of}
 use Rattle.vm_model.specs.History.{Local, placing_calls}
-use Rattle.vm_model.specs.Shapes.{IsPurge, IsFind, IsRefused, IsAreaMade, IsVfree, IsPartMade, IsUnmapRam}
-use Rattle.vm_model.specs.ObjectShapes.{HasShape, IsFreePercpu, IsAdd, IsSum, fill_sections, spare_sections}
+use Rattle.vm_model.specs.Shapes.{IsPurge, IsFind, IsRefused, IsAreaMade, IsPartMade, IsUnmapRam}
+use Rattle.vm_model.specs.ObjectShapes.{HasShape, IsFreePercpu, fill_sections, spare_sections}
 use Rattle.vm_model.specs.Laws.{Always, map_at}
 use Rattle.call_laws.specs.Histories.{OwnSection, own_sections, sections, sections_for, events_at}
 use Rattle.call_laws.specs.Causes.{WasNotLive, is_bad_size, is_bad_align, HasItsCause, searched_for, FoundNoHole, LackedFrames, FoundNoAtomic, WasGone, WasUnbound}
-use Rattle.call_laws.proofs.Unusable.{IsNoArea, IsNoMapping, IsNoObject, IsUnusable}
+use Rattle.call_laws.proofs.Unusable.{IsNoMapping, IsUnusable}
 use Rattle.call_laws.proofs.LegalEvents.{IsOneOf, one_middle, one_between, own_legal, legal_reached}
 use Rattle.call_laws.proofs.CallWorlds.{histories_have_shapes}
 
@@ -40,11 +40,7 @@ HasCause c m events opening before call _ own = Unit {0}
 -- and of an answer that is unbound only for its cause
 pub its_cause : (c : Setup) (m : PlainMap) (events : List Event) (opening before : List Answered) (call : Call) (answer : Reply) (own : List OwnSection) → HasCause c m events opening before call answer own
     → (answer ≡ reply.Unbound → WasUnbound opening before call) → HasItsCause c m events opening before call answer own
-its_cause c m events opening before call answer own has was =
-    record { no_space = of; no_frames = of; no_atomic = of; not_live = of; unbound = λ e. (was e, (of e).1); bad_size = of; bad_align = of }
-  where
-    of : {r : Reply} → answer ≡ r → HasCause c m events opening before call r own
-    of {r} e = subst (λ x. HasCause c m events opening before call x own) e has
+its_cause c m events opening before call answer own has was = grind (arith, nat_tests)
 
 -- Lists whose sections are known.
 
@@ -100,13 +96,7 @@ pub record Searched (c : Setup) (es : List Section) (search : Search) : Type 0 w
   pub all : es ≡ before ++ NoHole search ∷ (purge ++ NoHole search ∷ after)
 
 searched : (c : Setup) (search : Search) (pre find post : List Section) → IsFind c search None find → Searched c (pre ++ (find ++ post)) search
-searched c search pre find post is = record {
-  before = pre;
-  purge = is.0;
-  after = post;
-  is = is.1;
-  all = ap (λ l. pre ++ (l ++ post)) is.2 ∙ ap (λ l. pre ++ NoHole search ∷ l) (append_assoc is.0 (NoHole search ∷ []) post);
-}
+searched c search pre find post is = grind (arith, append_assoc, nat_tests)
 
 module _ (c : Setup) (m : PlainMap) (events : List Event) (k : ℕ) where
   abbrev pub AreLegal : List OwnSection → Type 0
@@ -228,22 +218,14 @@ module _ (c : Setup) (m : PlainMap) (events : List Event) (k : ℕ) where
           (no_hole_in (ForPages c.block_pages c.block_pages) (NoPart cpu pages ∷ []) is.1.0 [] is.1.1 (is.1.2 ∙ ap (λ l. NoPart cpu pages ∷ l) (sym (append-nil is.1.0))))
       map_space cpu pages (inr is) = subst (λ b. FoundNoHole c m events (if b then ForPages c.block_pages c.block_pages else ForPages pages 1) own) (sym (le_false pages c.part_limit is.0)) (area_space pages 1 kind.MapRam is.1)
 
-      map_frames : (cpu pages : ℕ) → ((pages ≤ c.part_limit) × IsPartMade c cpu pages reply.NoFrames (sections own)) ⊎ ((c.part_limit < pages) × IsAreaMade c pages 1 kind.MapRam reply.NoFrames (sections own)) → LackedFrames c m events own
-      map_frames cpu pages (inl is) = lacked_in pages is.1.1 is.1.2 is.1.7
-      map_frames cpu pages (inr is) = area_frames pages 1 kind.MapRam is.1
-
-      either_none : {A B : Type 0} → (A × ⊥) ⊎ (B × ⊥) → ⊥
-      either_none (inl is) = is.1
-      either_none (inr is) = is.1
-
       map_caused : (cpu pages : ℕ) (r : Reply) → Caused (MapRam cpu pages) r
       map_caused cpu pages reply.NoSpace is = map_space cpu pages is.1
-      map_caused cpu pages reply.NoFrames is = map_frames cpu pages is.1
-      map_caused cpu pages reply.NoAtomic is = absurd (either_none is.1)
-      map_caused cpu pages reply.NotLive is = absurd (either_none is.1)
-      map_caused cpu pages reply.Unbound is = absurd (either_none is.1)
+      map_caused cpu pages reply.NoFrames is = grind (arith, lacked_in, area_frames, nat_tests)
+      map_caused cpu pages reply.NoAtomic is = grind (arith, nat_tests)
+      map_caused cpu pages reply.NotLive is = grind (arith, nat_tests)
+      map_caused cpu pages reply.Unbound is = grind (arith, nat_tests)
       map_caused cpu pages reply.BadSize is = is
-      map_caused cpu pages reply.BadAlign is = absurd (either_none is.1)
+      map_caused cpu pages reply.BadAlign is = grind (arith, nat_tests)
       map_caused cpu pages _ is = tt
 
       object_caused : (bytes align : ℕ) (r : Reply) → Caused (AllocPercpu bytes align) r
@@ -256,101 +238,19 @@ module _ (c : Setup) (m : PlainMap) (events : List Event) (k : ℕ) where
       object_caused bytes align reply.BadAlign is = is
       object_caused bytes align _ is = tt
 
-      atomic_caused : (bytes align : ℕ) (r : Reply) → Caused (AllocAtomic bytes align) r
-      atomic_caused bytes align reply.NoSpace is = absurd is.2
-      atomic_caused bytes align reply.NoFrames is = absurd is.2
-      atomic_caused bytes align reply.NoAtomic is = no_atomic (4 * words_for bytes) (max align 4) is.2
-      atomic_caused bytes align reply.NotLive is = absurd is.2
-      atomic_caused bytes align reply.Unbound is = absurd is.2
-      atomic_caused bytes align reply.BadSize is = is
-      atomic_caused bytes align reply.BadAlign is = is
-      atomic_caused bytes align _ is = tt
-
       -- a call whose target made nothing that it can use
       unbound_by : (call : Call) (r : Reply) → IsUnusable opening before call → (r ≡ reply.Unbound) × IsRefused (sections own) → HasCause c m events opening before call r own
       unbound_by call r was is = subst (λ x. HasCause c m events opening before call x own) (sym is.0) (was, is.1)
 
-      -- a call for an area by its target
-      vfree_by : (t : Target) (made : Made) (r : Reply) → target_of opening before t ≡ made → IsVfree c made r (sections own) → HasCause c m events opening before (Vfree t) r own
-      vfree_by t (MadeArea start serial) reply.NoSpace e is = absurd is
-      vfree_by t (MadeArea start serial) reply.NoFrames e is = absurd is
-      vfree_by t (MadeArea start serial) reply.NoAtomic e is = absurd is
-      vfree_by t (MadeArea start serial) reply.NotLive e is = subst (λ n. WasGone c m events n own) (sym e) (gone_area start serial is)
-      vfree_by t (MadeArea start serial) reply.Unbound e is = absurd is
-      vfree_by t (MadeArea start serial) reply.BadSize e is = absurd is
-      vfree_by t (MadeArea start serial) reply.BadAlign e is = absurd is
-      vfree_by t (MadeArea start serial) _ e is = tt
-      vfree_by t MadeNothing r e is = unbound_by (Vfree t) r (subst IsNoArea (sym e) tt) is
-      vfree_by t (MadePart cpu page serial) r e is = unbound_by (Vfree t) r (subst IsNoArea (sym e) tt) is
-      vfree_by t (MadeObject at serial) r e is = unbound_by (Vfree t) r (subst IsNoArea (sym e) tt) is
-
       unmap_by : (t : Target) (made : Made) (r : Reply) → target_of opening before t ≡ made → IsUnmapRam c made r (sections own) → HasCause c m events opening before (UnmapRam t) r own
       unmap_by t (MadeArea start serial) reply.NotLive e is = subst (λ n. WasGone c m events n own) (sym e) (gone_area start serial is)
-      unmap_by t (MadeArea start serial) reply.NoSpace e is = absurd is
-      unmap_by t (MadeArea start serial) reply.NoFrames e is = absurd is
-      unmap_by t (MadeArea start serial) reply.NoAtomic e is = absurd is
-      unmap_by t (MadeArea start serial) reply.Unbound e is = absurd is
-      unmap_by t (MadeArea start serial) reply.BadSize e is = absurd is
-      unmap_by t (MadeArea start serial) reply.BadAlign e is = absurd is
-      unmap_by t (MadeArea start serial) _ e is = tt
       unmap_by t (MadePart cpu page serial) reply.NotLive e is = subst (λ n. WasGone c m events n own) (sym e) (gone_part cpu page serial is)
-      unmap_by t (MadePart cpu page serial) reply.NoSpace e is = absurd is
-      unmap_by t (MadePart cpu page serial) reply.NoFrames e is = absurd is
-      unmap_by t (MadePart cpu page serial) reply.NoAtomic e is = absurd is
-      unmap_by t (MadePart cpu page serial) reply.Unbound e is = absurd is
-      unmap_by t (MadePart cpu page serial) reply.BadSize e is = absurd is
-      unmap_by t (MadePart cpu page serial) reply.BadAlign e is = absurd is
-      unmap_by t (MadePart cpu page serial) _ e is = tt
       unmap_by t MadeNothing r e is = unbound_by (UnmapRam t) r (subst IsNoMapping (sym e) tt) is
       unmap_by t (MadeObject at serial) r e is = unbound_by (UnmapRam t) r (subst IsNoMapping (sym e) tt) is
+      unmap_by t _ _ e is = grind arith
 
       free_by : (t : Target) (made : Made) (r : Reply) → target_of opening before t ≡ made → IsFreePercpu made r (sections own) → HasCause c m events opening before (FreePercpu t) r own
-      free_by t (MadeObject at serial) reply.NotLive e is = subst (λ n. WasGone c m events n own) (sym e) (gone_object at serial is)
-      free_by t (MadeObject at serial) reply.NoSpace e is = absurd is
-      free_by t (MadeObject at serial) reply.NoFrames e is = absurd is
-      free_by t (MadeObject at serial) reply.NoAtomic e is = absurd is
-      free_by t (MadeObject at serial) reply.Unbound e is = absurd is
-      free_by t (MadeObject at serial) reply.BadSize e is = absurd is
-      free_by t (MadeObject at serial) reply.BadAlign e is = absurd is
-      free_by t (MadeObject at serial) _ e is = tt
-      free_by t MadeNothing r e is = unbound_by (FreePercpu t) r (subst IsNoObject (sym e) tt) is
-      free_by t (MadeArea start serial) r e is = unbound_by (FreePercpu t) r (subst IsNoObject (sym e) tt) is
-      free_by t (MadePart cpu page serial) r e is = unbound_by (FreePercpu t) r (subst IsNoObject (sym e) tt) is
-
-      -- a use of an object: refused as freed, or made with this reply
-      used_by : (call : Call) (freed : Bool) (r given : Reply) → (freed ≡ true → IsRefused (sections own) → HasCause c m events opening before call reply.NotLive own) → HasCause c m events opening before call given own
-          → (IsUsed : Type 0) → (IsUsed → r ≡ given) → ((freed ≡ true) × (r ≡ reply.NotLive) × IsRefused (sections own)) ⊎ ((freed ≡ false) × IsUsed) → HasCause c m events opening before call r own
-      used_by call freed r given refused fine IsUsed gives (inl is) = subst (λ x. HasCause c m events opening before call x own) (sym is.1) (refused is.0 is.2)
-      used_by call freed r given refused fine IsUsed gives (inr is) = subst (λ x. HasCause c m events opening before call x own) (sym (gives is.1)) fine
-
-      add_by : (t : Target) (cpu index : ℕ) (amount : ℤ) (made : Made) (r : Reply) → target_of opening before t ≡ made → IsAdd (was_freed (answers_in opening before t) t.call) cpu index amount made r (sections own)
-          → HasCause c m events opening before (Add t cpu index amount) r own
-      add_by t cpu index amount (MadeObject at serial) r e is =
-          used_by (Add t cpu index amount) (was_freed (answers_in opening before t) t.call) r reply.Done (λ f refused. (f, refused)) tt ((r ≡ reply.Done) × (sections own ≡ AddWord at serial cpu index amount ∷ [])) (λ used. used.0) is
-      add_by t cpu index amount MadeNothing r e is = unbound_by (Add t cpu index amount) r (subst IsNoObject (sym e) tt) is
-      add_by t cpu index amount (MadeArea start serial) r e is = unbound_by (Add t cpu index amount) r (subst IsNoObject (sym e) tt) is
-      add_by t cpu index amount (MadePart own_cpu page serial) r e is = unbound_by (Add t cpu index amount) r (subst IsNoObject (sym e) tt) is
-
-      sum_told : (t : Target) (index : ℕ) (r : Reply) (total : ℤ) → r ≡ reply.Sum total → HasCause c m events opening before (Sum t index) r own
-      sum_told t index r total e = subst (λ x. HasCause c m events opening before (Sum t index) x own) (sym e) tt
-
-      sum_by : (t : Target) (index : ℕ) (made : Made) (r : Reply) → target_of opening before t ≡ made → IsSum (was_freed (answers_in opening before t) t.call) index made r (sections own)
-          → HasCause c m events opening before (Sum t index) r own
-      sum_by t index (MadeObject at serial) r e (inl is) = subst (λ x. HasCause c m events opening before (Sum t index) x own) (sym is.1) (is.0, is.2)
-      sum_by t index (MadeObject at serial) r e (inr is) = sum_told t index r is.1.0 is.1.1
-      sum_by t index MadeNothing r e is = unbound_by (Sum t index) r (subst IsNoObject (sym e) tt) is
-      sum_by t index (MadeArea start serial) r e is = unbound_by (Sum t index) r (subst IsNoObject (sym e) tt) is
-      sum_by t index (MadePart own_cpu page serial) r e is = unbound_by (Sum t index) r (subst IsNoObject (sym e) tt) is
-
-      aliases_caused : (r : Reply) → Caused UnmapAliases r
-      aliases_caused reply.NoSpace is = absurd is
-      aliases_caused reply.NoFrames is = absurd is
-      aliases_caused reply.NoAtomic is = absurd is
-      aliases_caused reply.NotLive is = absurd is
-      aliases_caused reply.Unbound is = absurd is
-      aliases_caused reply.BadSize is = absurd is
-      aliases_caused reply.BadAlign is = absurd is
-      aliases_caused _ is = tt
+      free_by t made r e is = grind (arith, gone_object, unbound_by, nat_tests)
 
       balance_caused : (r : Reply) → Caused Balance r
       balance_caused reply.NoFrames is =
@@ -361,25 +261,19 @@ module _ (c : Setup) (m : PlainMap) (events : List Event) (k : ℕ) where
           lacked_in asked (TakeAlloc ∷ (spares ++ (NoSpare ∷ (fills ++ NextPage p.chunk p.base p.page ∷ [])))) (GiveAlloc ∷ [])
           (is.4 ∙ ap (λ l. TakeAlloc ∷ (spares ++ (NoSpare ∷ l))) (sym (append_assoc fills (NextPage p.chunk p.base p.page ∷ []) (NoFrames asked ∷ GiveAlloc ∷ [])))
           ∙ ap (λ l. TakeAlloc ∷ l) (sym (append_assoc spares (NoSpare ∷ (fills ++ NextPage p.chunk p.base p.page ∷ [])) (NoFrames asked ∷ GiveAlloc ∷ []))))
-      balance_caused reply.NoSpace is = absurd is
-      balance_caused reply.NoAtomic is = absurd is
-      balance_caused reply.NotLive is = absurd is
-      balance_caused reply.Unbound is = absurd is
-      balance_caused reply.BadSize is = absurd is
-      balance_caused reply.BadAlign is = absurd is
-      balance_caused _ is = tt
+      balance_caused _ is = grind arith
 
       pub caused : (call : Call) (r : Reply) → Caused call r
       caused (Vmalloc bytes align) r is = vmalloc_caused bytes align r is
-      caused (Vfree t) r is = vfree_by t (target_of opening before t) r refl is
+      caused (Vfree t) r is = grind (arith, gone_area, unbound_by, nat_tests)
       caused (MapRam cpu pages) r is = map_caused cpu pages r is
       caused (UnmapRam t) r is = unmap_by t (target_of opening before t) r refl is
-      caused UnmapAliases r is = aliases_caused r is
+      caused UnmapAliases r is = grind (arith, nat_tests)
       caused (AllocPercpu bytes align) r is = object_caused bytes align r is
-      caused (AllocAtomic bytes align) r is = atomic_caused bytes align r is
+      caused (AllocAtomic bytes align) r is = grind (arith, no_atomic, nat_tests)
       caused (FreePercpu t) r is = free_by t (target_of opening before t) r refl is
-      caused (Add t cpu index amount) r is = add_by t cpu index amount (target_of opening before t) r refl is
-      caused (Sum t index) r is = sum_by t index (target_of opening before t) r refl is
+      caused (Add t cpu index amount) r is = grind (arith, unbound_by, nat_tests)
+      caused (Sum t index) r is = grind (arith, unbound_by, nat_tests)
       caused Balance r is = balance_caused r is
 
 pub replies_caused : Always (λ c m w. (k i : ℕ) (l : Local) (answer : Answered) → slice_get w.locals k ≡ Some l → slice_get l.answers i ≡ Some answer

@@ -1,36 +1,33 @@
 -- The guards of live areas, and of those that callers have in hand, are unmapped and not stale.
-use Rattle.std.proofs.Common.{◌≡◌, ℕ, zero, suc, ◌-◌, ◌≤◌, inl, inr, Bool, true, false, List, [], ◌∷◌, length, slice_get, Some, refl, ap, sym, ◌∙◌, subst, arith}
+use Rattle.std.proofs.Common.{◌≡◌, ℕ, zero, suc, ◌≤◌, inl, inr, Bool, true, false, List, [], ◌∷◌, length, slice_get, Some, refl, ap, sym, ◌∙◌, subst, arith}
 use Rattle.std.proofs.lemmas.Option.{same_Some}
 use Rattle.vm_model.specs.declared.calls.Call.{Call}
 use Rattle.vm_model.specs.declared.areas.Span.{Span}
 use Rattle.vm_model.specs.declared.areas.Area.{Area}
 use Rattle.vm_model.specs.declared.areas.AreaKind.{AreaKind}
-use Rattle.vm_model.specs.Space.{end_of, holds, covers, is_among}
-use Rattle.vm_model.specs.Setup.{Setup, groups_at, pages_in_units}
+use Rattle.vm_model.specs.Space.{holds, covers}
+use Rattle.vm_model.specs.Setup.{Setup, groups_at}
 use Rattle.vm_model.specs.PlainMap.{PlainMap}
 use Rattle.vm_model.specs.Areas.{areas_of, group_kinds, group_areas, is_area, named_areas}
 use Rattle.vm_model.specs.Events.{Section, Settle, Unmap, Depopulate, Flush}
-use Rattle.vm_model.specs.Legal.{IsLegalAs, IsBare, IsUnmapped, IsMapped}
+use Rattle.vm_model.specs.Legal.{IsLegalAs, IsBare, IsUnmapped}
 use Rattle.vm_model.specs.Effects.{effect_as}
 use Rattle.vm_model.specs.Told.{removed}
 use Rattle.vm_model.specs.Given.{given, removal}
-use Rattle.vm_model.specs.Places.{Place, MappingArea, Dropping, SettlingArea, UnmappingArea, SettlingBlock, SettlingGroups, ask}
+use Rattle.vm_model.specs.Places.{Place, MappingArea, SettlingArea, UnmappingArea, SettlingBlock, SettlingGroups, ask}
 use Rattle.vm_model.specs.Next.{Next, Go, Answer, next}
 use Rattle.vm_model.specs.Calls.{Answered}
 use Rattle.vm_model.specs.History.{World, Local, started, moved_to, made_by, opening_world, opening_answers, callers_from}
 use Rattle.vm_model.specs.LegalHistory.{Meets}
 use Rattle.vm_model.specs.Rules.{IsSetup, IsTrace}
-use Rattle.map_laws.proofs.AreaFacts.{IsHolding, guard_part}
+use Rattle.map_laws.proofs.AreaFacts.{IsHolding, guard_part, unpainted, painted_still}
 use Rattle.map_laws.proofs.AreaStarts.{asks_settle, no_settle, areas_after}
 use Rattle.map_laws.proofs.AreaWorlds.{IsLegalStep, IsLegallyLasting}
-use Rattle.map_laws.proofs.Chosen.{IsIn, filter_has}
-use Rattle.map_laws.proofs.Frames.{IsFramed, has_call, not_over}
-use Rattle.map_laws.proofs.Lists.{set_cases, append_cases}
+use Rattle.map_laws.proofs.Chosen.{IsIn, filter_has, covers_one, holds_from}
+use Rattle.map_laws.proofs.Frames.{IsFramed, has_call, not_over, set_cases, append_cases}
 use Rattle.map_laws.proofs.OutMoves.{with_in}
 use Rattle.map_laws.proofs.Places.{IsPlainKind, IsProper, OnNext, HaveBeginnings, AtOver, begins_with, answers_call}
 use Rattle.map_laws.proofs.PlaceRows.{PlaceRow, Mapped, Removed, place_row}
-use Rattle.map_laws.proofs.Spans.{covers_one, holds_from}
-use Rattle.map_laws.proofs.Touched.{unpainted, painted_still}
 use Rattle.map_laws.proofs.TraceWorlds.{IsTraceWorld, trace_first, trace_lasts, holding_here, proper_here}
 use Rattle.call_laws.specs.Guards.{OnGuard, OnGuardInHand}
 use Rattle.vm_model.specs.declared.areas.AreaKind.TheVariants as kind
@@ -38,46 +35,25 @@ use Rattle.vm_model.specs.declared.areas.AreaKind.TheVariants as kind
 abbrev pub IsClean : PlainMap → ℕ → Type 0
 IsClean m page = slice_get m.stale page ≡ Some false
 
--- an unmapped page that isn't stale stays so, as only mapped pages become stale
-by_held : (m : PlainMap) (page : ℕ) (test : ℕ → Bool) → (test page ≡ true → IsMapped m page) → IsUnmapped m page → test page ≡ false
-by_held m page test mapped none = by_test (test page) refl
-  where
-    by_test : (b : Bool) → test page ≡ b → test page ≡ false
-    by_test false e = e
-    by_test true e = absurd (let has = mapped e in let frame = has.1 in cc)
-
 pub clean_kept : (c : Setup) (m : PlainMap) (k : ℕ) (s : Section) (page : ℕ) → IsLegalAs c m k s → IsUnmapped m page → IsClean m page → IsClean (effect_as c m k s) page
-clean_kept c m k (Unmap s) page legal none clean = unpainted (holds s) true m.stale page (by_held m page (holds s) (λ e. legal page (covers_one s page ∙ e)) none) ∙ clean
-clean_kept c m k (Depopulate base pages) page legal none clean =
-    unpainted (is_among (pages_in_units c base pages)) true m.stale page (by_held m page (is_among (pages_in_units c base pages)) (λ e. legal page e) none) ∙ clean
+clean_kept c m k (Unmap s) page legal none clean = grind (arith, unpainted, covers_one)
+clean_kept c m k (Depopulate base pages) page legal none clean = grind (arith, unpainted)
 clean_kept c m k (Flush s) page legal none clean = painted_still (holds s) false m.stale page clean
 clean_kept c m k _ page legal none clean = clean
 
 -- of a guard
 pub on_guard : (P Q : ℕ → Type 0) (k : AreaKind) (s : Span) → ((page : ℕ) → P page → Q page) → OnGuard k s P → OnGuard k s Q
-on_guard P Q kind.Vmalloc s f is = f (end_of s - 1) is
-on_guard P Q kind.MapRam s f is = tt
-on_guard P Q (kind.Block cpu) s f is = tt
-on_guard P Q (kind.Chunk chunk group) s f is = tt
+on_guard P Q k s f is = grind arith
 
 pub both_guards : (P Q R : ℕ → Type 0) (k : AreaKind) (s : Span) → ((page : ℕ) → P page → Q page → R page) → OnGuard k s P → OnGuard k s Q → OnGuard k s R
-both_guards P Q R kind.Vmalloc s f is also = f (end_of s - 1) is also
-both_guards P Q R kind.MapRam s f is also = tt
-both_guards P Q R (kind.Block cpu) s f is also = tt
-both_guards P Q R (kind.Chunk chunk group) s f is also = tt
+both_guards P Q R k s f is also = grind arith
 
 -- the last page is the guard's part, and one of the span
 guard_unmapped : (P : ℕ → Type 0) (k : AreaKind) (s : Span) → 1 ≤ s.pages → ((page : ℕ) → covers (guard_part k s ∷ []) page ≡ true → P page) → OnGuard k s P
-guard_unmapped P kind.Vmalloc s some on = on (end_of s - 1) (covers_one (guard_part kind.Vmalloc s) (end_of s - 1) ∙ holds_from (guard_part kind.Vmalloc s) (end_of s - 1) (omega arith) (omega arith))
-guard_unmapped P kind.MapRam s some on = tt
-guard_unmapped P (kind.Block cpu) s some on = tt
-guard_unmapped P (kind.Chunk chunk group) s some on = tt
+guard_unmapped P k s some on = grind (arith, covers_one, guard_part, holds_from)
 
 span_guard : (P : ℕ → Type 0) (k : AreaKind) (s : Span) → 1 ≤ s.pages → ((page : ℕ) → covers (s ∷ []) page ≡ true → P page) → OnGuard k s P
-span_guard P kind.Vmalloc s some on = on (end_of s - 1) (covers_one s (end_of s - 1) ∙ holds_from s (end_of s - 1) (omega arith) (omega arith))
-span_guard P kind.MapRam s some on = tt
-span_guard P (kind.Block cpu) s some on = tt
-span_guard P (kind.Chunk chunk group) s some on = tt
+span_guard P k s some on = grind (arith, covers_one, holds_from)
 
 -- of what a caller is settling or unmapping
 abbrev pub HandClean : PlainMap → Place → Type 0
@@ -126,11 +102,7 @@ area_unmapped c w is a there = by_kind a.kind refl
     by_kind (kind.Chunk chunk group) e = tt
 
 pub hand_unmapped : (c : Setup) (m : PlainMap) (k : ℕ) (p : Place) → IsProper c p → IsHolding c m k p → HandClean m p → OnGuardInHand p (IsUnmapped m)
-hand_unmapped c m k (MappingArea s kd) proper is clean = span_guard (IsUnmapped m) kd s proper.1 (λ page h. (is.bare page h).unmapped)
-hand_unmapped c m k (Dropping s) proper is clean = λ page h. (is.bare page h).unmapped
-hand_unmapped c m k (SettlingArea s kd) proper is clean = guard_unmapped (IsUnmapped m) kd s proper.1 (λ page h. is.unmapped page h)
-hand_unmapped c m k (UnmappingArea area) proper is clean = guard_unmapped (IsUnmapped m) area.kind area.span clean.1 (λ page h. is.unmapped page h)
-hand_unmapped c m k _ proper is clean = tt
+hand_unmapped c m k p proper is clean = grind (arith, span_guard, guard_unmapped)
 
 module _ (c : Setup) (opening : List Call) (calls : List (List Call)) (trace : IsTrace c opening calls) where
   module _ (w : World) (framed : IsFramed c w) (is : IsGuardedWorld c w) where
@@ -140,13 +112,11 @@ module _ (c : Setup) (opening : List Call) (calls : List (List Call)) (trace : I
       after = effect_as c w.map k s
 
       area_still : (a : Area) → IsIn a w.map.areas → OnGuard a.kind a.span (IsClean after)
-      area_still a there = both_guards (IsUnmapped w.map) (IsClean w.map) (IsClean after) a.kind a.span (λ page none clean. clean_kept c w.map k s page legal none clean)
-          (area_unmapped c w is.trace a there) (is.areas a there)
+      area_still a there = grind (arith, both_guards, clean_kept, area_unmapped)
 
       hand_by : (p : Place) → HandClean w.map p → OnGuardInHand p (IsUnmapped w.map) → HandClean after p
       hand_by (SettlingArea place kd) clean none = both_guards (IsUnmapped w.map) (IsClean w.map) (IsClean after) kd place (λ page n c'. clean_kept c w.map k s page legal n c') none clean
-      hand_by (UnmappingArea area) clean none =
-          (both_guards (IsUnmapped w.map) (IsClean w.map) (IsClean after) area.kind area.span (λ page n c'. clean_kept c w.map k s page legal n c') none clean.0, clean.1)
+      hand_by (UnmappingArea area) clean none = grind (arith, both_guards, clean_kept)
       hand_by _ clean none = tt
 
       hand_still : (j : ℕ) (x : Local) → slice_get w.locals j ≡ Some x → HandClean after x.place
@@ -166,18 +136,12 @@ module _ (c : Setup) (opening : List Call) (calls : List (List Call)) (trace : I
       meets_here : Meets c (ask c l.place) s
       meets_here = subst (λ d. Meets d (ask d l.place) s) own_setup step.meets
 
-      holding : IsHolding c w.map l.caller l.place
-      holding = holding_here c trace.setup w framed is.trace k l step.step.here
-
       proper : IsProper c l.place
       proper = proper_here c trace.setup w framed is.trace k l step.step.here
 
       -- what was carved is bare
       mapping_still : (place : Span) (kd : AreaKind) → l.place ≡ MappingArea place kd → OnGuard kd place (IsClean (after l.caller s legal_here))
-      mapping_still place kd e =
-          let held = subst (IsHolding c w.map l.caller) e holding in
-          span_guard (IsClean (after l.caller s legal_here)) kd place (subst (IsProper c) e proper).1
-          (λ page h. clean_kept c w.map l.caller s page legal_here (held.bare page h).unmapped (held.bare page h).not_stale)
+      mapping_still place kd e = grind (arith, span_guard, legal_here, proper, clean_kept, holding_here)
 
       own_next : OnNext (HandClean (after l.caller s legal_here)) (next c l.place s)
       own_next = clean_next (after l.caller s legal_here) c w.map l.place s gives_here mapping_still (λ area there. (area_still l.caller s legal_here area there, is.trace.full.each area there))
@@ -185,8 +149,7 @@ module _ (c : Setup) (opening : List Call) (calls : List (List Call)) (trace : I
       one_settled : (place : Span) (kd : AreaKind) (first : ℕ) → OnGuard kd place (IsClean (after l.caller s legal_here)) → (i : ℕ) (a : Area)
           → slice_get (areas_of l.caller first ((place, kd) ∷ [])) i ≡ Some a
           → OnGuard a.kind a.span (IsClean (after l.caller s legal_here))
-      one_settled place kd first clean zero a e = subst (λ (x : Area). OnGuard x.kind x.span (IsClean (after l.caller s legal_here))) (same_Some _ _ e) clean
-      one_settled place kd first clean (suc i) a e = cc
+      one_settled place kd first clean i a e = grind (arith, legal_here, same_Some)
 
       settled_alone : (place : Span) (kd : AreaKind) (first : ℕ) → s ≡ Settle ((place, kd) ∷ []) first → OnGuard kd place (IsClean (after l.caller s legal_here)) → (a : Area)
           → IsIn a (after l.caller s legal_here).areas
@@ -267,17 +230,9 @@ module _ (c : Setup) (opening : List Call) (calls : List (List Call)) (trace : I
 pub bare : (m : PlainMap) (page : ℕ) → IsUnmapped m page → IsClean m page → IsBare m page
 bare m page none clean = record { unmapped = none; not_stale = clean }
 
-bare_in_hand : (c : Setup) (m : PlainMap) (k : ℕ) (p : Place) → IsProper c p → IsHolding c m k p → HandClean m p → OnGuardInHand p (IsBare m)
-bare_in_hand c m k (MappingArea s kd) proper is clean = span_guard (IsBare m) kd s proper.1 (λ page h. is.bare page h)
-bare_in_hand c m k (Dropping s) proper is clean = is.bare
-bare_in_hand c m k (SettlingArea s kd) proper is clean = both_guards (IsUnmapped m) (IsClean m) (IsBare m) kd s (bare m) (hand_unmapped c m k (SettlingArea s kd) proper is clean) clean
-bare_in_hand c m k (UnmappingArea area) proper is clean =
-    both_guards (IsUnmapped m) (IsClean m) (IsBare m) area.kind area.span (bare m) (hand_unmapped c m k (UnmappingArea area) proper is clean) clean.0
-bare_in_hand c m k _ proper is clean = tt
-
 -- in each such world
 pub areas_bare : (c : Setup) (w : World) → IsGuardedWorld c w → (a : Area) → IsIn a w.map.areas → OnGuard a.kind a.span (IsBare w.map)
 areas_bare c w is a there = both_guards (IsUnmapped w.map) (IsClean w.map) (IsBare w.map) a.kind a.span (bare w.map) (area_unmapped c w is.trace a there) (is.areas a there)
 
 pub hands_bare : (c : Setup) (setup : IsSetup c) (w : World) → IsFramed c w → IsGuardedWorld c w → (k : ℕ) (l : Local) → slice_get w.locals k ≡ Some l → OnGuardInHand l.place (IsBare w.map)
-hands_bare c setup w framed is k l at = bare_in_hand c w.map l.caller l.place (proper_here c setup w framed is.trace k l at) (holding_here c setup w framed is.trace k l at) (is.hands k l at)
+hands_bare c setup w framed is k l at = grind (arith, proper_here, holding_here, proper, span_guard, bare, both_guards, hand_unmapped)

@@ -9,7 +9,7 @@ use Rattle.vm_model.specs.Space.{end_of, covers, is_among}
 use Rattle.vm_model.specs.Setup.{Setup}
 use Rattle.vm_model.specs.PlainMap.{PlainMap, at_first}
 use Rattle.vm_model.specs.Areas.{is_area, areas_of}
-use Rattle.vm_model.specs.Events.{Section, Event, Settle, Remove, Unlink, Wait}
+use Rattle.vm_model.specs.Events.{Section, Event, Settle, Remove, Unlink}
 use Rattle.vm_model.specs.Legal.{IsLegalAs, IsUnmapped}
 use Rattle.vm_model.specs.Effects.{effect_as}
 use Rattle.vm_model.specs.Places.{Place, UnmappingArea, Removing, Waiting, Then, ReplyWith, ask}
@@ -19,19 +19,16 @@ use Rattle.vm_model.specs.LegalHistory.{Meets, IsReached}
 use Rattle.vm_model.specs.Rules.{IsSetup, IsTrace}
 use Rattle.vm_model.specs.Laws.{IsEvent, IsTakenFrom}
 use Rattle.map_laws.specs.Waits.{IsWaitOf}
-use Rattle.map_laws.proofs.AreaFacts.{IsHolding}
 use Rattle.map_laws.proofs.AreaWorlds.{IsLegalStep, IsLegallyLasting, legally_lasts}
 use Rattle.map_laws.proofs.BlockFacts.{IsBlockArea, IsBlockAt}
 use Rattle.map_laws.proofs.BlockPlaces.{with_keeps}
 use Rattle.map_laws.proofs.BlockWorlds.{only_one}
-use Rattle.map_laws.proofs.Chosen.{IsIn, filter_in}
+use Rattle.map_laws.proofs.Chosen.{IsIn, filter_in, covers_one, holds_from}
 use Rattle.map_laws.proofs.ChunkFacts.{IsChunkAt, start_of}
 use Rattle.map_laws.proofs.ChunkNoted.{with_new}
 use Rattle.map_laws.proofs.Deeds.{removes_at, UnlinksAt, OfPurge, OfBlock, OfGroups, unlinks_at}
-use Rattle.map_laws.proofs.Frames.{IsFramed}
-use Rattle.map_laws.proofs.Lists.{same_or, set_same, set_other, append_first}
+use Rattle.map_laws.proofs.Frames.{IsFramed, same_or, set_same, set_other, append_first}
 use Rattle.map_laws.proofs.OutMoves.{same_area}
-use Rattle.map_laws.proofs.Spans.{covers_one, holds_from}
 use Rattle.map_laws.proofs.WaitStories.{more_events, event_first, event_last, WhichEvent, Before, Last, which_event, behind_flushed, taken_before}
 use Rattle.map_laws.proofs.TraceWorlds.{areas_once, holding_here}
 use Rattle.map_laws.proofs.WaitReached.{IsWaitedWorld, wait_lasts, wait_first}
@@ -65,20 +62,14 @@ of_guard P k s page e at is = subst P at (subst (λ x. OnGuard x s P) e is)
 -- It is unmapped wherever it is.
 
 module _ (c : Setup) (setup : IsSetup c) (first : PlainMap) (w : World) (framed : IsFramed c w) (is : IsWatchedWorld c first w) where
-  holding_at : (k : ℕ) (l : Local) (p : Place) → slice_get w.locals k ≡ Some l → l.place ≡ p → IsHolding c w.map l.caller p
-  holding_at k l p here e = subst (IsHolding c w.map l.caller) e (holding_here c setup w framed is.guarded.trace k l here)
-
   followed : (page i : ℕ) → Follows w i page → IsUnmapped w.map page
   followed page i (waits.Waiting on) = (is.guarded.trace.area.fine.pages page).waiting (is.guarded.trace.area.fine.waits page on)
-  followed page i (Taken k l at behind) =
-      (is.guarded.trace.area.fine.pages page).flushing l.caller ((holding_here c setup w framed is.guarded.trace k l at).flushed page (behind_flushed w.events i k page l.place behind))
+  followed page i (Taken k l at behind) = grind (arith, holding_here, behind_flushed)
 
   where_unmapped : (i page : ℕ) → IsTakenFrom c first w.events page (suc i) (length w.events) → Where w i page → IsUnmapped w.map page
   where_unmapped i page taken (InArea a there e at) = of_guard (IsUnmapped w.map) a.kind a.span page e at (area_unmapped c w is.guarded.trace a there)
-  where_unmapped i page taken (InHand k l a here on e at) =
-      of_guard (IsUnmapped w.map) a.kind a.span page e at
-      (hand_unmapped c w.map l.caller (UnmappingArea a) tt (holding_at k l (UnmappingArea a) here on) (subst (HandClean w.map) on (is.guarded.hands k l here)))
-  where_unmapped i page taken (ToWait k l spans after here on e) = (holding_at k l (Waiting spans after) here on).unmapped page e
+  where_unmapped i page taken (InHand k l a here on e at) = grind (arith, hand_unmapped, holding_here)
+  where_unmapped i page taken (ToWait k l spans after here on e) = grind (arith, holding_here)
   where_unmapped i page taken (Waited j more waits) = followed page j (is.waits.waits.followed j page waits (λ n a b. taken n (omega arith) b))
 
 -- Areas that start at one page are one.
@@ -159,13 +150,7 @@ module _ (c : Setup) (setup : IsSetup c) (first : PlainMap) (w : World) (framed 
   goes_from p q e f = goes q (ap (λ x. next c x s) e ∙ f)
 
   wait_more : (i page : ℕ) → IsWaitOf w.events i page → IsWaitOf made.events i page
-  wait_more i page is = record {
-    caller = is.caller;
-    waiting = is.waiting;
-    spans = is.spans;
-    waits = event_first w.events event i is.caller (Wait is.spans is.waiting) is.waits;
-    waited = is.waited;
-  }
+  wait_more i page is = grind (arith, event_first)
 
   unmapped_own : (i page : ℕ) (a : Area) → l.place ≡ UnmappingArea a → a.kind ≡ kind.Vmalloc → end_of a.span - 1 ≡ page → Where made i page
   unmapped_own i page a on kd at =

@@ -1,16 +1,15 @@
 -- Every world that a legal history leads to keeps the laws.
-use Rattle.std.proofs.Common.{◌≡◌, ℕ, zero, suc, List, [], ◌∷◌, length, inr, subst, slice_get, Some, refl}
+use Rattle.std.proofs.Common.{◌≡◌, ℕ, zero, suc, List, [], ◌∷◌, length, inr, slice_get, Some, arith}
 use Rattle.std.proofs.lemmas.Option.{same_Some}
 use Rattle.vm_model.specs.declared.calls.Call.{Call}
 use Rattle.vm_model.specs.Setup.{Setup}
-use Rattle.vm_model.specs.Places.{Place, Over, ask, AskNothing}
+use Rattle.vm_model.specs.Places.{Over}
 use Rattle.vm_model.specs.LegalHistory.{AllOver}
 use Rattle.vm_model.specs.History.{World, Local, history_of}
 use Rattle.vm_model.specs.Rules.{IsTrace}
 use Rattle.vm_model.specs.Laws.{IsOneLegalHistory}
 use Rattle.map_laws.proofs.TurnProofs.{turns_kept, purge_last}
-use Rattle.map_laws.proofs.MapLaws.{areas_apart, guard_unmapped, free_clean, parts_disjoint}
-use Rattle.map_laws.proofs.ObjectLaws.{objects_mapped}
+use Rattle.map_laws.proofs.MapLaws.{areas_apart, guard_unmapped, free_clean, parts_disjoint, objects_mapped}
 use Rattle.map_laws.proofs.CarriedKept.{carried_kept}
 use Rattle.map_laws.proofs.SumLaws.{sums_are_the_adds}
 use Rattle.map_laws.proofs.WaitReached.{pages_wait, freed_pages_waited}
@@ -55,14 +54,9 @@ reached_keep c opening calls w trace reached = record {
 pub history_keeps : (c : Setup) (opening : List Call) (calls : List (List Call)) (picks : List ℕ) → IsTrace c opening calls → IsOneLegalHistory c opening calls picks → KeepsTheLaws c opening calls (history_of c opening calls picks)
 history_keeps c opening calls picks trace is = reached_keep c opening calls (history_of c opening calls picks) trace (inr (is.first, is.events, is.legal, is.led_to))
 
--- in a world whose callers have all ended every call is answered
-over_place : (c : Setup) (p : Place) → ask c p ≡ AskNothing → p ≡ Over
-over_place c Over e = refl
-over_place c _ e = cc
-
 over_at : (locals : List Local) (k : ℕ) (l : Local) → AllOver locals → slice_get locals k ≡ Some l → l.place ≡ Over
 over_at [] k l over h = cc
-over_at (x ∷ locals) zero l over h = over_place l.setup l.place (subst (λ (y : Local). ask y.setup y.place ≡ AskNothing) (same_Some _ _ h) over.0)
+over_at (x ∷ locals) zero l over h = grind (arith, same_Some)
 over_at (x ∷ locals) (suc k) l over h = over_at locals k l over.1 h
 
 pub all_answered : (c : Setup) (opening : List Call) (calls : List (List Call)) (w : World) → KeepsTheLaws c opening calls w → AllOver w.locals → (k : ℕ) (l : Local) → slice_get w.locals k ≡ Some l → length l.answers ≡ length l.calls

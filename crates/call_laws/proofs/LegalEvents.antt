@@ -11,8 +11,7 @@ use Rattle.vm_model.specs.Effects.{effect_as}
 use Rattle.vm_model.specs.History.{World, Local, made_by, placing_calls}
 use Rattle.vm_model.specs.LegalHistory.{IsReached}
 use Rattle.vm_model.specs.Laws.{map_after, map_at}
-use Rattle.map_laws.proofs.Lists.{append_cases}
-use Rattle.map_laws.proofs.Frames.{IsFramed}
+use Rattle.map_laws.proofs.Frames.{append_cases, IsFramed}
 use Rattle.map_laws.proofs.AreaWorlds.{IsLegalStep, legally_lasts}
 use Rattle.map_laws.proofs.WaitStories.{map_after-append, map_at-before, map_at-last}
 use Rattle.call_laws.specs.Histories.{OwnSection, own_if, own_from, own_sections}
@@ -87,10 +86,9 @@ in_drop (suc n) [] i o h = cc
 in_drop (suc n) (x ∷ own) i o h = let is = in_drop n own i o h in record { place = suc is.place; at = is.at }
 
 in_take : (n : ℕ) (own : List OwnSection) (i : ℕ) (o : OwnSection) → slice_get (take n own) i ≡ Some o → IsOneOf own o
-in_take zero own i o h = cc
-in_take (suc n) [] i o h = cc
 in_take (suc n) (x ∷ own) zero o h = record { place = 0; at = h }
 in_take (suc n) (x ∷ own) (suc i) o h = let is = in_take n own i o h in record { place = suc is.place; at = is.at }
+in_take _ _ i o h = cc
 
 -- those of one call are some of all
 pub one_between : (first last : ℕ) (own : List OwnSection) (o : OwnSection) → IsOneOf (drop first (take last own)) o → IsOneOf own o

@@ -1,25 +1,20 @@
 -- The number that a report tells with a reply is that of the call's last own event.
-use Rattle.std.proofs.Common.{◌≡◌, ℕ, zero, suc, ◌-◌, ◌<◌, ◌≤◌, Bool, true, false, ◌==◌, List, [], ◌∷◌, length, map, take, drop, slice_get, slice_index, Some, refl, ap, ◌∙◌, arith}
+use Rattle.std.proofs.Common.{◌≡◌, ℕ, zero, suc, ◌-◌, ◌<◌, ◌≤◌, List, [], ◌∷◌, length, map, take, drop, slice_get, slice_index, Some, refl, ap, ◌∙◌, arith}
 use Rattle.std.proofs.lemmas.Option.{same_Some, get_or_from_slice_get}
 use Rattle.vm_model.specs.Setup.{last_of}
 use Rattle.vm_model.specs.Events.{Event}
-use Rattle.vm_model.specs.Tables.{noted, numbers_of}
+use Rattle.vm_model.specs.Tables.{numbers_of}
 use Rattle.vm_model.specs.History.{World, Local}
 use Rattle.vm_model.specs.Calls.{Answered}
-use Rattle.map_laws.proofs.Lists.{there}
+use Rattle.map_laws.proofs.Frames.{there}
 use Rattle.map_laws.proofs.TurnProofs.{turns_proper}
-use Rattle.call_laws.specs.Histories.{OwnSection, own_if, own_from, own_sections, events_at}
+use Rattle.call_laws.specs.Histories.{OwnSection, own_from, own_sections, events_at}
 use Rattle.call_laws.specs.Numbers.{IsNumbered, ReportsTellLastEvents}
 use Rattle.call_laws.proofs.CallWorlds.{histories_have_shapes}
 
 numbers_are : (k before : ℕ) (events : List Event) → numbers_of k (suc before) events ≡ map (λ (o : OwnSection). suc o.before) (own_from k before events)
 numbers_are k before [] = refl
-numbers_are k before (e ∷ events) = ap (noted (e.caller == k) (suc before)) (numbers_are k (suc before) events) ∙ by_test (e.caller == k)
-  where
-    by_test : (b : Bool) → noted b (suc before) (map (λ (o : OwnSection). suc o.before) (own_from k (suc before) events))
-        ≡ map (λ (o : OwnSection). suc o.before) (own_if b (record { before = before; section = e.section }) (own_from k (suc before) events))
-    by_test true = refl
-    by_test false = refl
+numbers_are k before (e ∷ events) = grind (arith, numbers_are k (suc before) events)
 
 map_at : (own : List OwnSection) (i : ℕ) (o : OwnSection) → slice_get own i ≡ Some o → slice_get (map (λ (x : OwnSection). suc x.before) own) i ≡ Some (suc o.before)
 map_at [] i o h = cc
@@ -27,16 +22,12 @@ map_at (x ∷ own) zero o h = ap (λ (y : OwnSection). Some (suc y.before)) (sam
 map_at (x ∷ own) (suc i) o h = map_at own i o h
 
 last_take : {X : Type 0} (xs : List X) (n : ℕ) → suc n ≤ length xs → last_of (take (suc n) xs) ≡ slice_get xs n
-last_take [] n h = absurd (omega arith)
-last_take (x ∷ xs) zero h = refl
-last_take (x ∷ []) (suc n) h = absurd (omega arith)
 last_take (x ∷ y ∷ xs) (suc n) h = last_take (y ∷ xs) n (omega arith)
+last_take _ _ h = grind arith
 
 last_drop : {X : Type 0} (ys : List X) (n : ℕ) → n < length ys → last_of (drop n ys) ≡ last_of ys
-last_drop [] n h = absurd (omega arith)
-last_drop (y ∷ ys) zero h = refl
-last_drop (y ∷ []) (suc n) h = absurd (omega arith)
 last_drop (y ∷ z ∷ ys) (suc n) h = last_drop (z ∷ ys) n (omega arith)
+last_drop _ _ h = grind arith
 
 length_take : {X : Type 0} (xs : List X) (n : ℕ) → n ≤ length xs → length (take n xs) ≡ n
 length_take xs zero h = refl

@@ -1,5 +1,5 @@
 -- All areas of a chunk stand at one base.
-use Rattle.std.proofs.Common.{◌≡◌, ℕ, zero, suc, ◌+◌, ◌%◌, ◌<◌, ◌≤◌, ◌⊎◌, inl, inr, Bool, true, false, List, [], ◌∷◌, map, slice_get, slice_set, Option, Some, None, refl, ap, sym, ◌∙◌, subst, arith}
+use Rattle.std.proofs.Common.{◌≡◌, ℕ, zero, suc, ◌+◌, ◌%◌, ◌<◌, ◌⊎◌, inl, inr, Bool, true, false, List, [], ◌∷◌, map, slice_get, slice_set, Option, Some, None, refl, ap, sym, ◌∙◌, subst, arith}
 use Rattle.std.proofs.lemmas.Option.{same_Some}
 use Rattle.vm_model.specs.declared.calls.Call.{Call}
 use Rattle.vm_model.specs.declared.areas.Span.{Span}
@@ -10,8 +10,7 @@ use Rattle.vm_model.specs.Setup.{Setup}
 use Rattle.vm_model.specs.PlainMap.{PlainMap}
 use Rattle.vm_model.specs.Areas.{areas_of, group_kinds, group_areas}
 use Rattle.vm_model.specs.Carried.{has_alloc}
-use Rattle.vm_model.specs.Events.{Section, Settle, AddChunk}
-use Rattle.vm_model.specs.Legal.{IsLegalAs}
+use Rattle.vm_model.specs.Events.{Section, Settle}
 use Rattle.vm_model.specs.Effects.{effect_as}
 use Rattle.vm_model.specs.Places.{Place, SettlingArea, SettlingBlock, SettlingGroups, AddingChunk, ask}
 use Rattle.vm_model.specs.Next.{next}
@@ -22,10 +21,9 @@ use Rattle.vm_model.specs.Rules.{IsTrace}
 use Rattle.map_laws.proofs.AreaStarts.{asks_settle, no_settle, areas_after}
 use Rattle.map_laws.proofs.AreaWorlds.{IsLegalStep, legally_lasts}
 use Rattle.map_laws.proofs.Chosen.{IsIn}
-use Rattle.map_laws.proofs.ChunkNumbers.{chunk_number}
+use Rattle.map_laws.proofs.ChunkAdded.{chunk_number}
 use Rattle.map_laws.proofs.ChunkWorlds.{alone}
-use Rattle.map_laws.proofs.Frames.{IsFramed}
-use Rattle.map_laws.proofs.Lists.{there, same_or, set_same, set_other, append_first}
+use Rattle.map_laws.proofs.Frames.{IsFramed, there, same_or, set_same, set_other, append_first}
 use Rattle.map_laws.proofs.OutMoves.{with_in}
 use Rattle.map_laws.proofs.Places.{IsPlainKind, IsProper}
 use Rattle.map_laws.proofs.TraceWorlds.{IsTraceWorld, trace_first, trace_lasts, proper_here}
@@ -41,8 +39,7 @@ abbrev SomeoneAdds : List Local → (number : ℕ) → Type 0
 SomeoneAdds locals number = (k : ℕ) × (l : Local) × (slice_get locals k ≡ Some l) × (adds l.place ≡ Some number)
 
 adds_alloc : (p : Place) (number : ℕ) → adds p ≡ Some number → has_alloc p ≡ true
-adds_alloc (AddingChunk base chunk bytes align) number e = refl
-adds_alloc _ number e = cc
+adds_alloc p number e = grind arith
 
 -- two areas of one chunk stand at one base
 pub record HaveOneBase (c : Setup) (areas : List Area) : Type 0 where
@@ -74,27 +71,16 @@ new_group c k first base chunk done (g ∷ groups) all (suc i) a e =
     new_group c k (suc first) base chunk (suc done) groups (λ j x f. subst (λ n. slice_get c.groups n ≡ Some x) (let f : done + suc j ≡ suc done + j = omega arith in f) (all (suc j) x f)) i a e
 
 not_chunk : (kd : AreaKind) (number group : ℕ) → IsPlainKind kd → kd ≡ kind.Chunk number group → ⊥
-not_chunk kind.Vmalloc number group plain e = cc
-not_chunk kind.MapRam number group plain e = cc
-not_chunk (kind.Block cpu) number group plain e = absurd plain
-not_chunk (kind.Chunk chunk own) number group plain e = absurd plain
+not_chunk kd number group plain e = grind arith
 
 -- one area that is no chunk's
 one_other : (k first : ℕ) (s : Span) (kd : AreaKind) (number group : ℕ) → (kd ≡ kind.Chunk number group → ⊥) → (i : ℕ) (a : Area) → slice_get (areas_of k first ((s, kd) ∷ [])) i ≡ Some a → a.kind ≡ kind.Chunk number group → ⊥
-one_other k first s kd number group other zero a e h = other (ap (λ (x : Area). x.kind) (same_Some _ _ e) ∙ h)
-one_other k first s kd number group other (suc i) a e h = cc
+one_other k first s kd number group other i a e h = grind (arith, same_Some)
 
 -- The next number.
 
-grows : (c : Setup) (m : PlainMap) (k : ℕ) (s : Section) → IsLegalAs c m k s → m.next_chunk ≤ (effect_as c m k s).next_chunk
-grows c m k (AddChunk chunk base at align missing) legal = let e = legal.1 in omega arith
-grows c m k _ legal = omega arith
-
 adds_done : (c : Setup) (m : PlainMap) (k number : ℕ) (p : Place) (s : Section) → adds p ≡ Some number → Meets c (ask c p) s → number < (effect_as c m k s).next_chunk
-adds_done c m k number (AddingChunk base chunk bytes align) s e meets =
-    let same : chunk ≡ number = same_Some _ _ e in
-    subst (λ x. number < (effect_as c m k x).next_chunk) (sym meets.3) (omega arith)
-adds_done c m k number _ s e meets = cc
+adds_done c m k number p s e meets = grind (arith, same_Some)
 
 module _ (c : Setup) (opening : List Call) (calls : List (List Call)) (trace : IsTrace c opening calls) (w : World) (k : ℕ) (l : Local) (s : Section) (framed : IsFramed c w) (is : IsBasedWorld c w) (step : IsLegalStep w k l s) where
   here : slice_get w.locals l.caller ≡ Some l
@@ -106,9 +92,6 @@ module _ (c : Setup) (opening : List Call) (calls : List (List Call)) (trace : I
   meets : Meets c (ask c l.place) s
   meets = subst (λ d. Meets d (ask d l.place) s) setup step.meets
 
-  legal : IsLegalAs c w.map l.caller s
-  legal = subst (λ d. IsLegalAs d w.map l.caller s) setup (subst (λ i. IsLegalAs l.setup w.map i s) (sym (framed.own k l step.step.here).caller) step.legal)
-
   abbrev after : PlainMap
   after = effect_as c w.map l.caller s
 
@@ -117,7 +100,7 @@ module _ (c : Setup) (opening : List Call) (calls : List (List Call)) (trace : I
 
   -- what was old stays so
   old_still : (number : ℕ) → (number < w.map.next_chunk) ⊎ SomeoneAdds w.locals number → (number < after.next_chunk) ⊎ SomeoneAdds locals number
-  old_still number (inl low) = inl (let more = grows c w.map l.caller s legal in omega arith)
+  old_still number (inl low) = grind (arith, setup, here)
   old_still number (inr (j, x, at, e)) = elim (same_or j l.caller) [
     | inl same ↦ inl (adds_done c w.map l.caller number l.place s (ap (λ (y : Local). adds y.place) (sym (same_Some x l (sym (subst (λ i. slice_get w.locals i ≡ Some x) same at) ∙ here))) ∙ e) meets)
     | inr other ↦ inr (j, x, set_other w.locals l.caller j (moved_to l (next c l.place s)) other ∙ at, e)
@@ -163,8 +146,7 @@ module _ (c : Setup) (opening : List Call) (calls : List (List Call)) (trace : I
     ]
 
     of_group : (a : Area) (number group : ℕ) → (new : IsNewGroup c base chunk a) → a.kind ≡ kind.Chunk number group → (number ≡ chunk) × IsGroupAt c base group a.span
-    of_group a number group new ka = let both : kind.Chunk chunk new.group ≡ kind.Chunk number group = sym new.kind ∙ ka in
-        ((cc), subst (λ n. IsGroupAt c base n a.span) (let g : new.group ≡ group = cc in g) new.at)
+    of_group a number group new ka = grind arith
 
     settles_groups : IsBasedAfter
     settles_groups = record {

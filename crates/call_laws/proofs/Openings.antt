@@ -1,5 +1,5 @@
 -- The opening comes first, in every world that a legal history leads to.
-use Rattle.std.proofs.Common.{◌≡◌, ℕ, zero, suc, ◌<◌, ◌≤◌, inl, inr, List, [], ◌∷◌, ◌++◌, length, slice_get, Some, refl, ap, sym, ◌∙◌, subst, arith, length-set}
+use Rattle.std.proofs.Common.{◌≡◌, ℕ, suc, ◌<◌, ◌≤◌, inl, inr, List, [], ◌∷◌, ◌++◌, length, slice_get, Some, ap, sym, ◌∙◌, subst, arith, length-set}
 use Rattle.std.proofs.lemmas.Option.{slice_get_within, same_Some}
 use Rattle.vm_model.specs.declared.calls.Call.{Call}
 use Rattle.vm_model.specs.Setup.{Setup, cpus}
@@ -7,8 +7,7 @@ use Rattle.vm_model.specs.Events.{Section, Event}
 use Rattle.vm_model.specs.Places.{Over}
 use Rattle.vm_model.specs.Next.{next}
 use Rattle.vm_model.specs.History.{World, Local, moved_to, made_by, opening_answers, callers_from}
-use Rattle.map_laws.proofs.Lists.{there, append_cases, append_first}
-use Rattle.map_laws.proofs.Frames.{IsFramed, not_over}
+use Rattle.map_laws.proofs.Frames.{there, append_cases, append_first, IsFramed, not_over}
 use Rattle.map_laws.proofs.AreaWorlds.{IsLegalStep, legally_lasts}
 use Rattle.call_laws.specs.Opening.{TheOpeningComesFirst}
 use Rattle.call_laws.proofs.CallWorlds.{IsOpenedBy, IsShapedWorld, shaped_step, shaped_joins, shaped_first, histories_have_shapes}
@@ -19,8 +18,7 @@ pub record IsOrderedWorld (c : Setup) (lists : List (List Call)) (w : World) : T
   pub whose : (i : ℕ) (e : Event) → slice_get w.events i ≡ Some e → (l : Local) × (slice_get w.locals e.caller ≡ Some l)
 
 opened_over : (locals : List Local) (k : ℕ) (l : Local) → 1 ≤ k → IsOpenedBy locals k l → (first : Local) × (slice_get locals 0 ≡ Some first) × (first.place ≡ Over)
-opened_over locals zero l later is = absurd (omega arith)
-opened_over locals (suc k) l later is = (is.0, is.1, is.2)
+opened_over locals k l later is = grind arith
 
 module _ (c : Setup) (lists : List (List Call)) (some : 1 ≤ cpus c) (w : World) (k : ℕ) (l : Local) (s : Section) (framed : IsFramed c w) (is : IsOrderedWorld c lists w) (step : IsLegalStep w k l s) where
   abbrev now : Event
@@ -37,8 +35,7 @@ module _ (c : Setup) (lists : List (List Call)) (some : 1 ≤ cpus c) (w : World
       not_over l.setup w.map l.place s step.step.gives (ap (λ (y : Local). y.place) (same_Some _ _ (sym (subst (λ n. slice_get w.locals n ≡ Some l) e here) ∙ over.1)) ∙ over.2)
 
   at_last : (n : ℕ) (e : Event) → slice_get (now ∷ []) n ≡ Some e → (n ≡ 0) × (now ≡ e)
-  at_last zero e h = (refl, same_Some _ _ h)
-  at_last (suc n) e h = cc
+  at_last n e h = grind (arith, same_Some)
 
   before_step : (i j : ℕ) (e other : Event) → slice_get (w.events ++ now ∷ []) i ≡ Some e → slice_get (w.events ++ now ∷ []) j ≡ Some other → e.caller ≡ 0 → 1 ≤ other.caller → i < j
   before_step i j e other at then first later = elim (append_cases w.events (now ∷ []) i e at) [

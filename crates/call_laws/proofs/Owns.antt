@@ -1,28 +1,15 @@
 -- A caller's own sections, where one more event comes behind.
-use Rattle.std.proofs.Common.{◌≡◌, ◌≢◌, ℕ, suc, ◌+◌, ◌≤◌, Bool, true, false, ◌==◌, List, [], ◌∷◌, ◌++◌, length, drop, Some, refl, ap, ◌∙◌, arith, append-nil, length-append}
+use Rattle.std.proofs.Common.{◌≡◌, ◌≢◌, ℕ, suc, ◌+◌, ◌≤◌, List, [], ◌∷◌, ◌++◌, length, drop, Some, refl, ap, ◌∙◌, arith, append-nil, length-append}
 use Rattle.std.proofs.lemmas.Bool.Decides.{nat_tests}
 use Rattle.std.proofs.lemmas.List.{take-append-le, drop-append-le, take_all, drop_all, map-append}
 use Rattle.vm_model.specs.Setup.{last_of}
 use Rattle.vm_model.specs.Events.{Section, Event}
 use Rattle.vm_model.specs.Calls.{Answered}
-use Rattle.call_laws.specs.Histories.{OwnSection, own_if, own_from, own_sections, sections, ended_at, events_at, sections_for, sections_since}
+use Rattle.call_laws.specs.Histories.{OwnSection, own_from, own_sections, sections, ended_at, events_at, sections_for, sections_since}
 
 own_append : (k before : ℕ) (events more : List Event) → own_from k before (events ++ more) ≡ own_from k before events ++ own_from k (before + length events) more
 own_append k before [] more = ap (λ n. own_from k n more) (let e : before ≡ before + 0 = omega arith in e)
-own_append k before (e ∷ events) more =
-    ap (own_if (e.caller == k) (record { before = before; section = e.section })) (own_append k (suc before) events more)
-    ∙ by_test (e.caller == k) ∙ ap (λ n. own_if (e.caller == k) (record { before = before; section = e.section }) (own_from k (suc before) events) ++ own_from k n more) (let f : suc before + length events ≡ before + suc (length events) = omega arith in f)
-  where
-    by_test : (b : Bool) → own_if b (record { before = before; section = e.section }) (own_from k (suc before) events ++ own_from k (suc before + length events) more)
-        ≡ own_if b (record { before = before; section = e.section }) (own_from k (suc before) events) ++ own_from k (suc before + length events) more
-    by_test true = refl
-    by_test false = refl
-
-same_test : (a b : ℕ) → a ≡ b → (a == b) ≡ true
-same_test a b e = grind (arith, nat_tests)
-
-other_test : (a b : ℕ) → a ≢ b → (a == b) ≡ false
-other_test a b n = grind (arith, nat_tests)
+own_append k before (e ∷ events) more = grind (arith, own_append k (suc before) events more, nat_tests)
 
 -- one more event is the caller's own, or another's
 module _ (k caller : ℕ) (events : List Event) (s : Section) where
@@ -30,17 +17,14 @@ module _ (k caller : ℕ) (events : List Event) (s : Section) where
   last = record { before = length events; section = s }
 
   pub own_more : caller ≡ k → own_sections k (events ++ (record { caller = caller; section = s }) ∷ []) ≡ own_sections k events ++ last ∷ []
-  own_more e = own_append k 0 events ((record { caller = caller; section = s }) ∷ [])
-      ∙ ap (λ own. own_sections k events ++ own) (ap (λ b. own_if b (record { before = 0 + length events; section = s }) []) (same_test caller k e) ∙ ap (λ n. (record { before = n; section = s }) ∷ []) (let f : 0 + length events ≡ length events = omega arith in f))
+  own_more e = grind (arith, own_append, nat_tests)
 
   pub own_same : caller ≢ k → own_sections k (events ++ (record { caller = caller; section = s }) ∷ []) ≡ own_sections k events
-  own_same n = own_append k 0 events ((record { caller = caller; section = s }) ∷ [])
-      ∙ ap (λ own. own_sections k events ++ own) (ap (λ b. own_if b (record { before = 0 + length events; section = s }) []) (other_test caller k n)) ∙ append-nil (own_sections k events)
+  own_same n = grind (arith, own_append, append-nil, nat_tests)
 
 last_of-append : {X : Type 0} (xs : List X) (x : X) → last_of (xs ++ x ∷ []) ≡ Some x
-last_of-append [] x = refl
-last_of-append (y ∷ []) x = refl
 last_of-append (y ∷ z ∷ xs) x = last_of-append (z ∷ xs) x
+last_of-append _ x = refl
 
 -- one more answer
 pub events_at-more : (answers : List Answered) (answer : Answered) → events_at (answers ++ answer ∷ []) ≡ answer.own_event

@@ -3,62 +3,33 @@ use Rattle.std.proofs.Common.{◌≡◌, ℕ, zero, suc, ◌-◌, ◌<◌, ◌�
 use Rattle.std.proofs.lemmas.Option.{slice_get_within, same_Some}
 use Rattle.vm_model.specs.declared.calls.Target.{Target}
 use Rattle.vm_model.specs.declared.calls.Call.{Call}
-use Rattle.vm_model.specs.declared.calls.Call.TheVariants.{Vmalloc, Vfree, MapRam, UnmapRam, AllocPercpu, AllocAtomic, FreePercpu, Add, Sum}
+use Rattle.vm_model.specs.declared.calls.Call.TheVariants.{Vfree, UnmapRam, FreePercpu, Add, Sum}
 use Rattle.vm_model.specs.declared.calls.Reply.{Reply}
 use Rattle.vm_model.specs.declared.calls.Reply.TheVariants as reply
 use Rattle.vm_model.specs.Setup.{Setup}
 use Rattle.vm_model.specs.Events.{Section, Refuse}
-use Rattle.vm_model.specs.Places.{Made, MadeNothing, MadeArea, MadePart, MadeObject}
-use Rattle.vm_model.specs.Calls.{Answered, made_in, answers_in, target_of, was_freed}
+use Rattle.vm_model.specs.Places.{Made, MadeNothing}
+use Rattle.vm_model.specs.Calls.{Answered, made_in, answers_in, target_of}
 use Rattle.vm_model.specs.PlainMap.{at_first}
 use Rattle.vm_model.specs.History.{World, Local, placing_calls}
 use Rattle.vm_model.specs.LegalHistory.{IsReached}
 use Rattle.vm_model.specs.Rules.{IsTrace, IsRuled, AreRuled, IsVmallocCall, IsMapRamCall, IsAllocCall, named_call}
-use Rattle.vm_model.specs.Shapes.{IsRefused, IsVfree, IsUnmapRam}
-use Rattle.vm_model.specs.ObjectShapes.{HasShape, IsFreePercpu, IsAdd, IsSum}
-use Rattle.map_laws.proofs.Lists.{there}
+use Rattle.vm_model.specs.Shapes.{IsRefused}
+use Rattle.vm_model.specs.ObjectShapes.{HasShape}
+use Rattle.map_laws.proofs.Frames.{there}
 use Rattle.call_laws.specs.Histories.{OwnSection, own_sections, sections, sections_for, IsNoAddress, IsSettled, IsAnswerOf, HasShapesOfCalls}
-use Rattle.call_laws.proofs.Unusable.{IsNoArea, IsNoMapping, IsNoObject, IsUnusable}
+use Rattle.call_laws.proofs.Unusable.{IsNoObject, IsUnusable}
 use Rattle.call_laws.specs.Targets.{target_in, CanMake, Names, IsTargeted, TargetsAreWhatTheirCallsGot}
 use Rattle.call_laws.proofs.CallWorlds.{IsOpenedBy, shaped_reached, histories_have_shapes}
 use Rattle.call_laws.proofs.Causing.{HasCause, replies_caused}
 use Rattle.call_laws.proofs.Exactly.{unusable_comes}
 use Rattle.call_laws.proofs.Making.{can_make}
 
--- what was settled, and told
-nothing_told : (es : List Section) (r : Reply) (made : Made) → IsSettled es r made → IsNoAddress r → made ≡ MadeNothing
-nothing_told es r MadeNothing is none = refl
-nothing_told es r (MadeArea start serial) is none = absurd (subst IsNoAddress is.4 none)
-nothing_told es r (MadePart cpu page serial) is none = absurd (subst IsNoAddress is.4 none)
-nothing_told es r (MadeObject at serial) is none = absurd (subst IsNoAddress is.3 none)
-
 told_nothing : (es : List Section) (r : Reply) (made : Made) → IsSettled es r made → made ≡ MadeNothing → IsNoAddress r
 told_nothing es r made is e = subst (IsSettled es r) e is
 
-area_only : (call : Call) (made : Made) → IsVmallocCall (Some call) → CanMake call made → IsNoArea made → made ≡ MadeNothing
-area_only (Vmalloc bytes align) MadeNothing kind can none = refl
-area_only (Vmalloc bytes align) (MadeArea start serial) kind can none = absurd none
-area_only (Vmalloc bytes align) (MadePart cpu page serial) kind can none = absurd can
-area_only (Vmalloc bytes align) (MadeObject at serial) kind can none = absurd can
-area_only _ made kind can none = absurd kind
-
-mapping_only : (call : Call) (made : Made) → IsMapRamCall (Some call) → CanMake call made → IsNoMapping made → made ≡ MadeNothing
-mapping_only (MapRam cpu pages) MadeNothing kind can none = refl
-mapping_only (MapRam cpu pages) (MadeArea start serial) kind can none = absurd none
-mapping_only (MapRam cpu pages) (MadePart own page serial) kind can none = absurd none
-mapping_only (MapRam cpu pages) (MadeObject at serial) kind can none = absurd can
-mapping_only _ made kind can none = absurd kind
-
 object_only : (P : ℕ → Type 0) (call : Call) (made : Made) → IsAllocCall P (Some call) → CanMake call made → IsNoObject made → made ≡ MadeNothing
-object_only P (AllocPercpu bytes align) MadeNothing kind can none = refl
-object_only P (AllocPercpu bytes align) (MadeArea start serial) kind can none = absurd can
-object_only P (AllocPercpu bytes align) (MadePart cpu page serial) kind can none = absurd can
-object_only P (AllocPercpu bytes align) (MadeObject at serial) kind can none = absurd none
-object_only P (AllocAtomic bytes align) MadeNothing kind can none = refl
-object_only P (AllocAtomic bytes align) (MadeArea start serial) kind can none = absurd can
-object_only P (AllocAtomic bytes align) (MadePart cpu page serial) kind can none = absurd can
-object_only P (AllocAtomic bytes align) (MadeObject at serial) kind can none = absurd none
-object_only P _ made kind can none = absurd kind
+object_only P call made kind can none = grind arith
 
 -- The call that a target names, by the rules of a trace.
 
@@ -70,29 +41,23 @@ pub record IsNamedCall (c : Setup) (ops before : List Call) (opening own : List 
   pub none : target_of opening own t ≡ MadeNothing → IsUnusable opening own call
 
 named_by : (K : Option Call → Type 0) → (K None → ⊥) → (o : Option Call) → K o → (call : Call) × (o ≡ Some call)
-named_by K not None k = absurd (not k)
-named_by K not (Some call) k = (call, refl)
+named_by K not o k = grind arith
 
 module _ (c : Setup) (ops before : List Call) (opening own : List Answered) where
   vfree_named : (t : Target) → IsVmallocCall (named_call ops before t) → IsNamedCall c ops before opening own (Vfree t) t
-  vfree_named t is = let n = named_by IsVmallocCall (λ k. k) (named_call ops before t) is in
-      record { named = n.0; at = n.1; unbound = λ was can. area_only n.0 (target_of opening own t) (subst IsVmallocCall n.1 is) can was; none = λ e. subst IsNoArea (sym e) tt }
+  vfree_named t is = grind (arith, named_by)
 
   unmap_named : (t : Target) → IsMapRamCall (named_call ops before t) → IsNamedCall c ops before opening own (UnmapRam t) t
-  unmap_named t is = let n = named_by IsMapRamCall (λ k. k) (named_call ops before t) is in
-      record { named = n.0; at = n.1; unbound = λ was can. mapping_only n.0 (target_of opening own t) (subst IsMapRamCall n.1 is) can was; none = λ e. subst IsNoMapping (sym e) tt }
+  unmap_named t is = grind (arith, named_by)
 
   free_named : (t : Target) → IsAllocCall (λ bytes. Unit {0}) (named_call ops before t) → IsNamedCall c ops before opening own (FreePercpu t) t
-  free_named t is = let n = named_by (IsAllocCall (λ bytes. Unit {0})) (λ k. k) (named_call ops before t) is in
-      record { named = n.0; at = n.1; unbound = λ was can. object_only (λ bytes. Unit {0}) n.0 (target_of opening own t) (subst (IsAllocCall (λ bytes. Unit {0})) n.1 is) can was; none = λ e. subst IsNoObject (sym e) tt }
+  free_named t is = grind (arith, named_by, object_only)
 
   add_named : (P : ℕ → Type 0) (t : Target) (cpu index : ℕ) (amount : ℤ) → IsAllocCall P (named_call ops before t) → IsNamedCall c ops before opening own (Add t cpu index amount) t
-  add_named P t cpu index amount is = let n = named_by (IsAllocCall P) (λ k. k) (named_call ops before t) is in
-      record { named = n.0; at = n.1; unbound = λ was can. object_only P n.0 (target_of opening own t) (subst (IsAllocCall P) n.1 is) can was; none = λ e. subst IsNoObject (sym e) tt }
+  add_named P t cpu index amount is = grind (arith, named_by, object_only)
 
   sum_named : (P : ℕ → Type 0) (t : Target) (index : ℕ) → IsAllocCall P (named_call ops before t) → IsNamedCall c ops before opening own (Sum t index) t
-  sum_named P t index is = let n = named_by (IsAllocCall P) (λ k. k) (named_call ops before t) is in
-      record { named = n.0; at = n.1; unbound = λ was can. object_only P n.0 (target_of opening own t) (subst (IsAllocCall P) n.1 is) can was; none = λ e. subst IsNoObject (sym e) tt }
+  sum_named P t index is = grind (arith, named_by, object_only)
 
   named_of : (call : Call) (t : Target) → target_in call ≡ Some t → IsRuled c ops before call → IsNamedCall c ops before opening own call t
   named_of (Vfree s) t e is = subst (IsNamedCall c ops before opening own (Vfree s)) (same_Some _ _ e) (vfree_named s is.1)
@@ -136,56 +101,16 @@ module _ (c : Setup) (es : List Section) where
   refused_first : (made : Made) → IsRefused es → FirstNames made
   refused_first made e s h = inl (sym (first_is Refuse [] s e h))
 
-  vfree_names : (made : Made) (r : Reply) → IsVfree c made r es → FirstNames made
-  vfree_names (MadeArea start serial) reply.Done is = named_first (MadeArea start serial) _ _ is.3 (refl, refl)
-  vfree_names (MadeArea start serial) reply.NotLive is = named_first (MadeArea start serial) _ _ is (refl, refl)
-  vfree_names (MadeArea start serial) _ is = absurd is
-  vfree_names MadeNothing r is = refused_first MadeNothing is.1
-  vfree_names (MadePart cpu page serial) r is = refused_first (MadePart cpu page serial) is.1
-  vfree_names (MadeObject at serial) r is = refused_first (MadeObject at serial) is.1
-
-  unmap_names : (made : Made) (r : Reply) → IsUnmapRam c made r es → FirstNames made
-  unmap_names (MadeArea start serial) reply.Done is = named_first (MadeArea start serial) _ _ is.3 (refl, refl)
-  unmap_names (MadeArea start serial) reply.NotLive is = named_first (MadeArea start serial) _ _ is (refl, refl)
-  unmap_names (MadeArea start serial) _ is = absurd is
-  unmap_names (MadePart cpu page serial) reply.Done is = named_first (MadePart cpu page serial) _ _ is.5 (is.2, is.3, refl)
-  unmap_names (MadePart cpu page serial) reply.NotLive is = named_first (MadePart cpu page serial) _ _ is (refl, refl, refl)
-  unmap_names (MadePart cpu page serial) _ is = absurd is
-  unmap_names MadeNothing r is = refused_first MadeNothing is.1
-  unmap_names (MadeObject at serial) r is = refused_first (MadeObject at serial) is.1
-
-  free_names : (made : Made) (r : Reply) → IsFreePercpu made r es → FirstNames made
-  free_names (MadeObject at serial) reply.Done is = named_first (MadeObject at serial) _ _ is (refl, refl)
-  free_names (MadeObject at serial) reply.NotLive is = named_first (MadeObject at serial) _ _ is (refl, refl)
-  free_names (MadeObject at serial) _ is = absurd is
-  free_names MadeNothing r is = refused_first MadeNothing is.1
-  free_names (MadeArea start serial) r is = refused_first (MadeArea start serial) is.1
-  free_names (MadePart cpu page serial) r is = refused_first (MadePart cpu page serial) is.1
-
-  add_names : (freed : Bool) (cpu index : ℕ) (amount : ℤ) (made : Made) (r : Reply) → IsAdd freed cpu index amount made r es → FirstNames made
-  add_names freed cpu index amount (MadeObject at serial) r (inl is) = refused_first (MadeObject at serial) is.2
-  add_names freed cpu index amount (MadeObject at serial) r (inr is) = named_first (MadeObject at serial) _ _ is.1.1 (refl, refl)
-  add_names freed cpu index amount MadeNothing r is = refused_first MadeNothing is.1
-  add_names freed cpu index amount (MadeArea start serial) r is = refused_first (MadeArea start serial) is.1
-  add_names freed cpu index amount (MadePart own page serial) r is = refused_first (MadePart own page serial) is.1
-
-  sum_names : (freed : Bool) (index : ℕ) (made : Made) (r : Reply) → IsSum freed index made r es → FirstNames made
-  sum_names freed index (MadeObject at serial) r (inl is) = refused_first (MadeObject at serial) is.2
-  sum_names freed index (MadeObject at serial) r (inr is) = named_first (MadeObject at serial) _ _ is.1.2 (refl, refl)
-  sum_names freed index MadeNothing r is = refused_first MadeNothing is.1
-  sum_names freed index (MadeArea start serial) r is = refused_first (MadeArea start serial) is.1
-  sum_names freed index (MadePart own page serial) r is = refused_first (MadePart own page serial) is.1
-
   module _ (opening before : List Answered) where
     abbrev OfTarget : Target → Type 0
     OfTarget t = FirstNames (target_of opening before t)
 
     shape_names : (call : Call) (t : Target) (r : Reply) → target_in call ≡ Some t → HasShape c opening before call r es → OfTarget t
-    shape_names (Vfree s) t r e is = subst OfTarget (same_Some _ _ e) (vfree_names (target_of opening before s) r is)
-    shape_names (UnmapRam s) t r e is = subst OfTarget (same_Some _ _ e) (unmap_names (target_of opening before s) r is)
-    shape_names (FreePercpu s) t r e is = subst OfTarget (same_Some _ _ e) (free_names (target_of opening before s) r is)
-    shape_names (Add s cpu index amount) t r e is = subst OfTarget (same_Some _ _ e) (add_names (was_freed (answers_in opening before s) s.call) cpu index amount (target_of opening before s) r is)
-    shape_names (Sum s index) t r e is = subst OfTarget (same_Some _ _ e) (sum_names (was_freed (answers_in opening before s) s.call) index (target_of opening before s) r is)
+    shape_names (Vfree s) t r e is = grind (arith, same_Some, named_first, refused_first)
+    shape_names (UnmapRam s) t r e is = grind (arith, same_Some, named_first, refused_first)
+    shape_names (FreePercpu s) t r e is = grind (arith, same_Some, named_first, refused_first)
+    shape_names (Add s cpu index amount) t r e is = grind (arith, same_Some, refused_first, named_first)
+    shape_names (Sum s index) t r e is = grind (arith, same_Some, refused_first, named_first)
     shape_names _ t r e is = cc
 
 -- The answer of the target's call.
@@ -203,8 +128,7 @@ module _ (c : Setup) (opening : List Call) (calls : List (List Call)) (w : World
   ops (suc k) = opening
 
   ruled : (k : ℕ) (own : List Call) → slice_get (opening ∷ calls) k ≡ Some own → AreRuled c (ops k) [] own
-  ruled zero own h = subst (AreRuled c [] []) (same_Some _ _ h) trace.opening_ruled
-  ruled (suc k) own h = trace.callers_ruled k own h
+  ruled k own h = grind (arith, same_Some)
 
   pub record IsThere (k : ℕ) (l : Local) (before : List Answered) (named : Call) (t : Target) : Type 0 where
     pub caller : ℕ
@@ -288,7 +212,7 @@ module _ (c : Setup) (opening : List Call) (calls : List (List Call)) (w : World
         (sym made_is ∙ of_call.unbound caused.0 (subst (λ x. CanMake x (target_of l.opening (take i l.answers) t)) of_target.call (subst (CanMake of_target.target.call) (sym made_is) can)))
 
     is_unbound : IsNoAddress of_target.target.reply → answer.reply ≡ reply.Unbound
-    is_unbound none = unusable_comes c (sections own) l.opening (take i l.answers) answer.call answer.reply is_answer.shape (of_call.none (made_is ∙ nothing_told _ of_target.target.reply of_target.target.made of_target.is.settled none))
+    is_unbound none = grind (arith, unusable_comes, is_answer, of_call, made_is, of_target)
 
     targeted : IsTargeted c w k l (take i l.answers) answer own t
     targeted = record {

@@ -13,7 +13,7 @@ use Rattle.vm_model.specs.Places.{Place, SettlingArea, SettlingBlock, SettlingGr
 use Rattle.vm_model.specs.LegalHistory.{Meets}
 use Rattle.vm_model.specs.Laws.{IsAligned, as_free}
 use Rattle.map_laws.proofs.AskRows.{ask_row}
-use Rattle.map_laws.proofs.Chosen.{IsIn, filter_has}
+use Rattle.map_laws.proofs.Chosen.{IsIn, filter_has, covers_one, holds_from}
 use Rattle.map_laws.proofs.Places.{IsPlainKind, IsProper, begins_with}
 use Rattle.map_laws.proofs.OutMoves.{with_in}
 use Rattle.std.proofs.lemmas.List.{length-replicate}
@@ -22,8 +22,7 @@ use Rattle.vm_model.specs.declared.calls.Call.{Call}
 use Rattle.vm_model.specs.Calls.{Answered}
 use Rattle.vm_model.specs.History.{World, Local, started, opening_world, opening_answers, callers_from, with_callers}
 use Rattle.vm_model.specs.Carried.{held, flushed}
-use Rattle.map_laws.proofs.Lists.{append_cases}
-use Rattle.map_laws.proofs.Spans.{covers_one, holds_from}
+use Rattle.map_laws.proofs.Frames.{append_cases}
 use Rattle.map_laws.proofs.AreaFacts.{IsHolding, IsMapFine, IsUnbearing, nothing_held, nothing_flushed, holds_nothing, guard_part}
 use Rattle.map_laws.proofs.AreaWorlds.{IsAreaWorld, unbearing_begins}
 use Rattle.vm_model.specs.declared.areas.AreaKind.TheVariants as kind

@@ -6,7 +6,7 @@ use Rattle.vm_model.specs.Setup.{Setup}
 use Rattle.vm_model.specs.PlainMap.{PlainMap, Block, Part, Life, InHand, is_ended}
 use Rattle.vm_model.specs.Blocks.{PartAt, size_of, parts_size, dirty_of, change_block, with_life, set_life}
 use Rattle.vm_model.specs.Legal.{IsUnmapped}
-use Rattle.map_laws.proofs.Lists.{same_or}
+use Rattle.map_laws.proofs.Frames.{same_or}
 use Rattle.map_laws.proofs.Chosen.{IsIn, sum_without}
 use Rattle.map_laws.proofs.ChunkFalls.{mapped_at}
 use Rattle.vm_model.proofs.RoundedPages.{rounded_some}

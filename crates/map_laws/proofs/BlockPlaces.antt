@@ -18,16 +18,14 @@ use Rattle.vm_model.specs.declared.areas.Span.{Span}
 use Rattle.vm_model.specs.LegalHistory.{Meets}
 use Rattle.map_laws.proofs.AskRows.{AskRow, Refused, ask_row}
 use Rattle.map_laws.proofs.PlaceRows.{place_row}
-use Rattle.map_laws.proofs.Touched.{painted_still}
-use Rattle.map_laws.proofs.AreaFacts.{IsHolding, IsMapFine, own_uses}
+use Rattle.map_laws.proofs.AreaFacts.{painted_still, IsHolding, IsMapFine, own_uses}
 use Rattle.map_laws.proofs.BlockFacts.{IsBlockArea, IsBlockAt, IsBlockFine, IsPartIn, IsStill, block_out, block_starts, count_cons, counted_block, not_among, to_same}
 use Rattle.map_laws.proofs.BlockMoves.{IsBlockMoved, area_holds, next_out, outer_moved}
-use Rattle.map_laws.proofs.Chosen.{IsIn, filter_in, put_keeps, put_new}
-use Rattle.map_laws.proofs.Lists.{there}
+use Rattle.map_laws.proofs.Chosen.{IsIn, filter_in, put_keeps, put_new, covers_one, holds_from, holds_to, times-one}
+use Rattle.map_laws.proofs.Frames.{there}
 use Rattle.map_laws.proofs.Quiet.{area_times}
 use Rattle.map_laws.proofs.OutMoves.{same_area}
 use Rattle.map_laws.proofs.Places.{IsPlainKind, OnNext}
-use Rattle.map_laws.proofs.Spans.{covers_one, holds_from, holds_to, times-one}
 use Rattle.vm_model.specs.declared.areas.AreaKind.TheVariants as kind
 use Rattle.vm_model.specs.declared.calls.Reply.TheVariants as reply
 

@@ -25,10 +25,8 @@ use Rattle.map_laws.proofs.Frames.{IsFramed}
 use Rattle.map_laws.proofs.MapLegal.{block_at, held_life, one_at}
 use Rattle.map_laws.proofs.Namings.{namings_once}
 use Rattle.map_laws.proofs.ObjectFacts.{IsObject, IsObjectAt, object_life}
-use Rattle.map_laws.proofs.ObjectWorlds.{SomeonePlaces}
-use Rattle.map_laws.proofs.Chosen.{or_right}
-use Rattle.map_laws.proofs.Spans.{covers_one, holds_from, holds_to}
-use Rattle.map_laws.proofs.TraceWorlds.{AreFull, IsTraceWorld, areas_once, has_parts, own_names, trace_reached}
+use Rattle.map_laws.proofs.TraceWorlds.{SomeonePlaces, AreFull, IsTraceWorld, areas_once, has_parts, own_names, trace_reached}
+use Rattle.map_laws.proofs.Chosen.{or_right, covers_one, holds_from, holds_to}
 
 -- a row's pages by its span
 row_each : (P : ℕ → Type 0) (s : Span) → OnRow s.start s.pages P → OnEach (s ∷ []) P

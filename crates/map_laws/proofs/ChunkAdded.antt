@@ -1,31 +1,34 @@
 -- Chunks that are added, and objects that are placed at once.
-use Rattle.std.proofs.Common.{List, Some, [], ap, arith, false, inl, inr, refl, replicate, slice_get, subst, suc, sym, true, zero, ℕ, ◌+◌, ◌∙◌, ◌∷◌, ◌≡◌, ◌⊎◌, Bool, map, nat_le, not, ◌*◌, ◌++◌, ◌-◌, ◌/◌, ◌<◌, ◌≤◌}
+use Rattle.std.proofs.Common.{List, Some, [], ap, arith, false, inl, inr, refl, replicate, slice_get, subst, suc, sym, true, zero, ℕ, ◌+◌, ◌∙◌, ◌∷◌, ◌≡◌, ◌⊎◌, Bool, map, nat_le, not, ◌*◌, ◌++◌, ◌-◌, ◌/◌, ◌<◌, ◌≤◌, None, Option}
 use Rattle.std.proofs.lemmas.List.{length-replicate}
 use Rattle.std.proofs.lemmas.Option.{slice_get_within}
-use Rattle.vm_model.specs.Carried.{IsBeingPopulated}
+use Rattle.vm_model.specs.Carried.{IsBeingPopulated, has_alloc, is_for_chunk, keeps_alloc}
 use Rattle.vm_model.specs.Chunks.{ObjectAt, bit_list, new_chunk, plain_fit, with_object, atomic_bits, atomic_fit, is_populated, object_bits, pages_of_object, unpopulated_pages, with_live_object}
 use Rattle.vm_model.specs.Effects.{effect_as, with_new_chunk}
-use Rattle.vm_model.specs.Events.{AddChunk, PlaceAtomic, SettleObject}
+use Rattle.vm_model.specs.Events.{AddChunk, PlaceAtomic, SettleObject, Section}
 use Rattle.vm_model.specs.Legal.{IsLegalAs}
 use Rattle.vm_model.specs.Next.{Go, Next, next}
-use Rattle.vm_model.specs.Places.{AddingChunk, Populating, ChoosingAtomic, SettlingAtomic, Zeroing}
+use Rattle.vm_model.specs.Places.{AddingChunk, Populating, ChoosingAtomic, SettlingAtomic, Zeroing, Aim, Choosing, Finding, FindingAgain, ForArea, ForBlock, ForChunk, Place, PurgeCollecting, PurgeFlushing, PurgeFragmenting, PurgeGiving, PurgeReturning, PurgeTaking, PurgeUnlinking, PurgeWaiting, ReplyWith, SearchAgain, SettlingGroups, SpareAgain, Then, Waiting, ask}
 use Rattle.vm_model.specs.PlainMap.{Chunk, PlainMap, Lives}
 use Rattle.vm_model.specs.Rules.{AreUnits}
 use Rattle.vm_model.specs.Setup.{Setup, unit_bits}
-use Rattle.map_laws.proofs.Chosen.{IsIn, count_at, filter_in, in_among, or_right}
+use Rattle.map_laws.proofs.Chosen.{IsIn, count_at, filter_in, in_among, or_right, covers_append, holds_from}
 use Rattle.map_laws.proofs.ChunkFacts.{AreSameRows, IsChunkAt, IsChunkFine, IsChunkOf, IsLacking, IsSameRow, chunk_stays, of_stays, unit_covered, IsPlacedAt, chunk_at_stays}
 use Rattle.map_laws.proofs.ChunkMoves.{AreGrown, IsChunkMoved, later_places, quiet_chunks}
 use Rattle.map_laws.proofs.ChunkRows.{fitting, object_low, placed_lacking, placement_is, AreNumbered, rows_changed, rows_numbered, same_row, IsFitting, fitting_bit, populated_at, plain_rows, plain_stays}
 use Rattle.map_laws.proofs.ChunkNoted.{bits_long}
-use Rattle.map_laws.proofs.Lists.{append_cases, there}
+use Rattle.map_laws.proofs.Frames.{append_cases, there}
 use Rattle.map_laws.proofs.Places.{IsObjectSize, OnNext}
 use Rattle.std.proofs.lemmas.Bool.Decides.{nat_tests}
 use Rattle.vm_model.proofs.Paint.{length-paint_from}
 use Rattle.vm_model.specs.Areas.{spans_of}
 use Rattle.vm_model.specs.Space.{count_from, covers, fits, holds, is_among, paint, span, times}
 use Rattle.map_laws.proofs.BlockFacts.{to_same}
-use Rattle.map_laws.proofs.Spans.{covers_append, holds_from}
-use Rattle.map_laws.proofs.Touched.{painted_still, unpainted}
+use Rattle.map_laws.proofs.AreaFacts.{painted_still, unpainted}
+use Rattle.vm_model.specs.LegalHistory.{Meets}
+use Rattle.map_laws.proofs.PlaceRows.{PlaceRow, Stays, NoSpaceForChunk, place_row}
+use Rattle.map_laws.proofs.ChunkFalls.{added}
+use Rattle.map_laws.proofs.StepFalls.{adds_nothing, asks_chunk}
 
 -- A chunk is added, and an object is placed in the chunk that has room.
 
@@ -181,3 +184,78 @@ module _ (c : Setup) (units : AreUnits c) (m : PlainMap) (k : ℕ) (numbered : A
     pub atomic_lives : (serial : ℕ) (n : Next) → OnNext (IsChunkAt c (effect_as c m k (SettleObject at serial))) n → IsChunkMoved c m k busy (SettlingAtomic at) (SettleObject at serial) n
     atomic_lives serial n next = quiet_chunks c units m k numbered once busy (SettlingAtomic at) all (SettleObject at serial) n (live_rows serial)
         (λ number. record { areas = λ a group is e. is; still = λ page is e. record { frame = refl; clean = λ f. f } }) (λ number page mine. absurd mine) next
+
+-- The number that a caller's new chunk gets is the next one, up to its section.
+
+abbrev pub number_aim : Aim → Option ℕ
+number_aim (ForArea k) = None
+number_aim (ForBlock cpu pages) = None
+number_aim (ForChunk chunk bytes align) = Some chunk
+
+abbrev pub number_then : Then → Option ℕ
+number_then (SearchAgain search aim) = number_aim aim
+number_then (ReplyWith reply) = None
+number_then SpareAgain = None
+
+abbrev pub chunk_number : Place → Option ℕ
+chunk_number (Finding search aim) = number_aim aim
+chunk_number (FindingAgain search aim) = number_aim aim
+chunk_number (Waiting spans after) = number_then after
+chunk_number (PurgeTaking extra after) = number_then after
+chunk_number (PurgeFragmenting cpu gone extra after) = number_then after
+chunk_number (PurgeUnlinking gone extra after) = number_then after
+chunk_number (PurgeWaiting gone extra after) = number_then after
+chunk_number (PurgeCollecting extra after) = number_then after
+chunk_number (PurgeFlushing s waited after) = number_then after
+chunk_number (PurgeReturning waited after) = number_then after
+chunk_number (PurgeGiving after) = number_then after
+chunk_number (SettlingGroups base chunk bytes align) = Some chunk
+chunk_number (AddingChunk base chunk bytes align) = Some chunk
+chunk_number _ = None
+
+-- of a place, and of what follows one that has this number
+abbrev pub IsNumberNext : PlainMap → Place → Type 0
+IsNumberNext m p = (number : ℕ) → chunk_number p ≡ Some number → number ≡ m.next_chunk
+
+abbrev pub HasNumber : Option ℕ → Place → Type 0
+HasNumber o q = (number : ℕ) → chunk_number q ≡ Some number → o ≡ Some number
+
+aim_alloc : (aim : Aim) (number : ℕ) → number_aim aim ≡ Some number → is_for_chunk aim ≡ true
+aim_alloc aim number e = grind arith
+
+then_alloc : (after : Then) (number : ℕ) → number_then after ≡ Some number → keeps_alloc after ≡ true
+then_alloc after number e = grind (arith, aim_alloc)
+
+-- such a place has the alloc turn
+pub number_alloc : (p : Place) (number : ℕ) → chunk_number p ≡ Some number → has_alloc p ≡ true
+number_alloc p number e = grind (arith, aim_alloc, then_alloc)
+
+module _ (c : Setup) where
+  -- places that choose a chunk
+  abbrev pub is_choosing : Place → Bool
+  is_choosing (Choosing bytes align) = true
+  is_choosing (AddingChunk base chunk bytes align) = true
+  is_choosing _ = false
+
+  -- a section elsewhere leads to no other number
+  number_row : (s : Section) (p : Place) (n : Next) → PlaceRow c s p n → is_choosing p ≡ false → OnNext (HasNumber (chunk_number p)) n
+  number_row s _ _ Stays h = λ number e. e
+  number_row s _ _ (NoSpaceForChunk search chunk bytes align) h = λ number e. cc
+  number_row s _ _ _ h = grind arith
+
+  pub number_next : (p : Place) (s : Section) → is_choosing p ≡ false → OnNext (HasNumber (chunk_number p)) (next c p s)
+  number_next p s h = number_row s p (next c p s) (place_row c s p) h
+
+  module _ (m : PlainMap) (k : ℕ) where
+    -- no other section gives a chunk a number
+    next_same : (s : Section) → added c s ≡ 0 → (effect_as c m k s).next_chunk ≡ m.next_chunk
+    next_same s e = grind arith
+
+    pub same_or_alloc : (p : Place) (s : Section) → Meets c (ask c p) s → ((effect_as c m k s).next_chunk ≡ m.next_chunk) ⊎ (has_alloc p ≡ true)
+    same_or_alloc p s w = grind (arith, asks_chunk, next_same, adds_nothing)
+
+    pub number_after : (p : Place) (s : Section) → Meets c (ask c p) s → IsLegalAs c m k s → IsNumberNext m p → OnNext (IsNumberNext (effect_as c m k s)) (next c p s)
+    number_after (Choosing bytes align) s (inl w) legal is = subst (λ (x : Section). OnNext (IsNumberNext (effect_as c m k x)) (next c (Choosing bytes align) x)) (sym w.3) (λ number e. cc)
+    number_after (Choosing bytes align) s (inr w) legal is = grind arith
+    number_after (AddingChunk base chunk bytes align) s w legal is = subst (λ (x : Section). OnNext (IsNumberNext (effect_as c m k x)) (next c (AddingChunk base chunk bytes align) x)) (sym w.3) (λ number e. cc)
+    number_after p s w legal is = grind (arith, next_same, adds_nothing, number_next)

@@ -11,7 +11,7 @@ use Rattle.map_laws.proofs.Chosen.{one_if_le, IsIn, filter_has, filter_in, least
 use Rattle.std.proofs.lemmas.Bool.Decides.{nat_tests}
 use Rattle.std.proofs.lemmas.Option.{get_or_from_slice_get, slice_get-map}
 use Rattle.vm_model.proofs.Search.{the_lowest_fits}
-use Rattle.map_laws.proofs.Lists.{there, append_cases}
+use Rattle.map_laws.proofs.Frames.{there, append_cases}
 use Rattle.std.proofs.lemmas.List.{length-replicate}
 use Rattle.vm_model.proofs.Paint.{length-paint_from}
 

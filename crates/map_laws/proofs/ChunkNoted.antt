@@ -17,17 +17,16 @@ use Rattle.vm_model.specs.Chunks.{change_chunk, ObjectAt, bit_list, plain_fit, p
 use Rattle.vm_model.specs.Space.{count_from, covers, is_among, paint, times, span}
 use Rattle.vm_model.specs.Effects.{effect_as}
 use Rattle.vm_model.proofs.Paint.{length-paint_from, slice_get-paint}
-use Rattle.map_laws.proofs.Touched.{painted_still, unpainted, painted}
+use Rattle.map_laws.proofs.AreaFacts.{painted_still, unpainted, painted, IsHolding}
 use Rattle.vm_model.specs.Areas.{spans_of, areas_of, group_areas, group_kinds, with_areas}
 use Rattle.map_laws.proofs.BlockWorlds.{only_one}
 use Rattle.std.proofs.lemmas.Option.{slice_get_within}
 use Rattle.vm_model.specs.declared.areas.Area.{Area}
 use Rattle.vm_model.specs.declared.areas.Span.{Span}
-use Rattle.map_laws.proofs.AreaFacts.{IsHolding}
 use Rattle.map_laws.proofs.BlockFacts.{same_test, to_same}
 use Rattle.map_laws.proofs.BlockPlaces.{with_keeps}
 use Rattle.map_laws.proofs.ChunkFalls.{page_fillable}
-use Rattle.map_laws.proofs.Lists.{there}
+use Rattle.map_laws.proofs.Frames.{there}
 use Rattle.vm_model.specs.declared.areas.AreaKind.TheVariants as kind
 
 -- Pages that are noted as populated, and chunks that are added.

@@ -12,8 +12,8 @@ use Rattle.vm_model.specs.Setup.{Setup, unit_bits}
 use Rattle.vm_model.specs.Chunks.{change_chunk, with_object, without_object, ObjectAt, chosen, is_populated, missing_pages, offset_fit, pages_of_object, placed_at, placement, slot}
 use Rattle.vm_model.specs.Effects.{effect_as}
 use Rattle.map_laws.proofs.BlockPlaces.{with_keeps}
-use Rattle.map_laws.proofs.Lists.{same_or, there}
-use Rattle.map_laws.proofs.Touched.{painted_still, in_row}
+use Rattle.map_laws.proofs.Frames.{same_or, there}
+use Rattle.map_laws.proofs.AreaFacts.{painted_still, in_row}
 use Rattle.vm_model.specs.Space.{begins_free, count_from, is_among, lowest}
 use Rattle.vm_model.proofs.Elements.{slice_get-drop}
 use Rattle.map_laws.proofs.Fits.{lowest_fit}

@@ -16,18 +16,14 @@ use Rattle.vm_model.specs.Setup.{Setup, pages_in_units}
 use Rattle.vm_model.specs.Space.{is_among, times}
 use Rattle.vm_model.specs.declared.areas.Area.{Area}
 use Rattle.vm_model.specs.declared.calls.Call.{Call}
-use Rattle.map_laws.proofs.BlockDispatch.{IsChunkSided}
+use Rattle.map_laws.proofs.BlockWorlds.{IsChunkSided, only_one}
 use Rattle.map_laws.proofs.BlockPlaces.{IsInChunk}
-use Rattle.map_laws.proofs.BlockWorlds.{only_one}
 use Rattle.map_laws.proofs.Chosen.{IsIn}
 use Rattle.map_laws.proofs.ChunkFacts.{AreGroupsLive, IsChunkAt, IsChunkFine, IsChunkOf, group_page, unit_covered, unit_page}
-use Rattle.map_laws.proofs.ChunkLeft.{groups_no_block, groups_unlinked}
-use Rattle.map_laws.proofs.ChunkMoves.{IsChunkMoved, next_busy}
-use Rattle.map_laws.proofs.ChunkDispatch.{IsUnchunked, unchunked_at}
+use Rattle.map_laws.proofs.ChunkDispatch.{groups_no_block, groups_unlinked, IsUnchunked, unchunked_at}
+use Rattle.map_laws.proofs.ChunkMoves.{IsChunkMoved, next_busy, groups_free}
 use Rattle.map_laws.proofs.ChunkRows.{AreNumbered}
-use Rattle.map_laws.proofs.GroupsFree.{groups_free}
-use Rattle.map_laws.proofs.Lists.{append_cases, set_cases, there}
-use Rattle.map_laws.proofs.Frames.{SomeOther, other_or, others_still, someone_joins}
+use Rattle.map_laws.proofs.Frames.{append_cases, set_cases, there, SomeOther, other_or, others_still, someone_joins}
 use Rattle.map_laws.proofs.Places.{HaveBeginnings, AtOver, OnNext, answers_call, begins_with}
 use Rattle.map_laws.specs.Turns.{AreTurnsKept}
 

@@ -16,8 +16,7 @@ use Rattle.vm_model.specs.Rules.{IsTrace}
 use Rattle.vm_model.specs.Laws.{MoreFuelChangesNothing}
 use Rattle.vm_model.proofs.OneNext.{gives}
 use Rattle.map_laws.specs.Ends.{EveryRunEnds, HistoriesAreShort}
-use Rattle.map_laws.proofs.Lists.{append_first}
-use Rattle.map_laws.proofs.Frames.{IsFramed, IsStep, IsOpening, IsKeptBySteps, framed_opening, framed_callers, framed_step, opening_step, reached_have}
+use Rattle.map_laws.proofs.Frames.{append_first, IsFramed, IsStep, IsOpening, IsKeptBySteps, framed_opening, framed_callers, framed_step, opening_step, reached_have}
 use Rattle.map_laws.proofs.Places.{begins_with}
 use Rattle.map_laws.proofs.TurnProofs.{AreTurnsProper, turns_first, turns_last, some_moves}
 use Rattle.map_laws.proofs.Chosen.{find_has}

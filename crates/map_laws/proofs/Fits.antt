@@ -2,7 +2,7 @@
 use Rattle.std.proofs.Common.{Bool, List, Some, [], ap, arith, cond, false, find, flat_map, length, length-append, map, refl, slice_get, suc, sum_by, true, zero, ℕ, ◌++◌, ◌∙◌, ◌∷◌, ◌≡◌, ◌≤◌, ◌%◌, ◌&&◌, ◌==◌, nat_le, drop, filter, slice_index, sym}
 use Rattle.std.proofs.lemmas.List.Sums.{sum_by-cons}
 use Rattle.map_laws.proofs.Chosen.{IsIn, in_more, find_has, filter_has, last_in}
-use Rattle.map_laws.proofs.Lists.{there}
+use Rattle.map_laws.proofs.Frames.{there}
 use Rattle.std.specs.List.{list_all}
 use Rattle.std.proofs.lemmas.Bool.Decides.{nat_tests}
 use Rattle.vm_model.specs.declared.areas.Span.{Span}

@@ -17,17 +17,15 @@ use Rattle.map_laws.proofs.BlockFacts.{IsBlockArea, block_out, block_starts, cou
 use Rattle.map_laws.proofs.BlockMoves.{area_holds}
 use Rattle.map_laws.proofs.BlockPlaces.{IsInChunk, in_one_kind}
 use Rattle.map_laws.proofs.BlockWorlds.{IsBlockWorld, out_area, sum_some}
-use Rattle.map_laws.proofs.Chosen.{IsIn, one_if_le}
+use Rattle.map_laws.proofs.Chosen.{IsIn, one_if_le, holds_from}
 use Rattle.map_laws.proofs.ChunkFacts.{AreGroupsLive, IsChunkAt, start_of}
 use Rattle.map_laws.proofs.ChunkMoves.{number_once}
-use Rattle.map_laws.proofs.ChunkNumbers.{IsNumberNext}
+use Rattle.map_laws.proofs.ChunkAdded.{IsNumberNext}
 use Rattle.map_laws.proofs.ChunkWorlds.{IsChunkWorld, alone}
-use Rattle.map_laws.proofs.Frames.{IsFramed}
-use Rattle.map_laws.proofs.Lists.{there}
+use Rattle.map_laws.proofs.Frames.{IsFramed, there}
 use Rattle.map_laws.proofs.ObjectFacts.{count_sum, same_place}
-use Rattle.map_laws.proofs.ObjectLaws.{sum_once}
-use Rattle.map_laws.proofs.ObjectWorlds.{IsObjectWorld}
-use Rattle.map_laws.proofs.Spans.{holds_from}
+use Rattle.map_laws.proofs.MapLaws.{sum_once}
+use Rattle.map_laws.proofs.TraceWorlds.{IsObjectWorld}
 use Rattle.map_laws.specs.Turns.{AreTurnsKept}
 
 abbrev pub chunk_out : Setup → Place → List ℕ

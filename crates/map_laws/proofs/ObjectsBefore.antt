@@ -5,7 +5,7 @@ use Rattle.vm_model.specs.PlainMap.{PlainMap, Chunk, Object, Life, Lives}
 use Rattle.vm_model.specs.Chunks.{ObjectAt, new_chunk, change_chunk, with_object, without_object, with_live_object, with_page}
 use Rattle.vm_model.specs.Events.{Section, PlaceObject, AddChunk, PlaceAtomic, SettleObject, Unplace, FreeObject, Spare, Filled}
 use Rattle.vm_model.specs.Effects.{effect_as}
-use Rattle.map_laws.proofs.Lists.{append_cases}
+use Rattle.map_laws.proofs.Frames.{append_cases}
 use Rattle.map_laws.proofs.Chosen.{IsIn, filter_has, put_in}
 use Rattle.map_laws.proofs.ChunkRows.{keyed_is}
 use Rattle.map_laws.proofs.ObjectFacts.{IsObject, AreChunksFine, same_chunk, object_only}

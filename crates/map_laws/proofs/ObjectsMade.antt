@@ -21,8 +21,8 @@ use Rattle.vm_model.specs.declared.calls.Reply.{Reply}
 use Rattle.vm_model.specs.declared.calls.Target.{Target}
 use Rattle.map_laws.proofs.BlockFacts.{same_test, to_same}
 use Rattle.map_laws.proofs.Chosen.{sum_has, one_if_le, or_assoc, or_false, or_none}
-use Rattle.map_laws.proofs.Lists.{append_cases, append_first, set_cases, set_other, there}
-use Rattle.map_laws.proofs.MadeNext.{AreWellNamed, IsMakingNone, IsNoObject, IsNow, begun_now, flight, freeing_place, is_using, makes_object, making_none, next_made}
+use Rattle.map_laws.proofs.Frames.{append_cases, append_first, set_cases, set_other, there}
+use Rattle.map_laws.proofs.SizedCalls.{AreWellNamed, IsMakingNone, IsNoObject, IsNow, begun_now, flight, freeing_place, is_using, makes_object, making_none, next_made}
 use Rattle.map_laws.proofs.ObjectChanges.{lived_object}
 use Rattle.map_laws.proofs.ObjectFacts.{AreChunksFine, IsObject, IsObjectAt, same_place}
 use Rattle.map_laws.proofs.ObjectMoves.{Kills}

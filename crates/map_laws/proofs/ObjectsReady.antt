@@ -5,14 +5,14 @@ use Rattle.std.specs.List.{list_any}
 use Rattle.vm_model.specs.Areas.{areas_at, spans_of}
 use Rattle.vm_model.specs.Carried.{IsBeingPopulated, count_of, has_alloc}
 use Rattle.vm_model.specs.Chunks.{ObjectAt, chunks_numbered, life_of_object, object_pages, pages_of_object, touches}
-use Rattle.vm_model.specs.Events.{Section}
+use Rattle.vm_model.specs.Events.{Section, Populate, Zero}
 use Rattle.vm_model.specs.Frames.{pages_of_bytes}
 use Rattle.vm_model.specs.Given.{given}
 use Rattle.vm_model.specs.History.{Local, World, step}
 use Rattle.vm_model.specs.Laws.{HistoriesAreLegal}
 use Rattle.vm_model.specs.Legal.{AreStarts, CanFill, IsBare, IsLegalAs, IsMapped, IsUnmapped, OnPages}
 use Rattle.vm_model.specs.Next.{next}
-use Rattle.vm_model.specs.Places.{Adding, AddingChunk, Depopulating, Filling, NotingFilled, Place, Populating, SettlingAtomic, SettlingObject, Summing, UnlinkingGroups, Unplacing, Zeroing, ask, group_starts}
+use Rattle.vm_model.specs.Places.{Adding, AddingChunk, Depopulating, Filling, NotingFilled, Place, Populating, SettlingAtomic, SettlingObject, Summing, UnlinkingGroups, Unplacing, Zeroing, ask, group_starts, SettlingGroups, Choosing, ChoosingAtomic, Sparing, NextFill}
 use Rattle.vm_model.specs.PlainMap.{Chunk, InHand, Life, Lives, Object, is_in_hand}
 use Rattle.vm_model.specs.Rules.{IsSetup}
 use Rattle.vm_model.specs.Setup.{Setup, groups_at, pages_in_units}
@@ -25,22 +25,23 @@ use Rattle.map_laws.proofs.BlockFacts.{IsBlockAt, among_count, block_out, block_
 use Rattle.map_laws.proofs.BlockWorlds.{only_one}
 use Rattle.map_laws.proofs.Chosen.{IsIn, filter_has, filter_in, in_more}
 use Rattle.map_laws.proofs.ChunkFacts.{AreGroupsLive, IsChunkAt, IsOpenPage, start_of, unit_covered, unit_page}
-use Rattle.map_laws.proofs.ChunkNumbers.{IsNumberNext}
+use Rattle.map_laws.proofs.ChunkAdded.{IsNumberNext}
 use Rattle.map_laws.proofs.ChunkWorlds.{alone, chunks_here, none_populates}
-use Rattle.map_laws.proofs.Frames.{IsFramed, IsStep}
+use Rattle.map_laws.proofs.Frames.{IsFramed, IsStep, there}
 use Rattle.map_laws.proofs.GivenMeets.{given_meets}
-use Rattle.map_laws.proofs.LegalRuns.{one_legal}
-use Rattle.map_laws.proofs.Lists.{there}
-use Rattle.map_laws.proofs.MadeNext.{IsNamedObject, IsNow}
+use Rattle.map_laws.proofs.MapLaws.{one_legal, object_done, populated_mapped}
+use Rattle.map_laws.proofs.SizedCalls.{IsNamedObject, IsNow}
 use Rattle.map_laws.proofs.MapLegal.{IsReady, legal_section, one_at}
 use Rattle.map_laws.proofs.Namings.{starts_once}
 use Rattle.map_laws.proofs.ObjectFacts.{AreChunksFine, IsBeingPlaced, IsObject, IsObjectAt, object_life, same_chunk}
-use Rattle.map_laws.proofs.ObjectLaws.{object_done, populated_mapped}
-use Rattle.map_laws.proofs.ObjectWorlds.{OthersPlace, SomeonePlaces, objects_here}
+use Rattle.map_laws.proofs.TraceWorlds.{OthersPlace, SomeonePlaces, objects_here, IsTraceWorld, areas_once, holding_here, own_names, proper_here, trace_first, trace_lasts}
 use Rattle.map_laws.proofs.ObjectsMade.{made_some}
 use Rattle.map_laws.proofs.StepFalls.{has_room}
-use Rattle.map_laws.proofs.TraceWorlds.{IsTraceWorld, areas_once, holding_here, own_names, proper_here, trace_first, trace_lasts}
 use Rattle.vm_model.specs.declared.areas.AreaKind.TheVariants as kind
+use Rattle.vm_model.specs.Told.{had_frames}
+use Rattle.vm_model.specs.LegalHistory.{Meets}
+use Rattle.map_laws.proofs.Places.{OnNext, either_next}
+use Rattle.map_laws.proofs.ChunkDispatch.{leads_unchunked}
 
 first_in : {X : Type 0} (x : X) (xs : List X) → IsIn x xs → (y : X) × (slice_get xs 0 ≡ Some y)
 first_in x [] there = (let at = there.at in cc)
@@ -161,3 +162,40 @@ trace_legal c setup w k l s framed is step =
 
 pub histories_legal : HistoriesAreLegal
 histories_legal c opening calls picks trace = one_legal c calls (IsTraceWorld c) (trace_lasts c opening calls trace) (trace_legal c trace.setup) opening trace (trace_first c opening calls trace) picks
+
+-- An object whose caller is about to settle it was just zeroed.
+
+-- the object that a caller is about to settle
+abbrev pub IsZeroedAt : Place → ObjectAt → Type 0
+IsZeroedAt (SettlingObject own) at = own ≡ at
+IsZeroedAt (SettlingAtomic own) at = own ≡ at
+IsZeroedAt _ at = ⊥
+
+-- the section that zeroed it
+pub data Zeroes (at : ObjectAt) : Section → Type 0 where
+  Populated : (missing : List ℕ) → Zeroes at (Populate at missing)
+  Zeroed : Zeroes at (Zero at)
+
+abbrev pub IsJustZeroed : Section → Place → Type 0
+IsJustZeroed s p = (at : ObjectAt) → IsZeroedAt p at → Zeroes at s
+
+module _ (c : Setup) where
+  populate_zeroed : (own : ObjectAt) (missing : List ℕ) (s : Section) → Meets c (ask c (Populating own missing)) s → OnNext (IsJustZeroed s) (next c (Populating own missing) s)
+  populate_zeroed own missing s (inl w) = subst (λ x. OnNext (IsJustZeroed x) (next c (Populating own missing) x)) (sym w) (λ at is. subst (λ x. Zeroes x (Populate own missing)) is (Populated missing))
+  populate_zeroed own missing s (inr w) = subst (λ x. OnNext (IsJustZeroed x) (next c (Populating own missing) x)) (sym w) (λ at is. absurd is)
+
+  zero_zeroed : (own : ObjectAt) (s : Section) → Meets c (ask c (Zeroing own)) s → OnNext (IsJustZeroed s) (next c (Zeroing own) s)
+  zero_zeroed own s w = subst (λ x. OnNext (IsJustZeroed x) (next c (Zeroing own) x)) (sym w) (λ at is. subst (λ x. Zeroes x (Zero own)) is Zeroed)
+
+  pub zeroed_next : (p : Place) (s : Section) → Meets c (ask c p) s → OnNext (IsJustZeroed s) (next c p s)
+  zeroed_next (SettlingGroups base chunk bytes align) s w = λ at is. absurd is
+  zeroed_next (Choosing bytes align) s w = grind arith
+  zeroed_next (AddingChunk base chunk bytes align) s w = grind arith
+  zeroed_next (Populating own missing) s w = populate_zeroed own missing s w
+  zeroed_next (ChoosingAtomic bytes align) s w = grind arith
+  zeroed_next (Zeroing own) s w = zero_zeroed own s w
+  zeroed_next Sparing s w = grind arith
+  zeroed_next (Depopulating base populated) s w = λ at is. absurd is
+  zeroed_next (NextFill filled) s w = grind arith
+  zeroed_next (Filling chunk base page filled) s w = either_next (IsJustZeroed s) (had_frames s) _ _ (λ at is. absurd is) (λ at is. absurd is)
+  zeroed_next p s w = grind (arith, leads_unchunked)

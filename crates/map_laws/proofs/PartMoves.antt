@@ -13,7 +13,7 @@ use Rattle.vm_model.specs.Places.{CuttingPart, SettlingPart, MappingPart, Adding
 use Rattle.vm_model.specs.declared.calls.Reply.{Reply}
 use Rattle.vm_model.specs.Next.{Go, Answer}
 use Rattle.vm_model.specs.Carried.{count_of}
-use Rattle.map_laws.proofs.Lists.{same_or, append_cases, append_first}
+use Rattle.map_laws.proofs.Frames.{same_or, append_cases, append_first}
 use Rattle.map_laws.proofs.Chosen.{IsIn, in_more, find_has, filter_has, filter_in, sum_without, sum_by-filter-le}
 use Rattle.map_laws.proofs.Fits.{and_both}
 use Rattle.vm_model.proofs.RoundedPages.{rounded_some, rounded_low}

@@ -18,8 +18,7 @@ use Rattle.vm_model.specs.History.{World, Local, started, answered, answered_of,
 use Rattle.vm_model.specs.Space.{lowest}
 use Rattle.map_laws.proofs.Fits.{is_zero, lowest_fit, highest_fit}
 use Rattle.map_laws.proofs.PlaceRows.{PlaceRow, NotCut, SettledBlock, SettledGroups, Mapped, place_row}
-use Rattle.map_laws.proofs.Lists.{there, set_cases, append_cases}
-use Rattle.map_laws.proofs.Frames.{IsStep, IsLasting, not_over, has_call}
+use Rattle.map_laws.proofs.Frames.{there, set_cases, append_cases, IsStep, IsLasting, not_over, has_call}
 use Rattle.vm_model.specs.declared.areas.AreaKind.TheVariants as kind
 use Rattle.vm_model.specs.declared.calls.Reply.TheVariants as reply
 

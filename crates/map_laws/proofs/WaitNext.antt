@@ -14,9 +14,8 @@ use Rattle.vm_model.specs.LegalHistory.{Meets}
 use Rattle.vm_model.specs.Laws.{map_after}
 use Rattle.map_laws.proofs.PlaceRows.{place_row}
 use Rattle.map_laws.proofs.Places.{OnNext}
-use Rattle.map_laws.proofs.Spans.{hull_is, covers_append}
-use Rattle.map_laws.proofs.Touched.{painted}
-use Rattle.map_laws.proofs.Chosen.{or_left}
+use Rattle.map_laws.proofs.Chosen.{hull_is, covers_append, or_left}
+use Rattle.map_laws.proofs.AreaFacts.{painted}
 use Rattle.map_laws.proofs.PlaceMoves.{place_free}
 use Rattle.map_laws.proofs.WaitStories.{map_at-more, map_at-end, event_last, event_low, IsTakenSince, IsBehind, IsCarvedBy, IsStoried, taken_more, carved_more}
 

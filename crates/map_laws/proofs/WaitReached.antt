@@ -16,8 +16,7 @@ use Rattle.vm_model.specs.History.{World, Local, started, made_by, moved_to, pla
 use Rattle.vm_model.specs.Rules.{IsTrace}
 use Rattle.vm_model.specs.Laws.{IsFreedAt, PagesWaitBeforeReuse}
 use Rattle.map_laws.specs.Waits.{FreedPagesHaveWaited}
-use Rattle.map_laws.proofs.Lists.{append_cases, append_first}
-use Rattle.map_laws.proofs.Frames.{IsFramed, not_over, has_call}
+use Rattle.map_laws.proofs.Frames.{append_cases, append_first, IsFramed, not_over, has_call}
 use Rattle.map_laws.proofs.Places.{OnNext, HaveBeginnings, begins_with, moved_has}
 use Rattle.map_laws.proofs.AreaWorlds.{IsAreaWorld, IsLegalStep, IsLegallyLasting, legally_lasts}
 use Rattle.map_laws.proofs.TraceWorlds.{IsTraceWorld, trace_lasts, trace_first}

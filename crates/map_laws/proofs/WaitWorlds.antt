@@ -16,8 +16,8 @@ use Rattle.vm_model.specs.LegalHistory.{Meets}
 use Rattle.vm_model.specs.History.{World, Local}
 use Rattle.vm_model.specs.Laws.{map_after, map_at, IsEvent, IsTakenFrom, IsFreedAt, IsReturned, IsDropped}
 use Rattle.map_laws.specs.Waits.{IsWaitOf, HasWaited, IsFreedWell}
-use Rattle.map_laws.proofs.Lists.{same_or, set_cases, set_same, set_other}
-use Rattle.map_laws.proofs.Spans.{covers_times, covers_one}
+use Rattle.map_laws.proofs.Frames.{same_or, set_cases, set_same, set_other}
+use Rattle.map_laws.proofs.Chosen.{covers_times, covers_one, sum_has}
 use Rattle.map_laws.proofs.OutMoves.{sum_two}
 use Rattle.map_laws.proofs.Places.{OnNext}
 use Rattle.map_laws.proofs.Deeds.{drops_at, returns_at, collects_at}
@@ -25,7 +25,6 @@ use Rattle.map_laws.proofs.WaitStories.{map_after-append, map_at-last, map_at-be
 use Rattle.map_laws.proofs.AreaFacts.{bare_at}
 use Rattle.map_laws.proofs.AreaWorlds.{IsAreaWorld}
 use Rattle.map_laws.proofs.Quiet.{free_one}
-use Rattle.map_laws.proofs.Chosen.{sum_has}
 use Rattle.map_laws.proofs.WaitNext.{storied_next, IsLedTo, collected_next, behind_next, flushed_next}
 
 -- a page that waits, or that a caller is about to flush or to return since event i

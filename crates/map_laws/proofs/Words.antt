@@ -2,12 +2,12 @@
 use Rattle.std.proofs.Common.{◌≡◌, ◌≢◌, ℕ, ◌+◌, ◌*◌, ◌/◌, ◌%◌, ◌<◌, List, length, slice_get, slice_set, Option, Some, unwrap_or, ap, sym, ◌∙◌, arith, ℤ, pos, ◌+ℤ◌, zero, suc, ◌≤◌, Bool, true, false, [], ◌∷◌, None, refl, subst, inl, inr, map, not, length-set, ◌++◌}
 use Rattle.std.proofs.lemmas.Option.{unwrap_or-slice_get, same_Some}
 use Rattle.vm_model.specs.Frames.{joined_option, cell_in, cell_of, read_cell, write_cell, word_at, add_word, frame_of, pages_of_bytes, words_in_page, zero_frame, zero_pages, zero_words, is_used, free_frames, give_frames, sum_words}
-use Rattle.map_laws.proofs.Lists.{set_same, set_other, there, set_cases}
+use Rattle.map_laws.proofs.Frames.{set_same, set_other, there, set_cases}
 use Rattle.vm_model.specs.declared.areas.Span.{Span}
 use Rattle.vm_model.specs.Space.{span, holds, is_among, count_from, pages_of}
 use Rattle.vm_model.proofs.Paint.{slice_get-paint, length-paint_from}
-use Rattle.map_laws.proofs.Spans.{holds_to, holds_from}
-use Rattle.map_laws.proofs.Touched.{unpainted}
+use Rattle.map_laws.proofs.Chosen.{holds_to, holds_from, filter_has, count_from-below}
+use Rattle.map_laws.proofs.AreaFacts.{unpainted}
 use Rattle.std.proofs.lemmas.List.{length-replicate}
 use Rattle.vm_model.specs.declared.calls.Call.{Call}
 use Rattle.vm_model.specs.Setup.{Setup, pages_in_units}
@@ -15,8 +15,7 @@ use Rattle.vm_model.specs.PlainMap.{PlainMap}
 use Rattle.vm_model.specs.Events.{Section, MapPages, Populate, Fill, Unmap, Depopulate, Zero, AddWord, Event}
 use Rattle.vm_model.specs.Effects.{effect_as}
 use Rattle.vm_model.specs.History.{opening_world}
-use Rattle.map_laws.proofs.Chosen.{filter_has, count_from-below}
-use Rattle.map_laws.proofs.OwnFrames.{still_mapped, replicate-at}
+use Rattle.map_laws.proofs.AreaWorlds.{still_mapped, replicate-at}
 use Rattle.std.proofs.Math.IntN.{+ℤ_assoc, +ℤ_comm, +ℤ_idl, +ℤ_idr}
 use Rattle.vm_model.specs.Laws.{amount_of, added}
 

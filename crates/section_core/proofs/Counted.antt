@@ -11,8 +11,7 @@ use Rattle.vm_model.specs.Next.{Next, Go, Answer, next}
 use Rattle.vm_model.specs.Calls.{Answered}
 use Rattle.vm_model.specs.History.{Local, World, started, answered_of, moved_to, made_by, opening_world, opening_answers, callers_from}
 use Rattle.vm_model.specs.LegalHistory.{IsReached}
-use Rattle.map_laws.proofs.Lists.{set_cases, append_cases}
-use Rattle.map_laws.proofs.Frames.{IsFramed, IsStep, IsLasting, lasts, not_over, has_call}
+use Rattle.map_laws.proofs.Frames.{set_cases, append_cases, IsFramed, IsStep, IsLasting, lasts, not_over, has_call}
 
 -- how many of the events are the caller's
 abbrev pub events_of : ℕ → List Event → ℕ

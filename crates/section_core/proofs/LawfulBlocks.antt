@@ -20,13 +20,12 @@ use Rattle.map_parts.specs.Kept.{IsSoundLocal, IsSoundPart, IsSoundPlace}
 use Rattle.map_parts.proofs.Filters.{filter_twice}
 use Rattle.map_laws.proofs.BlockFacts.{IsBlockArea, IsPartFine, IsBlockFine, IsBlockAt, IsPartIn, block_out, block_starts, count_cons, stacked_at, same_test, to_same}
 use Rattle.map_laws.proofs.BlockMoves.{same_start, part_within}
-use Rattle.map_laws.proofs.Chosen.{IsIn, filter_has, filter_in}
+use Rattle.map_laws.proofs.Chosen.{IsIn, filter_has, filter_in, covers_one, holds_to, covers_append}
 use Rattle.map_laws.proofs.EndProofs.{histories_short}
 use Rattle.map_laws.proofs.Frames.{IsFramed}
 use Rattle.map_laws.proofs.MapLegal.{held_life}
 use Rattle.map_laws.proofs.Places.{IsProper}
 use Rattle.vm_model.proofs.RoundedPages.{rounded_some}
-use Rattle.map_laws.proofs.Spans.{covers_one, holds_to, covers_append}
 use Rattle.map_laws.proofs.TraceWorlds.{IsTraceWorld, trace_reached, own_names, areas_once, proper_here}
 use Rattle.map_blocks.specs.BlockRows.{BlockRows, IsHeld}
 use Rattle.map_blocks.specs.BlockRows.{IsUnused as IsNoBlocks}

@@ -18,7 +18,7 @@ use Rattle.map_parts.specs.Kept.{KeepsApart, IsSoundLocal}
 use Rattle.map_parts.proofs.ReachedKept.{reached_worlds_keep_apart}
 use Rattle.map_laws.proofs.CarriedKept.{carried_kept}
 use Rattle.map_laws.proofs.EndProofs.{histories_short}
-use Rattle.map_laws.proofs.Spans.{covers_one, covers_append}
+use Rattle.map_laws.proofs.Chosen.{covers_one, covers_append}
 use Rattle.lazy_purge.specs.Waits.{HasPage}
 use Rattle.std.proofs.lemmas.List.Elements.{All-nil, All-cons, All-head, All-tail}
 use Rattle.section_core.specs.StandsWell.{AreRunsOf}

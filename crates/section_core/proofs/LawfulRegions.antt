@@ -17,11 +17,10 @@ use Rattle.vm_model.specs.Parts.{Region, FreeRuns, LiveAreas, WaitingSpans, Page
 use Rattle.vm_model.specs.Run.{StandTogether}
 use Rattle.map_parts.specs.Kept.{IsSoundLocal}
 use Rattle.map_laws.proofs.MapLaws.{areas_apart}
-use Rattle.map_laws.proofs.Chosen.{sum_has}
+use Rattle.map_laws.proofs.Chosen.{sum_has, covers_one, holds_times, none_covers, times-one, times-append}
 use Rattle.vm_model.specs.Areas.{spans_of}
 use Rattle.vm_model.specs.declared.areas.Area.{Area}
 use Rattle.map_laws.proofs.EndProofs.{histories_short}
-use Rattle.map_laws.proofs.Spans.{covers_one, holds_times, none_covers, times-one, times-append}
 use Rattle.callers.specs.CarriedPlaces.{IsWhole, IsFlushed, EndsWithin}
 use Rattle.vm_model.specs.Space.{HasEnd}
 use Rattle.lazy_purge.specs.Waits.{HasPage}

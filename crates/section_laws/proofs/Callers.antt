@@ -10,13 +10,11 @@ use Rattle.vm_model.specs.History.{World, Local}
 use Rattle.map_laws.proofs.AreaWorlds.{legally_lasts}
 use Rattle.map_laws.proofs.ChunkFacts.{IsChunkAt}
 use Rattle.map_laws.proofs.Frames.{IsFramed}
-use Rattle.map_laws.proofs.MadeNext.{IsNow}
+use Rattle.map_laws.proofs.SizedCalls.{IsNow, AreSized, sized_lasts, sized_first}
 use Rattle.map_laws.proofs.MapLegal.{IsReady}
 use Rattle.map_laws.proofs.ObjectFacts.{IsObject, IsObjectAt}
-use Rattle.map_laws.proofs.ObjectWorlds.{SomeonePlaces}
+use Rattle.map_laws.proofs.TraceWorlds.{SomeonePlaces, IsTraceWorld, trace_reached}
 use Rattle.map_laws.proofs.ObjectsReady.{ready_here}
-use Rattle.map_laws.proofs.SizedCalls.{AreSized, sized_lasts, sized_first}
-use Rattle.map_laws.proofs.TraceWorlds.{IsTraceWorld, trace_reached}
 use Rattle.section_laws.specs.Lawful.{IsRunning}
 use Rattle.section_laws.specs.Needs.{LiesInUnits, HasObject}
 use Rattle.section_laws.proofs.Memory.{pages_reached}

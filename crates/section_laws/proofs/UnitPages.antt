@@ -8,9 +8,8 @@ use Rattle.vm_model.specs.Setup.{Setup, pages_in_units}
 use Rattle.vm_model.specs.Carried.{count_of}
 use Rattle.vm_model.specs.Rules.{AreUnits}
 use Rattle.map_laws.proofs.BlockFacts.{count_cons, count_append, count_among, same_test, to_same}
-use Rattle.map_laws.proofs.ObjectLaws.{sum_once}
-use Rattle.map_laws.proofs.Chosen.{or_either}
-use Rattle.map_laws.proofs.Spans.{holds_from}
+use Rattle.map_laws.proofs.MapLaws.{sum_once}
+use Rattle.map_laws.proofs.Chosen.{or_either, holds_from}
 
 -- moved by a number they are counted no more often
 moved_if : (first page x : ℕ) (t : Bool) → (first + page == x) ≡ t → one_if (first + page == x) ≤ one_if (page == x - first)

@@ -22,11 +22,9 @@ use Rattle.vm_model.specs.History.{World, Local, moved_to, made_by, opening_worl
 use Rattle.vm_model.specs.LegalHistory.{Meets, IsReached}
 use Rattle.vm_model.specs.Parts.{Region, Pages}
 use Rattle.vm_model.proofs.Paint.{slice_get-paint}
-use Rattle.map_laws.proofs.AreaWorlds.{IsLegalStep, legally_lasts}
+use Rattle.map_laws.proofs.AreaWorlds.{IsLegalStep, legally_lasts, replicate-at}
 use Rattle.map_laws.proofs.Deeds.{adds_at}
-use Rattle.map_laws.proofs.Frames.{IsFramed, has_call, not_over}
-use Rattle.map_laws.proofs.OwnFrames.{replicate-at}
-use Rattle.map_laws.proofs.Lists.{set_cases}
+use Rattle.map_laws.proofs.Frames.{IsFramed, has_call, not_over, set_cases}
 use Rattle.map_laws.proofs.Places.{answers_call}
 use Rattle.map_laws.proofs.SizedCalls.{IsUse, AreSized, sized_lasts, sized_first, calls_at}
 use Rattle.map_laws.proofs.Words.{is_add}

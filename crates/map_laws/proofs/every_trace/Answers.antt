@@ -1,5 +1,4 @@
-use Rattle.map_laws.proofs.MapLaws.{areas_apart, guard_unmapped, free_clean, parts_disjoint}
-use Rattle.map_laws.proofs.ObjectLaws.{objects_mapped}
+use Rattle.map_laws.proofs.MapLaws.{areas_apart, guard_unmapped, free_clean, parts_disjoint, objects_mapped}
 use Rattle.map_laws.proofs.CarriedKept.{carried_kept}
 use Rattle.map_laws.proofs.ObjectsReady.{histories_legal}
 use Rattle.map_laws.proofs.ReachedSteps.{steps_reached}
