@@ -17,7 +17,7 @@ const BLOCKS: u16 = 8;
 /// Caller 2 is held among the free blocks until caller 1 is among the blocks of its processor, and caller 1 is held there
 /// until caller 2 has made three events.
 #[derive(Drop)]
-struct Holding {
+pub struct Holding {
     inside: AtomicU64,
     events: AtomicU64,
     free_blocks: AtomicU64,
@@ -25,6 +25,21 @@ struct Holding {
 }
 
 impl Holding {
+    /// A gate at which no caller has been.
+    pub fn new() -> Holding {
+        Holding {
+            inside: AtomicU64::new(0),
+            events: AtomicU64::new(0),
+            free_blocks: AtomicU64::new(0),
+            missed: AtomicU64::new(0),
+        }
+    }
+
+    /// How often a caller looked in vain.
+    pub fn missed(&self) -> u64 {
+        self.missed.load(Ordering::SeqCst)
+    }
+
     /// Waits until so many are counted.
     fn hold(&self, counted: &AtomicU64, wanted: u64) {
         for _ in 0..LOOKS {
@@ -62,15 +77,10 @@ vmreport 1
 
 #[test]
 fn two_callers_are_inside_at_once(rt: HostRuntime) -> Result<(), AllocError> {
-    let gate = Holding {
-        inside: AtomicU64::new(0),
-        events: AtomicU64::new(0),
-        free_blocks: AtomicU64::new(0),
-        missed: AtomicU64::new(0),
-    };
+    let gate = Holding::new();
     let (status, written) = lived(&rt, rt.alloc(), TWO, &gate);
     assert!(rt; status == 0, "status {status}");
-    let missed = gate.missed.load(Ordering::SeqCst);
+    let missed = gate.missed();
     assert!(rt; missed == 0, "{missed} looks in vain");
     let text = written.as_slice();
     assert!(rt; text.starts_with(FIRST_LINES), "another order");
