@@ -29,6 +29,7 @@ impl<P: Parts> TableRule<P::Region, View<P::Region, P::Local>, Key<P::Region, P:
     ghost first = { λ key. starting key.locals.value.items };
 }
 
+/// What all passes share: the words, the slots of the regions, and the rule.
 pub type Top<P> = Shared<
     <P as Parts>::Region,
     View<<P as Parts>::Region, <P as Parts>::Local>,
@@ -36,6 +37,7 @@ pub type Top<P> = Shared<
     Turns<P>,
 >;
 
+/// A pass's seat at the table: what the pass knows of it, in the proofs alone.
 pub type Place<P> = Seat<<P as Parts>::Region, View<<P as Parts>::Region, <P as Parts>::Local>>;
 
 /// Which caller makes a step. Each call picks it.
