@@ -3,6 +3,8 @@ use Rattle.std.proofs.Common.{◌≡◌, ℕ, zero, suc, ◌+◌, ◌-◌, ◌*�
 use Rattle.std.proofs.lemmas.Bool.{or_right, cases_lt}
 use Rattle.std.proofs.lemmas.Bool.Decides.{nat_tests}
 use Rattle.std.proofs.lemmas.List.{length-append, drop_all}
+use Rattle.std.proofs.lemmas.Nat.Bits.{bit_at-zero}
+use Rattle.std.specs.Int.{bit_at}
 use Rattle.vm_model.specs.declared.areas.PageSet.{PageSet}
 use Rattle.vm_model.specs.Space.{is_among, count_from}
 use Rattle.vm_model.specs.PageSets.{has_page, pages_in}
@@ -37,6 +39,18 @@ pages_from-lacks set page low lacks =
 pub pages_from-end : (set : PageSet) (page : ℕ) → 64 ≤ page → pages_from set page ≡ []
 unfolding pages_from
 pages_from-end set page high = ap (λ n. filter (has_page set) (count_from n page)) (let e : 64 - page ≡ 0 = omega arith in e)
+
+-- a set without a bit has no pages
+none_of : (set : PageSet) (n first : ℕ) → set.mask ≡ 0 → length (filter (has_page set) (count_from n first)) ≡ 0
+none_of set zero first none = refl
+none_of set (suc n) first none =
+    let rest = filter (has_page set) (count_from n (suc first)) in
+    let lacks : has_page set first ≡ false = ap (λ mask. bit_at mask first == 1) none ∙ ap (λ bit. bit == 1) (bit_at-zero first) in
+    ap (λ b. length (cond b (first ∷ rest) rest)) lacks ∙ none_of set n (suc first) none
+
+pub no_pages : (set : PageSet) → set.mask ≡ 0 → length (pages_in set) ≡ 0
+unfolding pages_in
+no_pages set none = none_of set 64 0 none
 
 -- Pages among others.
 

@@ -13,6 +13,9 @@ use vm_model::PageSet;
 fn count_of(pages: PageSet) -> u32
     ensures { result ≡ length (pages_in pages) }
 {
+    if pages.mask == 0 {
+        return 0;
+    }
     pages.count(64)
 }
 
