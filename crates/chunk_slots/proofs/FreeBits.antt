@@ -10,6 +10,7 @@ use Rattle.vm_model.specs.Bits.{leading_free, hint_of, block_bits}
 use Rattle.vm_model.proofs.FreePlaces.{left_free}
 use Rattle.chunk_bitmaps.specs.ChunkMap.{ChunkMap, taken_bits, object_bits_at, without_object_at}
 use Rattle.std.proofs.lemmas.Nat.Bits.{bit_at-zero}
+use Rattle.std.specs.Int.{bit_at}
 use Rattle.vm_model.proofs.Tabulated.{length-tabulated, slice_get-tabulated, same_tabulated}
 use Rattle.vm_model.proofs.Tabulated.{paint_from-tabulated, tabulated_same}
 use Rattle.vm_model.proofs.Tabulated.{filter-same}
@@ -119,6 +120,15 @@ painted_pages n old more now few h =
 
 none_here : (page : ℕ) → has_page (record { mask = 0 }) page ≡ false
 none_here page = ap (λ n. n == 1) (bit_at-zero page)
+
+-- nothing is missing where the pages that are missing are a set without a bit
+pub none_more : (old more missing : PageSet) (page : ℕ) → missing.mask ≡ 0 → has_page missing page ≡ (has_page more page && not (has_page old page)) → has_page old page ≡ (has_page old page || has_page more page)
+none_more old more missing page none is = by_cases (has_page old page) (has_page more page) (sym is ∙ ap (λ mask. bit_at mask page == 1) none ∙ none_here page)
+  where
+    by_cases : (a b : Bool) → (b && not a) ≡ false → a ≡ (a || b)
+    by_cases true b h = refl
+    by_cases false true h = cc
+    by_cases false false h = refl
 
 none_kept : (test : ℕ → Bool) (n first : ℕ) → filter (λ page. test page && has_page (record { mask = 0 }) page) (count_from n first) ≡ []
 none_kept test zero first = refl

@@ -311,6 +311,10 @@ impl KeptChunk {
     pub(crate) fn populate(&mut self, pages: PageSet)
         ensures { self.new ≡ with_pages (has_page pages) self.old }
     {
+        let missing = pages.without(self.populated);
+        if missing.mask == 0 {
+            return;
+        }
         self.populated = self.populated.with(pages);
         self.empty = count_empty(&self.bits, self.populated, self.pages);
     }
