@@ -4,3 +4,4 @@ pub mod BlockScans
 pub mod Fits
 pub mod Blocked
 pub mod Kepts
+pub mod HintsAround

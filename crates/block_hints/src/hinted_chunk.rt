@@ -7,6 +7,7 @@ ghost use Rattle.block_hints.specs.Populated.{blocked_bits};
 
 use crate::block_scan::{Block, refresh};
 use crate::joins::joined_all;
+use crate::mends::hint_with_taken;
 use crate::search::lowest_fit;
 use chunk_bitmaps::{BLOCK_BITS, ChunkBits};
 use std::alloc::{AllocError, Global};
@@ -89,9 +90,13 @@ impl HintedChunk {
             return None;
         }
         let at = lowest_fit(&self.bits, &self.blocks, bits, align, populated)?;
+        let mended = hint_with_taken(&self.bits, self.chunk, at, bits);
         self.bits.mark(at, bits);
         refresh(&self.bits, &mut self.blocks, at, bits);
-        self.chunk = joined_all(&self.bits, &self.blocks);
+        self.chunk = match mended {
+            Some(hint) => hint,
+            None => joined_all(&self.bits, &self.blocks),
+        };
         Some(at)
     }
 

@@ -14,6 +14,7 @@
 mod block_scan;
 mod hinted_chunk;
 mod joins;
+mod mends;
 mod search;
 
 pub use hinted_chunk::HintedChunk;

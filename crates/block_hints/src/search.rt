@@ -18,6 +18,9 @@ fn first_multiple(from: u32, to: u32, bits: u32, align: u32) -> Option<u32>
     requires align { 1 ≤ align }
     ensures { IsFirstMultiple from to bits align result }
 {
+    if u64::from(from) + u64::from(bits) > u64::from(to) {
+        return None;
+    }
     let start = u64::from(from).next_multiple_of(u64::from(align));
     if start + u64::from(bits) <= u64::from(to) {
         Some(start as u32)

@@ -6,7 +6,7 @@ use Rattle.block_hints.proofs.search.first_multiple.Goals as goal
 pub returns-then-start-from : goal.returns-then-start-from
 returns-then-start-from c =
     let start = c.next_multiple_of-start.result in
-    let align : c.from-2.result ≡ c.args.align = omega arith in
+    let align : c.from-5.result ≡ c.args.align = omega arith in
     let multiple : start % c.args.align ≡ 0 = ap (λ k. start % k) (sym align) ∙ c.next_multiple_of-start.ensures.multiple in
     record {
       after = omega arith;
@@ -22,6 +22,6 @@ none_before align from start bits to place some multiple near past low within (i
 pub returns-else-start-from : goal.returns-else-start-from
 returns-else-start-from c = λ place low within.
     let start = c.next_multiple_of-start.result in
-    let align : c.from-2.result ≡ c.args.align = omega arith in
+    let align : c.from-5.result ≡ c.args.align = omega arith in
     let multiple : start % c.args.align ≡ 0 = ap (λ k. start % k) (sym align) ∙ c.next_multiple_of-start.ensures.multiple in
     none_before c.args.align c.args.from start c.args.bits c.args.to place c.requires.align multiple (omega arith) (omega arith) low within (cases_lt place start)

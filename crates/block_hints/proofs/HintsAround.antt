@@ -1,0 +1,160 @@
+-- The hint once free bits that are apart from the longest run are taken.
+use Rattle.std.proofs.Common.{◌≡◌, ◌≢◌, ℕ, suc, ◌+◌, ◌-◌, ◌<◌, ◌≤◌, ◌⊎◌, inl, inr, Bool, true, false, ◌&&◌, nat_lt, if◌then◌else◌, List, drop, Option, Some, None, option_map, slice_get, refl, ap, sym, ◌∙◌, subst, arith}
+use Rattle.std.proofs.lemmas.Bool.{cases_lt}
+use Rattle.std.proofs.lemmas.Bool.Decides.{nat_tests}
+use Rattle.vm_model.specs.declared.rows.Hint.{Hint}
+use Rattle.vm_model.specs.Space.{span, holds, paint, is_free_at, is_open, begins_free}
+use Rattle.vm_model.specs.Hints.{IsLongestIn, IsHintIn}
+use Rattle.vm_model.proofs.Paint.{slice_get-paint}
+use Rattle.vm_model.proofs.Scans.{free_read, taken_read}
+use Rattle.vm_model.proofs.FreePlaces.{are_free}
+use Rattle.chunk_bitmaps.specs.Bitmap.{IsNextBit}
+use Rattle.block_hints.specs.Kept.{hint_around}
+use Rattle.block_hints.proofs.Borders.{IsLeft, IsRight, IsFirst, choose}
+use Rattle.block_hints.proofs.Kepts.{alike_apart}
+
+-- so many places were free and are taken now, and the others are as they were
+pub record AreTakenNow (old now : List Bool) (at count : ℕ) : Type 0 where
+  pub some : 1 ≤ count
+  pub were_free : (place : ℕ) → at ≤ place → place < at + count → is_free_at old place ≡ true
+  pub are_taken : (place : ℕ) → at ≤ place → place < at + count → is_free_at now place ≡ false
+  pub before : (place : ℕ) → place < at → is_free_at now place ≡ is_free_at old place
+  pub behind : (place : ℕ) → at + count ≤ place → is_free_at now place ≡ is_free_at old place
+
+pub painted_taken : (bits : List Bool) (at count : ℕ) → 1 ≤ count → begins_free count (drop at bits) ≡ true → AreTakenNow bits (paint (holds (span at count)) true bits) at count
+painted_taken bits at count some free =
+    let are = are_free bits at count some free in
+    let now = paint (holds (span at count)) true bits in
+    record {
+      some = some;
+      were_free = λ place a b. free_read bits place (are.free place a b);
+      are_taken = λ place a b.
+          let inside : holds (span at count) place ≡ true = grind (arith, nat_tests) in
+          taken_read now place (slice_get-paint (holds (span at count)) true bits place ∙ ap (option_map (λ y. if holds (span at count) place then true else y)) (are.free place a b)
+          ∙ ap (λ b. Some (if b then true else false)) inside);
+      before = λ place a. alike_apart bits now at count 0 at true refl (inl (omega arith)) place (omega arith) a;
+      behind = λ place a. alike_apart bits now at count (at + count) (suc place) true refl (inr (omega arith)) place a (omega arith);
+    }
+
+-- What stays.
+
+still_free : (old now : List Bool) (at count place : ℕ) → AreTakenNow old now at count → is_free_at now place ≡ true → is_free_at old place ≡ true
+still_free old now at count place are free = by_cases (cases_lt place at) (cases_lt place (at + count))
+  where
+    by_cases : (place < at) ⊎ (at ≤ place) → (place < at + count) ⊎ (at + count ≤ place) → is_free_at old place ≡ true
+    by_cases (inl low) end = sym (are.before place low) ∙ free
+    by_cases (inr from) (inl to) = are.were_free place from to
+    by_cases (inr from) (inr past) = sym (are.behind place past) ∙ free
+
+still_taken : (old now : List Bool) (at count place : ℕ) → AreTakenNow old now at count → is_free_at old place ≡ false → is_free_at now place ≡ false
+still_taken old now at count place are taken = by_cases (cases_lt place at) (cases_lt place (at + count))
+  where
+    by_cases : (place < at) ⊎ (at ≤ place) → (place < at + count) ⊎ (at + count ≤ place) → is_free_at now place ≡ false
+    by_cases (inl low) end = are.before place low ∙ taken
+    by_cases (inr from) (inl to) = are.are_taken place from to
+    by_cases (inr from) (inr past) = are.behind place past ∙ taken
+
+run_stays : (old now : List Bool) (bits at count start pages : ℕ) → AreTakenNow old now at count → (start + pages ≤ at) ⊎ (at + count ≤ start) → IsLongestIn old 0 bits (span start pages) → IsLongestIn now 0 bits (span start pages)
+run_stays old now bits at count start pages are apart is = record {
+  free = λ place a b. free_by place a b apart;
+  after = is.after;
+  within = is.within;
+  longest = λ from many low inside some free. is.longest from many low inside some (λ place a b. still_free old now at count place are (free place a b));
+  none = is.none;
+}
+  where
+    free_by : (place : ℕ) → start ≤ place → place < start + pages → (start + pages ≤ at) ⊎ (at + count ≤ start) → is_free_at now place ≡ true
+    free_by place a b (inl low) = are.before place (omega arith) ∙ is.free place a b
+    free_by place a b (inr past) = are.behind place (omega arith) ∙ is.free place a b
+
+left_stays : (old now : List Bool) (bits at count : ℕ) (h : Hint) → AreTakenNow old now at count → at + count ≤ bits → IsHintIn old 0 bits h → IsLeft now 0 bits (if nat_lt at h.left then at else h.left)
+left_stays old now bits at count h are inside is =
+    let some = are.some in let left = is.left_within in
+    choose (IsLeft now 0 bits) at h.left at h.left
+    (λ l. record {
+      within = omega arith;
+      free = λ place a b. are.before place (omega arith) ∙ is.left_free place a (omega arith);
+      end = λ more. let e : 0 + at ≡ at = omega arith in ap (is_free_at now) e ∙ are.are_taken at (omega arith) (omega arith);
+    })
+    (λ g. record {
+      within = is.left_within;
+      free = λ place a b. are.before place (omega arith) ∙ is.left_free place a b;
+      end = λ more. still_taken old now at count (0 + h.left) are (is.left_end more);
+    })
+
+right_stays : (old now : List Bool) (bits at count : ℕ) (h : Hint) → AreTakenNow old now at count → at + count ≤ bits → IsHintIn old 0 bits h
+    → IsRight now 0 bits (if nat_lt (bits - (at + count)) h.right then bits - (at + count) else h.right)
+right_stays old now bits at count h are inside is =
+    let some = are.some in let right = is.right_within in
+    choose (IsRight now 0 bits) (bits - (at + count)) h.right (bits - (at + count)) h.right
+    (λ l. record {
+      within = omega arith;
+      free = λ place a b. are.behind place (omega arith) ∙ is.right_free place (omega arith) (omega arith);
+      end = λ more. are.are_taken (bits - suc (bits - (at + count))) (omega arith) (omega arith);
+    })
+    (λ g. record {
+      within = is.right_within;
+      free = λ place a b. are.behind place (omega arith) ∙ is.right_free place a b;
+      end = λ more. still_taken old now at count (bits - suc h.right) are (is.right_end more);
+    })
+
+-- the first free place, by a search where the one before is taken
+pub first_behind : (old now : List Bool) (bits at count first : ℕ) (h : Hint) → AreTakenNow old now at count → at + count ≤ bits → IsHintIn old 0 bits h → at ≡ h.first → IsNextBit old false (at + count) bits first → IsFirst now 0 bits first
+first_behind old now bits at count first h are inside is same next =
+    let after = next.after in
+    record {
+      within = omega (arith, next.within);
+      taken = λ place a b. taken_by place (omega arith) (cases_lt place at) (cases_lt place (at + count));
+      end = λ more. let e : 0 + first ≡ first = omega arith in ap (is_free_at now) e ∙ are.behind first after ∙ free_read old first (next.here (omega arith));
+    }
+  where
+    taken_by : (place : ℕ) → place < first → (place < at) ⊎ (at ≤ place) → (place < at + count) ⊎ (at + count ≤ place) → is_free_at now place ≡ false
+    taken_by place b (inl low) end = still_taken old now at count place are (is.first_taken place (omega arith) (omega arith))
+    taken_by place b (inr from) (inl to) = are.are_taken place from to
+    taken_by place b (inr from) (inr past) = are.behind place past ∙ taken_read old place (next.others place past b)
+
+pub first_stays : (old now : List Bool) (bits at count : ℕ) (h : Hint) → AreTakenNow old now at count → IsHintIn old 0 bits h → at ≢ h.first → IsFirst now 0 bits h.first
+first_stays old now bits at count h are is apart = record {
+  within = is.first_within;
+  taken = λ place a b. still_taken old now at count place are (is.first_taken place a b);
+  end = λ more. are.before (0 + h.first) (omega (arith, before (cases_lt h.first at))) ∙ is.first_free more;
+}
+  where
+    before : (h.first < at) ⊎ (at ≤ h.first) → h.first < at
+    before (inl low) = low
+    before (inr from) =
+        let some = are.some in
+        let free = are.were_free at (omega arith) (omega arith) in
+        let taken = is.first_taken at (omega arith) (omega arith) in
+        cc
+
+-- the bits between two places, or the longest run, are before the others
+pub not_cut : (at end start run_end : ℕ) → (nat_lt at run_end && nat_lt start end) ≡ false → (run_end ≤ at) ⊎ (end ≤ start)
+not_cut at end start run_end h = by_cases (cases_lt at run_end) (cases_lt start end)
+  where
+    by_cases : (at < run_end) ⊎ (run_end ≤ at) → (start < end) ⊎ (end ≤ start) → (run_end ≤ at) ⊎ (end ≤ start)
+    by_cases (inr low) other = inl low
+    by_cases (inl one) (inr past) = inr past
+    by_cases (inl one) (inl two) = let both : (nat_lt at run_end && nat_lt start end) ≡ true = grind (arith, nat_tests) in cc
+
+pub around_taken : (old now : List Bool) (bits at count first : ℕ) (h : Hint) → AreTakenNow old now at count → at + count ≤ bits → (h.run_start + h.run ≤ at) ⊎ (at + count ≤ h.run_start) → IsHintIn old 0 bits h → IsFirst now 0 bits first
+    → IsHintIn now 0 bits (hint_around bits at (at + count) first h)
+around_taken old now bits at count first h are inside apart is begins =
+    let left = left_stays old now bits at count h are inside is in
+    let right = right_stays old now bits at count h are inside is in
+    record {
+      run = run_stays old now bits at count (0 + h.run_start) h.run are (from_zero apart) is.run;
+      left_within = left.within;
+      left_free = left.free;
+      left_end = left.end;
+      right_within = right.within;
+      right_free = right.free;
+      right_end = right.end;
+      first_within = begins.within;
+      first_taken = begins.taken;
+      first_free = begins.end;
+    }
+  where
+    from_zero : (h.run_start + h.run ≤ at) ⊎ (at + count ≤ h.run_start) → (0 + h.run_start + h.run ≤ at) ⊎ (at + count ≤ 0 + h.run_start)
+    from_zero (inl low) = inl (omega arith)
+    from_zero (inr past) = inr (omega arith)
