@@ -1,9 +1,9 @@
 -- The hint once free bits that are apart from the longest run are taken.
-use Rattle.std.proofs.Common.{◌≡◌, ◌≢◌, ℕ, suc, ◌+◌, ◌-◌, ◌<◌, ◌≤◌, ◌⊎◌, inl, inr, Bool, true, false, ◌&&◌, nat_lt, if◌then◌else◌, List, drop, Option, Some, None, option_map, slice_get, refl, ap, sym, ◌∙◌, subst, arith}
+use Rattle.std.proofs.Common.{◌≡◌, ◌≢◌, ℕ, suc, ◌+◌, ◌-◌, ◌<◌, ◌≤◌, ◌⊎◌, inl, inr, Bool, true, false, ◌&&◌, nat_lt, if◌then◌else◌, List, drop, Some, option_map, refl, ap, sym, ◌∙◌, arith}
 use Rattle.std.proofs.lemmas.Bool.{cases_lt}
 use Rattle.std.proofs.lemmas.Bool.Decides.{nat_tests}
 use Rattle.vm_model.specs.declared.rows.Hint.{Hint}
-use Rattle.vm_model.specs.Space.{span, holds, paint, is_free_at, is_open, begins_free}
+use Rattle.vm_model.specs.Space.{span, holds, paint, is_free_at, begins_free}
 use Rattle.vm_model.specs.Hints.{IsLongestIn, IsHintIn}
 use Rattle.vm_model.proofs.Paint.{slice_get-paint}
 use Rattle.vm_model.proofs.Scans.{free_read, taken_read}

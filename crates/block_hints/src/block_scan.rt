@@ -31,7 +31,8 @@ pub(crate) fn scan_block(bits: &ChunkBits, block: u32) -> Block
     let mut scan_start = low;
     let mut scan = 0;
     let mut right = 0;
-    let mut place = low;
+    let first = bits.find_next(false, low, high);
+    let mut place = first;
     while place < high {
         let start = bits.find_next(false, place, high);
         let end = bits.find_next(true, start, high);
@@ -49,7 +50,7 @@ pub(crate) fn scan_block(bits: &ChunkBits, block: u32) -> Block
         run,
         left: bits.find_next(true, low, high) - low,
         right,
-        first: bits.find_next(false, low, high) - low,
+        first: first - low,
     };
     Block {
         hint,
