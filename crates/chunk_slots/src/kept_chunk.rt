@@ -92,7 +92,7 @@ fn count_empty(bits: &HintedChunk, populated: PageSet, pages: u32) -> u32
 {
     let mut empty = 0;
     for page in 0..pages {
-        if populated.contains(page) && bits.hint(page).left == BLOCK_BITS {
+        if bits.hint(page).left == BLOCK_BITS && populated.contains(page) {
             empty += 1;
         }
     }
