@@ -1,19 +1,21 @@
 //! One processor's blocks.
-ghost use Rattle.std.specs.Prelude.{All, ◌≡◌, ◌≢◌, ◌≤◌, ◌<◌, ◌+◌, ◌-◌, ◌^◌, ◌∷◌, ◌++◌, [], ℕ, true, false, not, ◌==◌, Some, None, length, map, filter, find, count_by, slice_get, IsTrue, IsNone, ◌↔◌, IfOk, IfSome, IfNone, OnSome, OnOk, OnErr};
-ghost use Rattle.std.specs.Ordering.{nat_cmp};
-ghost use Rattle.std.specs.BTreeMap.{insert_entry};
-ghost use Rattle.vm_model.specs.Space.{holds, span};
+ghost use Rattle.std.specs.Prelude.{All, ◌≡◌, ◌≢◌, ◌≤◌, ◌<◌, ◌+◌, ◌-◌, ◌^◌, ◌∷◌, [], true, false, ◌==◌, Some, None, length, map, slice_get, IsTrue, IsNone, ◌↔◌, IfOk, IfSome, IfNone, OnSome, OnOk, OnErr};
+ghost use Rattle.vm_model.specs.Space.{span};
 ghost use Rattle.vm_model.specs.Bits.{binary_digits};
 ghost use Rattle.vm_model.specs.PlainMap.{Block};
 ghost use Rattle.vm_model.specs.Rules.{IsPower};
 ghost use Rattle.vm_model.specs.Blocks as model;
-ghost use Rattle.map_blocks.specs.KeptSides.{AreKnown, has_room, is_broken, without_all};
+ghost use Rattle.map_blocks.specs.KeptSides.{has_room};
 ghost use Rattle.map_blocks.specs.BlockSpans.{block_span, part_spans, LiesIn, ShareNoPage};
 ghost use Rattle.map_blocks.specs.BlockRows as rows;
 ghost use Rattle.map_blocks.specs.BlockRows.{BlockRows, IsHeld, IsUnused, IsClean, at_of};
 
 use crate::kept_block::KeptBlock;
 use crate::part::Part;
+use crate::queues::{
+    first_with_room, fragmented_count, fragmented_starts, put_block, remove_all, unqueue,
+    unqueue_fragmented,
+};
 use crate::sizes::{order_of, rounded};
 use std::alloc::{AllocError, Global};
 use std::collections::BTreeMap;
@@ -43,98 +45,6 @@ impl Model for BlockSide {
     ghost view = { λ s. record { cpu = s.cpu; pages = s.pages; blocks = blocks_in (values s.blocks); next = s.next } };
 
     ghost invariant = { λ s. AreKept s.cpu s.pages s.blocks.entries s.queue.items s.added };
-}
-
-/// The start of the first queued block with room for so many pages.
-fn first_with_room(blocks: &BTreeMap<u32, KeptBlock>, queue: &[u32], room: u32) -> Option<u32>
-    requires { AreKnown blocks.now.entries queue.now }
-    ensures { result ≡ find (has_room room blocks.now.entries) queue.now }
-{
-    for start in queue {
-        let Some(block) = blocks.get(start) else {
-            unreachable!();
-        };
-        if room <= block.free() {
-            return Some(*start);
-        }
-    }
-    None
-}
-
-/// Takes a start out of the queue.
-fn unqueue(queue: &mut Vec<u32>, start: u32)
-    ensures { queue.new.items ≡ filter (λ n. not (n == start)) queue.old.items }
-{
-    queue.retain(|queued| *queued != start);
-}
-
-/// Whether there is a fragmented block at a start.
-fn is_fragmented_at(blocks: &BTreeMap<u32, KeptBlock>, start: u32) -> bool
-    ensures { result ≡ is_broken blocks.now.entries start }
-{
-    match blocks.get(&start) {
-        Some(block) => block.is_fragmented(),
-        None => false,
-    }
-}
-
-/// The starts of the fragmented blocks of a queue. It takes no memory where there is none.
-fn fragmented_starts(
-    alloc: Global,
-    blocks: &BTreeMap<u32, KeptBlock>,
-    queue: &[u32],
-) -> Result<Vec<u32>, AllocError>
-    ensures starts { IfOk result (λ starts. starts.items ≡ filter (is_broken blocks.now.entries) queue.now) }
-    ensures memory { OnErr result (filter (is_broken blocks.now.entries) queue.now ≢ []) }
-{
-    let mut starts = Vec::new(alloc);
-    for start in queue {
-        if is_fragmented_at(blocks, *start) {
-            starts.push(*start)?;
-        }
-    }
-    Ok(starts)
-}
-
-/// How many of the blocks of a queue are fragmented.
-fn fragmented_count(blocks: &BTreeMap<u32, KeptBlock>, queue: &[u32]) -> usize
-    ensures { result ≡ count_by (is_broken blocks.now.entries) queue.now }
-{
-    queue
-        .iter()
-        .filter(|start| is_fragmented_at(blocks, **start))
-        .count()
-}
-
-/// Takes the starts of the fragmented blocks out of a queue.
-fn unqueue_fragmented(queue: &mut Vec<u32>, blocks: &BTreeMap<u32, KeptBlock>)
-    ensures { queue.new.items ≡ filter (λ start. not (is_broken blocks.now.entries start)) queue.old.items }
-{
-    queue.retain(|start| !is_fragmented_at(blocks, *start));
-}
-
-/// Takes the blocks at these starts away.
-fn remove_all(blocks: &mut BTreeMap<u32, KeptBlock>, starts: &[u32])
-    ensures { blocks.new.entries ≡ without_all starts.now blocks.old.entries }
-{
-    for start in starts {
-        blocks.remove(start);
-    }
-}
-
-/// Puts a block under its start.
-fn put_block(
-    blocks: &mut BTreeMap<u32, KeptBlock>,
-    start: u32,
-    block: KeptBlock,
-) -> Result<(), AllocError>
-    ensures ok { OnOk result (blocks.new.entries ≡ insert_entry nat_cmp blocks.old.entries start block) }
-    ensures err { OnErr result (blocks.new.entries ≡ blocks.old.entries) }
-{
-    match blocks.insert(start, block) {
-        Ok(_) => Ok(()),
-        Err(_) => Err(AllocError),
-    }
 }
 
 impl BlockSide {

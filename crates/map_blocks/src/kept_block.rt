@@ -1,8 +1,7 @@
 //! A block with its parts, and the numbers that the kernel keeps of them.
-ghost use Rattle.std.specs.Prelude.{◌≡◌, ◌≤◌, ◌<◌, ◌+◌, ◌-◌, ◌++◌, ◌∷◌, [], ℕ, ◌⊎◌, IsSome, slice_get, IfOk, IfSome, IfNone, OnSome, OnOk, OnErr, IsTrue, ◌↔◌, true, length, map, filter};
+ghost use Rattle.std.specs.Prelude.{◌≡◌, ◌≤◌, ◌<◌, ◌+◌, ◌-◌, ◌++◌, ◌∷◌, [], ◌⊎◌, IsSome, slice_get, IfOk, IfSome, IfNone, OnSome, OnOk, IsTrue, ◌↔◌, true, length};
 ghost use Rattle.vm_model.specs.PlainMap.{InHand, Lives, Ended};
-ghost use Rattle.vm_model.specs.Setup.{Setup};
-ghost use Rattle.vm_model.specs.Blocks.{rounded, free_of, dirty_of, range_of, dirty_range, is_spent, is_fragmented, with_part, with_life, named_in, cut_from};
+ghost use Rattle.vm_model.specs.Blocks.{rounded, free_of, dirty_of, dirty_range, is_spent, is_fragmented, with_part, cut_from};
 ghost use Rattle.vm_model.specs.Tables as tables;
 ghost use Rattle.map_blocks.specs.KeptBlocks.{KeptRow, IsInHand, part_in, parts_named, part_of, with_life_at};
 ghost use Rattle.vm_model.specs.Space.{HasEnd};

@@ -1,6 +1,6 @@
 //! A part as its block keeps it.
 ghost use Rattle.std.specs.Prelude.{◌≡◌, ◌≤◌, IsTrue, ◌↔◌, true};
-ghost use Rattle.vm_model.specs.PlainMap.{InHand, Lives, Ended, is_ended, is_in_hand, is_live, serial_of, lives_as};
+ghost use Rattle.vm_model.specs.PlainMap.{InHand, Lives, Ended, is_in_hand, is_live, serial_of, lives_as};
 ghost use Rattle.vm_model.specs.Blocks.{size_of};
 
 use crate::sizes::rounded;

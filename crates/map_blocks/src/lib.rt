@@ -14,6 +14,7 @@ mod kept_block;
 mod kept_part;
 pub mod laws;
 mod part;
+mod queues;
 mod sizes;
 
 pub use block_side::BlockSide;

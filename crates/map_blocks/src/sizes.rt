@@ -1,5 +1,5 @@
 //! Pages rounded up to a power of two.
-ghost use Rattle.std.specs.Prelude.{◌≡◌, ◌≤◌, ◌^◌, ◌-◌};
+ghost use Rattle.std.specs.Prelude.{◌≡◌, ◌≤◌, ◌-◌};
 ghost use Rattle.vm_model.specs.Bits as bits;
 ghost use Rattle.vm_model.specs.Blocks as model;
 

@@ -1,4 +1,3 @@
-use Rattle.std.proofs.Common.{ℕ}
 use Rattle.map_blocks.proofs.Sorted.{Holds}
 use Rattle.map_blocks.proofs.Checks.{IsApart, IsClear}
 use Rattle.map_blocks.proofs.block_side.BlockSide.is_unused.Given as goal

@@ -2,7 +2,7 @@ use Rattle.std.proofs.Common.{◌+◌, drop, refl, sym, ap, ◌∙◌}
 use Rattle.std.proofs.lemmas.List.{drop_all}
 use Rattle.map_blocks.specs.KeptSides.{without_all}
 use Rattle.map_blocks.proofs.Fragments.{without_more}
-use Rattle.map_blocks.proofs.block_side.remove_all.Goals as goal
+use Rattle.map_blocks.proofs.queues.remove_all.Goals as goal
 
 pub loop-start-init : goal.loop-start-init
 loop-start-init c = refl

@@ -5,7 +5,7 @@ use Rattle.std.proofs.lemmas.List.{drop_all}
 use Rattle.map_blocks.specs.KeptBlocks.{KeptRow}
 use Rattle.map_blocks.specs.KeptSides.{has_room, gives_room}
 use Rattle.map_blocks.proofs.Finds.{find_yes, find_no}
-use Rattle.map_blocks.proofs.block_side.first_with_room.Goals as goal
+use Rattle.map_blocks.proofs.queues.first_with_room.Goals as goal
 
 pub loop-start-init : goal.loop-start-init
 loop-start-init c = refl
