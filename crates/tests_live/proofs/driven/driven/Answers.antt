@@ -12,12 +12,21 @@ use Rattle.trace_replay.proofs.Replays.{starts_on}
 use Rattle.trace_replay.proofs.Counted.{units_told}
 use Rattle.trace_replay.proofs.LiveCounted.{shape_told, lines_within, callers_have}
 use Rattle.count_lines.specs.Shares.{caller_of}
+use Rattle.count_lines.specs.declared.share.Share.{Share}
 use Rattle.std.specs.Prelude.{map}
 use Rattle.std.specs.List.{range_with_len}
 use Rattle.tests_live.proofs.driven.driven.Goals as goal
 
 abbrev Stands : Setup → List (List Call) → KernelState → Type 0
 Stands c sections k = IsStanding c (opening_of sections) (callers_of sections) (start_of c sections) k
+
+-- there is a local for each share and one for the opening
+as_many_locals : (c : Setup) (sections : List (List Call)) (k : KernelState) → Stands c sections k → (shares : List Share)
+    → map caller_of shares ≡ range_with_len 1 (length (callers_of sections)) → length k.locals ≡ 1 + length shares
+as_many_locals c sections k stands shares named =
+    let all = many c sections k stands in
+    let each = as_many shares (length (callers_of sections)) named in
+    omega arith
 
 pub share_out-requires-clause-lines : goal.share_out-requires-clause-lines
 share_out-requires-clause-lines g c =
@@ -53,10 +62,9 @@ drive-requires-clause-all g c = λ κs within k low.
     let (r, ruled, tells) = c.requires in
     let setup : Setup = setup_of c.args.trace.config in
     let start : KernelState = kernel_of c.into_parts-regions.result in
-    let all = many setup c.args.trace.calls start (subst (Stands setup c.args.trace.calls) (sym c.into_parts-regions.ensures) c.in_ok-kernel.ensures) in
-    let named : map caller_of c.in_ok-shares.shares.items ≡ range_with_len 1 (length (callers_of c.args.trace.calls))
-    = callers_have r c.args.trace.calls c.in_ok-shares.shares.items tells.calls (c.in_ok-shares.ensures.shares.named ∙ ap (range_with_len 1) tells.callers) in
-    let shares = as_many c.in_ok-shares.shares.items (length (callers_of c.args.trace.calls)) named in
+    let stands = subst (Stands setup c.args.trace.calls) (sym c.into_parts-regions.ensures) c.in_ok-kernel.ensures in
+    let named = callers_have r c.args.trace.calls c.in_ok-shares.shares.items tells.calls (c.in_ok-shares.ensures.shares.named ∙ ap (range_with_len 1) tells.callers) in
+    let all = as_many_locals setup c.args.trace.calls start stands c.in_ok-shares.shares.items named in
     subst (HasCaller k) (sym c.in_ok-table.ensures.pass) (starting_has start.locals k (omega arith))
 
 pub drive-requires-clause-numbered : goal.drive-requires-clause-numbered
@@ -71,9 +79,8 @@ close-requires-clause-all g c = λ k low.
     let (r, ruled, tells) = c.requires in
     let setup : Setup = setup_of c.args.trace.config in
     let start : KernelState = kernel_of c.into_parts-regions.result in
-    let all = many setup c.args.trace.calls start (subst (Stands setup c.args.trace.calls) (sym c.into_parts-regions.ensures) c.in_ok-kernel.ensures) in
-    let named : map caller_of c.in_ok-shares.shares.items ≡ range_with_len 1 (length (callers_of c.args.trace.calls))
-    = callers_have r c.args.trace.calls c.in_ok-shares.shares.items tells.calls (c.in_ok-shares.ensures.shares.named ∙ ap (range_with_len 1) tells.callers) in
-    let shares = as_many c.in_ok-shares.shares.items (length (callers_of c.args.trace.calls)) named in
+    let stands = subst (Stands setup c.args.trace.calls) (sym c.into_parts-regions.ensures) c.in_ok-kernel.ensures in
+    let named = callers_have r c.args.trace.calls c.in_ok-shares.shares.items tells.calls (c.in_ok-shares.ensures.shares.named ∙ ap (range_with_len 1) tells.callers) in
+    let all = as_many_locals setup c.args.trace.calls start stands c.in_ok-shares.shares.items named in
     let same = ap length c.in_ok-table.ensures.locals in
     c.in_ok-pass.ensures.all k (omega arith)
