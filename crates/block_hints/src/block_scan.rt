@@ -64,7 +64,9 @@ pub(crate) fn refresh(bits: &ChunkBits, blocks: &mut [Block], at: u32, count: u3
     requires some { 1 ≤ count }
     requires inside { at + count ≤ bits.now.bits }
     requires size { bits.now.bits ≡ 1024 * length blocks.old }
-    requires others { (block : ℕ) (b : Block) → slice_get blocks.old block ≡ Some b → IsApart at count (1024 * block) (1024 * block + 1024) → IsBlockIn (taken_bits bits.now) (1024 * block) (1024 * block + 1024) b }
+    requires others { (block : ℕ) (b : Block) → slice_get blocks.old block ≡ Some b
+        → IsApart at count (1024 * block) (1024 * block + 1024)
+        → IsBlockIn (taken_bits bits.now) (1024 * block) (1024 * block + 1024) b }
     ensures blocks { AreHints (taken_bits bits.now) blocks.new }
     ensures size { length blocks.new ≡ length blocks.old }
 {

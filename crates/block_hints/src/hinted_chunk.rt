@@ -1,6 +1,6 @@
 //! A chunk with a hint for each block of its bits and for all of them.
-ghost use Rattle.std.specs.Prelude.{◌≡◌, ◌+◌, ◌-◌, ◌*◌, ◌^◌, ◌<◌, ◌≤◌, ℕ, Option, Some, IfOk, IfSome, IfNone, length};
-ghost use Rattle.vm_model.specs.Space.{span, lowest};
+ghost use Rattle.std.specs.Prelude.{◌≡◌, ◌-◌, ◌*◌, ◌<◌, ◌≤◌, Option, Some, IfOk, IfSome, IfNone};
+ghost use Rattle.vm_model.specs.Space.{lowest};
 ghost use Rattle.vm_model.specs.Bits.{hint_of, block_bits};
 ghost use Rattle.chunk_bitmaps.specs.ChunkMap.{ChunkMap, empty_chunk, taken_bits, with_object_at, without_object_at, object_bits_at};
 ghost use Rattle.block_hints.specs.Populated.{blocked_bits};

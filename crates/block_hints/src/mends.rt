@@ -41,7 +41,8 @@ pub(crate) fn hint_with_taken(bits: &ChunkBits, hint: Hint, at: u32, count: u32)
     requires inside { at + count ≤ bits.now.bits }
     requires free { begins_free count (drop at (taken_bits bits.now)) ≡ true }
     requires hint { IsHintIn (taken_bits bits.now) 0 bits.now.bits hint }
-    ensures { IfSome result (IsHintIn (paint (holds (span at count)) true (taken_bits bits.now)) 0 bits.now.bits) }
+    ensures { IfSome result (IsHintIn (paint (holds (span at count)) true (taken_bits bits.now)) 0
+        bits.now.bits) }
 {
     let len = bits.len();
     let end = at + count;

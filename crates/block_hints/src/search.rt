@@ -1,8 +1,7 @@
 //! The search for a place in the bits of a chunk, which looks at the hints of the blocks: `pcpu_find_block_fit` and
 //! `pcpu_alloc_area`.
-ghost use Rattle.std.specs.Prelude.{◌≡◌, nat_le, max, if◌then◌else◌, ◌↔◌, ◌+◌, ◌-◌, ◌*◌, ◌%◌, ◌<◌, ◌≤◌, ℕ, IsTrue, length, SomeIff, MatchOption};
+ghost use Rattle.std.specs.Prelude.{◌≡◌, nat_le, max, if◌then◌else◌, ◌+◌, ◌-◌, ◌*◌, ◌<◌, ◌≤◌, length};
 ghost use Rattle.vm_model.specs.Space.{lowest};
-ghost use Rattle.vm_model.specs.Hints.{IsHintIn};
 ghost use Rattle.chunk_bitmaps.specs.ChunkMap.{taken_bits};
 ghost use Rattle.block_hints.specs.Kept.{AreHints};
 ghost use Rattle.block_hints.specs.Populated.{blocked_bits};
@@ -32,7 +31,8 @@ fn first_multiple(from: u32, to: u32, bits: u32, align: u32) -> Option<u32>
 /// How many bits of a block a search may pass over that has tried its front: those before the longest run, where no run
 /// among them is long enough, as `pcpu_next_hint` tells it.
 fn skipped(block: Block, count: u32) -> u32
-    ensures { result ≡ (if nat_le count block.scan then block.hint.left else max block.hint.left block.hint.run_start) }
+    ensures { result ≡ (if nat_le count block.scan then block.hint.left
+        else max block.hint.left block.hint.run_start) }
 {
     if count <= block.scan {
         block.hint.left

@@ -1,9 +1,8 @@
 //! All callers of a table, each on a thread of its own.
-ghost use Rattle.std.specs.Prelude.{◌≡◌, ◌+◌, ◌<◌, ◌≤◌, ℕ, All, IfOk, length, map, true};
-ghost use Rattle.std.specs.List.{range_with_len};
+ghost use Rattle.std.specs.Prelude.{◌≡◌, ◌+◌, ◌<◌, ◌≤◌, ℕ, All, IfOk, length, map};
 ghost use Rattle.section_table.specs.Views.{HasAll, HasCaller};
-ghost use Rattle.count_lines.specs.Shares.{caller_of, IsShareOf, HaveFinished};
-ghost use Rattle.caller_threads.specs.Workers.{HasOnly, AllEnded, IsWorkerOf, HasWorked, share_of, AreNumbered, IsDone};
+ghost use Rattle.count_lines.specs.Shares.{IsShareOf, HaveFinished};
+ghost use Rattle.caller_threads.specs.Workers.{AllEnded, IsWorkerOf, HasWorked, share_of, AreNumbered, IsDone};
 
 use crate::parts::CoreParts;
 use crate::worker::{Worker, make_events, work};
@@ -28,7 +27,8 @@ fn hand_out(
     requires all { (k : ℕ) → 1 ≤ k → k < 1 + length shares.items → HasCaller k pass.old.place.me.0 }
     requires shares { All (IsShareOf counters.now) shares.items }
     requires numbered { AreNumbered 1 shares.items }
-    ensures workers { IfOk result (λ workers. All (IsWorkerOf table.now.table.shared.table_id counters.now) workers.items) }
+    ensures workers { IfOk result
+        (λ workers. All (IsWorkerOf table.now.table.shared.table_id counters.now) workers.items) }
     ensures shares { IfOk result (λ workers. map share_of workers.items ≡ shares.items) }
 {
     let mut workers = Vec::new(alloc);
@@ -109,7 +109,8 @@ pub fn drive<G: Gate + Sync, R: Threads + Wait + Sync>(
         workers,
         &|worker: Worker| -> Worker
             requires { IsWorkerOf table.now.table.shared.table_id counters.now worker }
-            ensures { HasWorked table.entry.now.table.shared.table_id counters.entry.now worker result }
+            ensures { HasWorked table.entry.now.table.shared.table_id counters.entry.now worker
+                result }
         { work(rt, table, counters, worker, gate) },
     )?;
     let shares = gather(alloc, table, &mut pass, workers)?;

@@ -42,10 +42,14 @@ pub fn live_kernel<G: Gate + Sync, R: Threads + Wait + Sync>(
 ) -> Result<Lived, AllocError>
     requires can { CanStart (setup_of config) sections }
     requires shares { All (IsShareOf counters.now) shares.items }
-    requires callers { map caller_of shares.items ≡ range_with_len 1 (length (callers_of sections)) }
-    ensures run { IfOk result (λ lived. (picks : List ℕ) × HasEnded (setup_of config) sections picks lived.kernel × (drop lived.opening lived.kernel.moved ≡ picks)) }
+    requires callers { map caller_of shares.items
+        ≡ range_with_len 1 (length (callers_of sections)) }
+    ensures run { IfOk result (λ lived. (picks : List ℕ)
+        × HasEnded (setup_of config) sections picks lived.kernel
+        × (drop lived.opening lived.kernel.moved ≡ picks)) }
     ensures opening { IfOk result (λ lived. lived.opening ≤ length lived.kernel.moved) }
-    ensures shares { IfOk result (λ lived. HaveFinished counters.now shares.items lived.shares.items) }
+    ensures shares { IfOk result
+        (λ lived. HaveFinished counters.now shares.items lived.shares.items) }
 {
     let kernel = Kernel::start(alloc, config, sections)?;
     let KernelParts {

@@ -1,7 +1,6 @@
 //! What the thread of one caller does.
-ghost use Rattle.std.specs.Prelude.{◌≡◌, ◌<◌, ℕ, true, IfSome, Option, None};
-ghost use Rattle.section_table.specs.Views.{HasCaller};
-ghost use Rattle.count_lines.specs.Shares.{caller_of, IsShareOf, HasSameLines, IsFinished};
+ghost use Rattle.std.specs.Prelude.{◌≡◌, ◌<◌, true, Option, None};
+ghost use Rattle.count_lines.specs.Shares.{caller_of, IsShareOf, HasSameLines};
 ghost use Rattle.caller_threads.specs.Workers.{HasOnly, AllEnded, IsWorkerOf, HasWorked};
 
 use crate::parts::CoreParts;

@@ -1,5 +1,5 @@
 //! How calls begin: the refusals at the desk, and what a call looks for first.
-ghost use Rattle.std.specs.Prelude.{◌≡◌, ◌≢◌, ◌≤◌, ◌^◌, ℕ, Bool, List, length, map, slice_get, IfOk, IfErr};
+ghost use Rattle.std.specs.Prelude.{◌≡◌, ◌≢◌, ◌≤◌, ◌^◌, ℕ, Bool, List, map, slice_get, IfOk, IfErr};
 ghost use Rattle.vm_model.specs.Setup.{Setup};
 ghost use Rattle.unit_layout.specs.Config.{setup_of};
 ghost use Rattle.vm_model.specs.Rules.{IsSetup};
@@ -102,8 +102,10 @@ fn map_ram_place(config: &Config, cpu: u8, pages: u64) -> Place
 
 /// An object of so many bytes at such an alignment, as it is placed, or the reply that refuses it.
 fn object_size(bytes: u64, align: u64) -> Result<ObjectSize, Reply>
-    ensures size { IfOk result (λ o. (place : ℕ → ℕ → places.Place) → begin_alloc place bytes align ≡ place o.bytes o.align) }
-    ensures refused { IfErr result (λ reply. (place : ℕ → ℕ → places.Place) → begin_alloc place bytes align ≡ places.Refusing reply) }
+    ensures size { IfOk result (λ o. (place : ℕ → ℕ → places.Place)
+        → begin_alloc place bytes align ≡ place o.bytes o.align) }
+    ensures refused { IfErr result (λ reply. (place : ℕ → ℕ → places.Place)
+        → begin_alloc place bytes align ≡ places.Refusing reply) }
 {
     if bytes == 0 || MOST_OBJECT < bytes {
         return Err(Reply::BadSize);
@@ -149,8 +151,12 @@ fn alloc_atomic_place(bytes: u64, align: u64) -> Place
 /// What the target's call made, and whether it was freed since.
 fn outcome_of(opening: &[Answered], own: &[Outcome], target: Target) -> Outcome
     requires opening { OpeningTellsFreed opening.now }
-    ensures made { (answers : List model.Answered) → MadeBy own.now answers → made_of result.made ≡ target_of (map answer_of opening.now) answers target }
-    ensures freed { (answers : List model.Answered) → MadeBy own.now answers → 1 ≤ target.call → made_of result.made ≢ places.MadeNothing → result.freed ≡ was_freed (answers_in (map answer_of opening.now) answers target) target.call }
+    ensures made { (answers : List model.Answered) → MadeBy own.now answers
+        → made_of result.made ≡ target_of (map answer_of opening.now) answers target }
+    ensures freed { (answers : List model.Answered) → MadeBy own.now answers → 1 ≤ target.call
+        → made_of result.made ≢ places.MadeNothing
+        → result.freed ≡ was_freed (answers_in (map answer_of opening.now) answers target)
+        target.call }
 {
     let index = (target.call as usize).saturating_sub(1);
     if target.opening {
@@ -211,7 +217,9 @@ fn free_percpu_place(made: Made) -> Place
 
 /// Where an `add` begins: at the word of the object that its target's call made, unless that was freed.
 fn add_place(outcome: Outcome, cpu: u8, index: u32, amount: i32) -> Place
-    ensures place { (freed : Bool) → (made_of outcome.made ≢ places.MadeNothing → outcome.freed ≡ freed) → place_of result nothing ≡ begin_add freed cpu index amount (made_of outcome.made) }
+    ensures place { (freed : Bool)
+        → (made_of outcome.made ≢ places.MadeNothing → outcome.freed ≡ freed)
+        → place_of result nothing ≡ begin_add freed cpu index amount (made_of outcome.made) }
     ensures sized { IsSized result }
     ensures unfilled { filled_by result ≡ 0 }
     ensures empty_handed { CarriesNoSpans result }
@@ -234,7 +242,9 @@ fn add_place(outcome: Outcome, cpu: u8, index: u32, amount: i32) -> Place
 
 /// Where a `sum` begins: at the words of the object that its target's call made, unless that was freed.
 fn sum_place(outcome: Outcome, index: u32) -> Place
-    ensures place { (freed : Bool) → (made_of outcome.made ≢ places.MadeNothing → outcome.freed ≡ freed) → place_of result nothing ≡ begin_sum freed index (made_of outcome.made) }
+    ensures place { (freed : Bool)
+        → (made_of outcome.made ≢ places.MadeNothing → outcome.freed ≡ freed)
+        → place_of result nothing ≡ begin_sum freed index (made_of outcome.made) }
     ensures sized { IsSized result }
     ensures unfilled { filled_by result ≡ 0 }
     ensures empty_handed { CarriesNoSpans result }
@@ -264,7 +274,9 @@ pub fn place_before(
     requires setup { IsSetup (setup_of config.now) }
     requires sound { AreSound calls.now }
     requires opening { OpeningTellsFreed opening.now }
-    ensures place { (answers : List model.Answered) → MadeBy own.now answers → place_of result nothing ≡ begin (setup_of config.now) (map answer_of opening.now) answers (slice_get calls.now index) }
+    ensures place { (answers : List model.Answered) → MadeBy own.now answers
+        → place_of result nothing ≡ begin (setup_of config.now) (map answer_of opening.now) answers
+        (slice_get calls.now index) }
     ensures sized { IsSized result }
     ensures unfilled { filled_by result ≡ 0 }
     ensures empty_handed { CarriesNoSpans result }

@@ -43,10 +43,14 @@ pub fn after_fragments(cpu: u8, cpus: u16, gone: &[u32], extra: Option<Span>, af
     requires few { cpus ≤ 64 }
     requires cpu { cpu < cpus }
     requires sized { IsSizedAfter after }
-    ensures place { (carried : Carried) → carried.gone ≡ gone.now → place_of result carried ≡ (if nat_lt (suc cpu) cpus then model.PurgeFragmenting (suc cpu) gone.now extra (then_of after) else after_fragments gone.now extra (then_of after)) }
+    ensures place { (carried : Carried) → carried.gone ≡ gone.now
+        → place_of result carried
+        ≡ (if nat_lt (suc cpu) cpus then model.PurgeFragmenting (suc cpu) gone.now extra
+        (then_of after) else after_fragments gone.now extra (then_of after)) }
     ensures sized { IsSized result }
     ensures unfilled { filled_by result ≡ 0 }
-    ensures at_hand { (answered : ℕ) (calls : List Call) → answered < length calls → HasCall result answered calls }
+    ensures at_hand { (answered : ℕ) (calls : List Call) → answered < length calls
+        → HasCall result answered calls }
 {
     if u16::from(cpu) + 1 < cpus {
         let cpu = cpu + 1;
@@ -65,10 +69,14 @@ pub fn after_range(cpu: u8, cpus: u16, ranges: &[Span]) -> Place
     requires few { cpus ≤ 64 }
     requires cpu { cpu < cpus }
     requires ends { All HasEnd ranges.now }
-    ensures place { (carried : Carried) → carried.ranges ≡ ranges.now → place_of result carried ≡ (if nat_lt (suc cpu) cpus then model.LookingAtDirty (suc cpu) ranges.now else model.PurgeTaking (space.hull ranges.now) (ReplyWith reply.Done)) }
+    ensures place { (carried : Carried) → carried.ranges ≡ ranges.now
+        → place_of result carried
+        ≡ (if nat_lt (suc cpu) cpus then model.LookingAtDirty (suc cpu) ranges.now
+        else model.PurgeTaking (space.hull ranges.now) (ReplyWith reply.Done)) }
     ensures sized { IsSized result }
     ensures unfilled { filled_by result ≡ 0 }
-    ensures at_hand { (answered : ℕ) (calls : List Call) → answered < length calls → HasCall result answered calls }
+    ensures at_hand { (answered : ℕ) (calls : List Call) → answered < length calls
+        → HasCall result answered calls }
 {
     if u16::from(cpu) + 1 < cpus {
         return Place::LookingAtDirty { cpu: cpu + 1 };

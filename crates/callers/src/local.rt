@@ -75,7 +75,8 @@ impl Local {
         requires sound { AreSound calls }
         requires opening { OpeningTellsFreed (arc_value opening) }
         requires few { length calls ≤ 100000 }
-        ensures { IfOk result (λ local. local ≡ started (setup_of (arc_value config)) (map answer_of (arc_value opening)) caller calls) }
+        ensures { IfOk result (λ local. local ≡ started (setup_of (arc_value config))
+            (map answer_of (arc_value opening)) caller calls) }
     {
         let count = calls.as_slice().len();
         let place = place_before(&config, calls.as_slice(), 0, opening.as_slice(), &[]);
@@ -162,7 +163,8 @@ impl Local {
     pub fn unlinked_groups(&mut self, base: u32)
         requires at_hand { length self.old.answers < length self.old.calls }
         requires events { self.old.events + 1 < 2 ^ 32 }
-        ensures { self.new ≡ moved_to self.old (Go (model.Waiting (groups_at self.old.setup base) SpareAgain)) }
+        ensures { self.new ≡ moved_to self.old
+            (Go (model.Waiting (groups_at self.old.setup base) SpareAgain)) }
     {
         self.events += 1;
         self.place = Place::WaitingForGroups { base };
@@ -288,11 +290,14 @@ pub fn first_callers(
     sections: Vec<CallerCalls>,
 ) -> Result<Vec<Local>, AllocError>
     requires setup { IsSetup (setup_of (arc_value config.now)) }
-    requires sound { (k : ℕ) (own : List Call) → slice_get sections.items k ≡ Some own → AreSound own }
+    requires sound { (k : ℕ) (own : List Call) → slice_get sections.items k ≡ Some own
+        → AreSound own }
     requires opening { OpeningTellsFreed (arc_value opening.now) }
-    requires few { (k : ℕ) (own : List Call) → slice_get sections.items k ≡ Some own → length own ≤ 100000 }
+    requires few { (k : ℕ) (own : List Call) → slice_get sections.items k ≡ Some own
+        → length own ≤ 100000 }
     requires callers { length sections.items ≤ 16 }
-    ensures { IfOk result (λ locals. locals.items ≡ callers_from (setup_of (arc_value config.now)) (map answer_of (arc_value opening.now)) 1 sections.items) }
+    ensures { IfOk result (λ locals. locals.items ≡ callers_from (setup_of (arc_value config.now))
+        (map answer_of (arc_value opening.now)) 1 sections.items) }
 {
     let mut callers = Vec::with_capacity(alloc, sections.len())?;
     let mut rest = sections;

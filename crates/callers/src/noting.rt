@@ -11,7 +11,8 @@ use vm_model::{Call, Reply};
 /// Notes what the call at hand freed, where it is a `free_percpu` that is answered Done: its target's call.
 pub fn note_free(outcomes: &mut [Outcome], calls: &[Call], reply: Reply)
     requires sound { AreSound calls.now }
-    ensures freed { outcomes.new ≡ after_reply (slice_get calls.now (length outcomes.old)) reply outcomes.old }
+    ensures freed { outcomes.new
+        ≡ after_reply (slice_get calls.now (length outcomes.old)) reply outcomes.old }
 {
     let Some(call) = calls.get(outcomes.len()) else {
         return;
@@ -32,8 +33,10 @@ pub fn answers_noted(
     requires few { length calls.now ≤ 100000 }
     requires calls { length book.now.rows ≤ length calls.now }
     requires made { length outcomes.now ≡ length book.now.rows }
-    ensures answers { IfOk result (λ answers. map answer_of answers ≡ answers_with calls.now book.now.rows outcomes.now) }
-    ensures outcomes { IfOk result (λ answers. map (λ (a : Code). a.outcome) answers ≡ outcomes.now) }
+    ensures answers { IfOk result (λ answers. map answer_of answers
+        ≡ answers_with calls.now book.now.rows outcomes.now) }
+    ensures outcomes { IfOk result (λ answers. map (λ (a : Code). a.outcome) answers
+        ≡ outcomes.now) }
 {
     let mut answers = Vec::with_capacity(alloc, outcomes.len())?;
     for (index, outcome) in outcomes.iter().enumerate() {

@@ -1,5 +1,5 @@
 //! How many objects the calls of a trace can place.
-ghost use Rattle.std.specs.Prelude.{◌≡◌, ◌≤◌, List, length, sum_by, count_by};
+ghost use Rattle.std.specs.Prelude.{◌≡◌, ◌≤◌, length, sum_by, count_by};
 ghost use Rattle.vm_model.specs.Calls.{can_place};
 ghost use Rattle.vm_model.specs.History.{placing_calls};
 ghost use Rattle.vm_model.specs.declared.calls.Call.{Call};

@@ -1,5 +1,5 @@
 //! Who has each object, and under which serial it lives.
-ghost use Rattle.std.specs.Prelude.{◌≡◌, ◌+◌, ◌*◌, ◌≤◌, ℕ, Some, None, IsSome, IfOk};
+ghost use Rattle.std.specs.Prelude.{◌≡◌, ◌+◌, ◌≤◌, ℕ, Some, None, IsSome, IfOk};
 ghost use Rattle.std.specs.Map.{update};
 ghost use Rattle.chunk_slots.specs.declared.holders.Holder.{Holder};
 ghost use Rattle.chunk_slots.specs.KeptObjects.{object_key, holder_in, room_in, nat_eq};
@@ -47,7 +47,9 @@ impl Holders {
     /// An object has this holder from here on. It takes no memory where there is room, or it had one before.
     pub(crate) fn put(&mut self, chunk: u32, off: u32, holder: Holder)
         requires { holder_in self.old (object_key chunk off) ≡ None → 1 ≤ room_in self.old }
-        ensures holders { (key : ℕ) → holder_in self.new key ≡ update nat_eq (holder_in self.old) (object_key chunk off) (Some holder) key }
+        ensures holders { (key : ℕ)
+            → holder_in self.new key ≡ update nat_eq (holder_in self.old) (object_key chunk off)
+            (Some holder) key }
         ensures room { room_in self.old ≤ room_in self.new + 1 }
     {
         if self.by_place.insert(key_of(chunk, off), holder).is_err() {
@@ -58,7 +60,9 @@ impl Holders {
     /// An object lives under a serial from here on.
     pub(crate) fn settle(&mut self, chunk: u32, off: u32, serial: u32)
         requires { IsSome (holder_in self.old (object_key chunk off)) }
-        ensures holders { (old : Holder) → holder_in self.old (object_key chunk off) ≡ Some old → (key : ℕ) → holder_in self.new key ≡ update nat_eq (holder_in self.old) (object_key chunk off) (Some (record { caller = old.caller; serial = serial })) key }
+        ensures holders { (old : Holder) → holder_in self.old (object_key chunk off) ≡ Some old
+            → (key : ℕ) → holder_in self.new key ≡ update nat_eq (holder_in self.old)
+            (object_key chunk off) (Some (record { caller = old.caller; serial = serial })) key }
         ensures room { room_in self.new ≡ room_in self.old }
     {
         if let Some(holder) = self.by_place.get_mut(&key_of(chunk, off)) {
@@ -68,7 +72,9 @@ impl Holders {
 
     /// An object is gone.
     pub(crate) fn take_out(&mut self, chunk: u32, off: u32)
-        ensures holders { (key : ℕ) → holder_in self.new key ≡ update nat_eq (holder_in self.old) (object_key chunk off) None key }
+        ensures holders { (key : ℕ)
+            → holder_in self.new key ≡ update nat_eq (holder_in self.old)
+            (object_key chunk off) None key }
         ensures room { room_in self.old ≤ room_in self.new }
     {
         let _ = self.by_place.remove(&key_of(chunk, off));

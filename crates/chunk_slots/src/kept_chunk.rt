@@ -1,5 +1,5 @@
 //! A chunk as its side keeps it.
-ghost use Rattle.std.specs.Prelude.{◌≡◌, ◌+◌, ◌-◌, ◌*◌, ◌/◌, ◌<◌, ◌≤◌, ◌^◌, ◌&&◌, not, if◌then◌else◌, ℕ, true, false, Some, IsTrue, ◌↔◌, IfOk, IfSome, IfNone, OnOk, length, filter, slice_get, MatchOption, [], ◌∷◌, ◌++◌};
+ghost use Rattle.std.specs.Prelude.{◌≡◌, ◌+◌, ◌-◌, ◌*◌, ◌/◌, ◌<◌, ◌≤◌, ◌&&◌, not, if◌then◌else◌, ℕ, true, false, Some, IsTrue, ◌↔◌, IfOk, IfSome, IfNone, OnOk, length, filter, slice_get, MatchOption, [], ◌∷◌, ◌++◌};
 ghost use Rattle.vm_model.specs.Space.{lowest, count_from, is_among};
 ghost use Rattle.vm_model.specs.Bits.{slot_of, hint_of, block_bits, free_count};
 ghost use Rattle.vm_model.specs.Frames.{pages_of_bytes};
@@ -39,9 +39,19 @@ impl Model for KeptChunk {
 
     ghost Value = { KeptRow };
 
-    ghost view = { λ c. record { number = c.number; base = c.base; populated = pages_as c.pages c.populated; bits = c.bits } };
+    ghost view = { λ c. record {
+      number = c.number;
+      base = c.base;
+      populated = pages_as c.pages c.populated;
+      bits = c.bits;
+    } };
 
-    ghost invariant = { λ c. IsKept c.pages c.populated c.bits (record { number = c.number; base = c.base; populated = pages_as c.pages c.populated; bits = c.bits }) c.slot c.empty };
+    ghost invariant = { λ c. IsKept c.pages c.populated c.bits (record {
+      number = c.number;
+      base = c.base;
+      populated = pages_as c.pages c.populated;
+      bits = c.bits;
+    }) c.slot c.empty };
 }
 
 impl Keyed for KeptChunk {
@@ -88,7 +98,9 @@ fn count_free(bits: &ChunkBits) -> u32
 fn count_empty(bits: &HintedChunk, populated: PageSet, pages: u32) -> u32
     requires most { pages ≤ 64 }
     requires size { bits.now.bits ≡ 1024 * pages }
-    ensures { result ≡ length (filter (λ page. page_is_free bits.now page && has_page populated page) (count_from pages 0)) }
+    ensures { result ≡ length
+        (filter (λ page. page_is_free bits.now page && has_page populated page)
+        (count_from pages 0)) }
 {
     let mut empty = 0;
     for page in 0..pages {
@@ -104,7 +116,8 @@ fn pages_of_object(off: u32, bytes: u32) -> PageSet
     requires some { 1 ≤ bytes }
     requires within { off + bytes ≤ 262144 }
     ensures pages { pages_in result ≡ pages_of_bytes off bytes }
-    ensures among { (page : ℕ) → page < 64 → has_page result page ≡ is_among (pages_of_bytes off bytes) page }
+    ensures among { (page : ℕ) → page < 64
+        → has_page result page ≡ is_among (pages_of_bytes off bytes) page }
 {
     let first = off / PAGE_BYTES;
     PageSet::pages_from(first, (off + bytes - 1) / PAGE_BYTES + 1 - first)
@@ -120,7 +133,8 @@ fn take_bits(
 ) -> Option<u32>
     requires count { 1 ≤ count }
     requires align { 1 ≤ align }
-    ensures place { result ≡ lowest (if atomic then blocked_bits populated bits.old else taken_bits bits.old) count align }
+    ensures place { result ≡ lowest (if atomic then blocked_bits populated bits.old
+        else taken_bits bits.old) count align }
     ensures placed { IfSome result (λ at. bits.new ≡ with_object_at at count bits.old) }
     ensures none { IfNone result (bits.new ≡ bits.old) }
 {
@@ -183,7 +197,8 @@ impl KeptChunk {
 
     pub(crate) fn populated(&self) -> PageSet
         ensures pages { pages_in result ≡ populated_in self.now }
-        ensures each { (page : ℕ) → page < length self.now.populated → has_page result page ≡ has_populated self.now page }
+        ensures each { (page : ℕ) → page < length self.now.populated
+            → has_page result page ≡ has_populated self.now page }
     {
         let all = PageSet::pages_from(0, self.pages);
         all.without(all.without(self.populated))
@@ -299,8 +314,11 @@ impl KeptChunk {
     /// The first object that begins at a bit or behind it, by its bits.
     pub(crate) fn next_object(&self, from: u32) -> Option<Span>
         requires { from ≤ self.now.bits.bits }
-        ensures next { MatchOption result (objects_from from self.now.bits ≡ []) (λ s. objects_from from self.now.bits ≡ s ∷ objects_from (s.start + s.pages) self.now.bits) }
-        ensures within { IfSome result (λ s. (1 ≤ s.pages) × (from ≤ s.start) × (s.start + s.pages ≤ self.now.bits.bits)) }
+        ensures next { MatchOption result (objects_from from self.now.bits ≡ [])
+            (λ s. objects_from from self.now.bits
+            ≡ s ∷ objects_from (s.start + s.pages) self.now.bits) }
+        ensures within { IfSome result (λ s. (1 ≤ s.pages) × (from ≤ s.start)
+            × (s.start + s.pages ≤ self.now.bits.bits)) }
         ensures few { self.now.bits.bits ≤ 65536 }
     {
         let _few = self.pages;
@@ -331,7 +349,8 @@ impl KeptChunk {
 
     /// Whether it has a page that is not populated, and of which no bit is taken.
     pub(crate) fn can_populate(&self, page: u32) -> bool
-        ensures { IsTrue result ↔ (slice_get self.now.populated page ≡ Some false) × (page_is_free self.now.bits page ≡ true) }
+        ensures { IsTrue result ↔ (slice_get self.now.populated page ≡ Some false)
+            × (page_is_free self.now.bits page ≡ true) }
     {
         page < self.pages
             && !self.populated.contains(page)
@@ -342,7 +361,8 @@ impl KeptChunk {
     pub(crate) fn missing(&self, off: u32, bytes: u32) -> PageSet
         requires some { 1 ≤ bytes }
         requires within { off + bytes ≤ 4 * self.now.bits.bits }
-        ensures { pages_in result ≡ filter (λ page. not (has_populated self.now page)) (pages_of_bytes off bytes) }
+        ensures { pages_in result ≡ filter (λ page. not (has_populated self.now page))
+            (pages_of_bytes off bytes) }
     {
         let populated = self.populated;
         pages_of_object(off, bytes).without(populated)

@@ -1,5 +1,5 @@
 //! The live objects of chunks, one after another.
-ghost use Rattle.std.specs.Prelude.{◌≡◌, ◌+◌, ◌*◌, ◌≤◌, ◌<◌, ℕ, Some, None, OnOk, ◌++◌};
+ghost use Rattle.std.specs.Prelude.{◌≡◌, ◌+◌, ◌*◌, ◌≤◌, ◌<◌, Some, None, OnOk, ◌++◌};
 ghost use Rattle.chunk_slots.specs.KeptObjects.{holder_in};
 ghost use Rattle.chunk_slots.specs.LiveRows.{live_of, live_rows, seek};
 
@@ -60,7 +60,8 @@ pub(crate) fn push_rows(
     holders: &Holders,
     rows: &mut Vec<ObjectRow>,
 ) -> Result<(), AllocError>
-    ensures { OnOk result (rows.new.items ≡ rows.old.items ++ live_rows (holder_in holders.now) chunk.now) }
+    ensures { OnOk result (rows.new.items ≡ rows.old.items ++ live_rows
+        (holder_in holders.now) chunk.now) }
 {
     let number = chunk.number();
     let mut from = 0;

@@ -1,5 +1,5 @@
 //! The side of the per-CPU chunks: the chunks, their slots, and the objects.
-ghost use Rattle.std.specs.Prelude.{◌≡◌, ◌+◌, ◌*◌, ◌%◌, ◌<◌, ◌≤◌, ℕ, not, Some, IsSome, IfOk, IfSome, IfNone, OnErr, OnOk, true, false, OnSome, filter, option_map};
+ghost use Rattle.std.specs.Prelude.{◌≡◌, ◌+◌, ◌*◌, ◌%◌, ◌<◌, ◌≤◌, not, Some, IsSome, IfOk, IfSome, IfNone, OnErr, OnOk, true, false, OnSome, filter, option_map};
 ghost use Rattle.vm_model.specs.Chunks.{find_object};
 ghost use Rattle.vm_model.specs.Frames.{pages_of_bytes};
 ghost use Rattle.chunk_slots.specs.KeptChunks.{has_populated};
@@ -42,9 +42,17 @@ impl Model for PcpuSide {
 
     ghost Value = { ChunkRegion };
 
-    ghost view = { λ s. record { unit_pages = s.unit_pages; chunks = chunks_in (holder_in s.holders) s.chunks.items; next_object = s.next_object; next_chunk = s.next_chunk; room = s.spare } };
+    ghost view = { λ s. record {
+      unit_pages = s.unit_pages;
+      chunks = chunks_in (holder_in s.holders) s.chunks.items;
+      next_object = s.next_object;
+      next_chunk = s.next_chunk;
+      room = s.spare;
+    } };
 
-    ghost invariant = { λ s. AreKept s.unit_pages s.chunks.items s.slots.items (holder_in s.holders) s.empty s.next_object s.next_chunk s.spare (vec_capacity s.slots) (room_in s.holders) };
+    ghost invariant = { λ s. AreKept s.unit_pages s.chunks.items s.slots.items
+        (holder_in s.holders) s.empty s.next_object s.next_chunk s.spare (vec_capacity s.slots)
+        (room_in s.holders) };
 }
 
 /// An object at an offset of a chunk, with its missing pages.
@@ -56,7 +64,8 @@ fn placed_in(chunk: &KeptChunk, off: u32, bytes: u32, caller: u16) -> Placed
     ensures off { result.off ≡ off }
     ensures bytes { result.bytes ≡ bytes }
     ensures caller { result.caller ≡ caller }
-    ensures missing { pages_in result.missing ≡ filter (λ page. not (has_populated chunk.now page)) (pages_of_bytes off bytes) }
+    ensures missing { pages_in result.missing ≡ filter (λ page. not (has_populated chunk.now page))
+        (pages_of_bytes off bytes) }
 {
     Placed {
         chunk: chunk.number(),
@@ -129,7 +138,8 @@ impl PcpuSide {
         requires align { 4 ≤ align }
         ensures place { option_map told_of result ≡ place_for atomic bytes align self.old }
         ensures caller { IfSome result (λ placed. placed.caller ≡ caller) }
-        ensures held { IfSome result (λ placed. self.new ≡ with_placed caller (at_of placed) self.old) }
+        ensures held { IfSome result
+            (λ placed. self.new ≡ with_placed caller (at_of placed) self.old) }
         ensures unchanged { IfNone result (self.new ≡ self.old) }
     {
         let taken = take_fit(&mut self.chunks, &self.slots, bytes, align, atomic)?;
@@ -152,7 +162,8 @@ impl PcpuSide {
         requires align { 4 ≤ align }
         ensures place { option_map told_of result ≡ place_for false bytes align self.old }
         ensures caller { IfSome result (λ placed. placed.caller ≡ caller) }
-        ensures held { IfSome result (λ placed. self.new ≡ with_placed caller (at_of placed) self.old) }
+        ensures held { IfSome result
+            (λ placed. self.new ≡ with_placed caller (at_of placed) self.old) }
         ensures unchanged { IfNone result (self.new ≡ self.old) }
     {
         self.hold(bytes, align, caller, false)
@@ -166,7 +177,8 @@ impl PcpuSide {
         requires align { 4 ≤ align }
         ensures place { option_map told_of result ≡ place_for true bytes align self.old }
         ensures caller { IfSome result (λ placed. placed.caller ≡ caller) }
-        ensures held { IfSome result (λ placed. self.new ≡ with_placed caller (at_of placed) self.old) }
+        ensures held { IfSome result
+            (λ placed. self.new ≡ with_placed caller (at_of placed) self.old) }
         ensures unchanged { IfNone result (self.new ≡ self.old) }
     {
         self.hold(bytes, align, caller, true)
@@ -209,9 +221,12 @@ impl PcpuSide {
         requires most { bytes ≤ 32768 }
         requires align { 4 ≤ align }
         requires next { self.old.next_chunk < 4294967295 }
-        ensures place { IfOk result (λ placed. place_for false bytes align (with_new_chunk base self.old) ≡ Some (told_of placed)) }
+        ensures place { IfOk result
+            (λ placed. place_for false bytes align (with_new_chunk base self.old)
+            ≡ Some (told_of placed)) }
         ensures caller { IfOk result (λ placed. placed.caller ≡ caller) }
-        ensures held { IfOk result (λ placed. self.new ≡ with_placed caller (at_of placed) (with_new_chunk base self.old)) }
+        ensures held { IfOk result (λ placed. self.new ≡ with_placed caller (at_of placed)
+            (with_new_chunk base self.old)) }
         ensures unchanged { OnErr result (self.new ≡ self.old) }
     {
         let _least = self.unit_pages;

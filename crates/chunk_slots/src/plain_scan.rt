@@ -106,7 +106,9 @@ fn page_is_free(bits: &[bool], page: u32) -> bool
 pub(crate) fn plain_empty(bits: &[bool], populated: PageSet, pages: u32) -> u32
     requires most { pages ≤ 64 }
     requires size { length bits.now ≡ 1024 * pages }
-    ensures { result ≡ length (filter (λ page. begins_free 1024 (drop (1024 * page) bits.now) && has_page populated page) (count_from pages 0)) }
+    ensures { result ≡ length
+        (filter (λ page. begins_free 1024 (drop (1024 * page) bits.now) && has_page populated page)
+        (count_from pages 0)) }
 {
     let mut empty = 0;
     for page in 0..pages {

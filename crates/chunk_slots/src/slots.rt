@@ -1,13 +1,10 @@
 //! The chunks by slot and number, and the choice of a chunk.
-ghost use Rattle.std.specs.Prelude.{◌≡◌, ◌≢◌, ◌+◌, ◌-◌, ◌*◌, ◌/◌, ◌%◌, ◌<◌, ◌≤◌, ◌^◌, ◌==◌, not, ℕ, Some, None, IsSome, IfOk, IfSome, IfNone, MatchOption, length, filter, drop, map, find, is_some, option_map, count_by, nat_lt, slice_get, slice_set, vec_len, vec_capacity};
-ghost use Rattle.vm_model.specs.Space.{least_by};
-ghost use Rattle.vm_model.specs.Bits.{slot_for as model_slot_for};
+ghost use Rattle.std.specs.Prelude.{◌≡◌, ◌≢◌, ◌+◌, ◌-◌, ◌/◌, ◌%◌, ◌<◌, ◌≤◌, ◌==◌, Some, None, IfSome, IfNone, filter, map, find, slice_get, vec_len, vec_capacity};
 ghost use Rattle.chunk_slots.specs.Rising.{IsRising, index_by};
-ghost use Rattle.chunk_slots.specs.KeptChunks.{KeptRow, slot_in, empty_in, with_bits};
-ghost use Rattle.chunk_slots.specs.Slots.{slot_key, key_of_slot, slots_of, moved, fit_in};
+ghost use Rattle.chunk_slots.specs.Slots.{slot_key, key_of_slot, slots_of, moved};
 ghost use Rattle.chunk_slots.specs.declared.slots.InSlot.{InSlot};
 ghost use Rattle.chunk_slots.specs.SlotFits.{NothingFitsBelowItsSlot};
-ghost use Rattle.chunk_slots.specs.SlotOrder.{TheFirstInOrderIsChosen, AreNumbered, key_of_row};
+ghost use Rattle.chunk_slots.specs.SlotOrder.{TheFirstInOrderIsChosen, AreNumbered};
 ghost use Rattle.chunk_slots.specs.KeptSides.{Each};
 ghost use Rattle.chunk_slots.specs.Choices.{chosen_row, IsTaken};
 
@@ -49,7 +46,8 @@ impl Keyed for InSlot {
 /// Moves a chunk from its slot to another: the kernel's `pcpu_chunk_relocate`. It takes no memory.
 pub(crate) fn relocate(slots: &mut Vec<InSlot>, chunk: u32, from: u32, to: u32)
     requires rising { IsRising key_of_slot slots.old.items }
-    requires there { find (λ (s : InSlot). key_of_slot s == slot_key from chunk) slots.old.items ≡ Some (record { slot = from; chunk = chunk }) }
+    requires there { find (λ (s : InSlot). key_of_slot s == slot_key from chunk) slots.old.items
+        ≡ Some (record { slot = from; chunk = chunk }) }
     requires room { vec_len slots.old ≤ vec_capacity slots.old }
     requires other { from ≢ to → index_by key_of_slot (slot_key to chunk) slots.old.items ≡ None }
     ensures slots { slots.new.items ≡ moved chunk from to slots.old.items }
@@ -115,7 +113,8 @@ pub(crate) fn take_fit(
 pub(crate) fn nth_in_slot(slots: &[InSlot], slot: u32, nth: u32) -> Option<u32>
     requires rising { IsRising key_of_slot slots.now }
     requires small { Each (λ (s : InSlot). s.chunk < 4294967296) slots.now }
-    ensures { result ≡ slice_get (map (λ (s : InSlot). s.chunk) (filter (λ (s : InSlot). s.slot == slot) slots.now)) nth }
+    ensures { result ≡ slice_get
+        (map (λ (s : InSlot). s.chunk) (filter (λ (s : InSlot). s.slot == slot) slots.now)) nth }
 {
     let place = rank(slots, key_in_slot(slot, 0)) + nth as usize;
     if place < slots.len() && slots[place].slot == slot {

@@ -1,9 +1,8 @@
 //! The kernel: all regions and all callers, one step after another.
-ghost use Rattle.std.specs.Prelude.{◌∷◌, ◌≡◌, ◌≢◌, ◌<◌, ◌≤◌, ℕ, true, false, List, All, Some, length, take, slice_get, IfOk, IfSome, OnOk, OnErr};
+ghost use Rattle.std.specs.Prelude.{◌∷◌, ◌≡◌, ◌≢◌, ◌<◌, ℕ, true, false, List, All, Some, length, take, slice_get, IfOk, IfSome, OnOk, OnErr};
 ghost use Rattle.vm_model.specs.declared.calls.Call.{Call};
 ghost use Rattle.vm_model.specs.Setup.{Setup};
 ghost use Rattle.unit_layout.specs.Config.{setup_of};
-ghost use Rattle.vm_model.specs.Rules.{IsSetup};
 ghost use Rattle.std.specs.Arc.{arc_value};
 ghost use Rattle.vm_model.specs.History as history;
 ghost use Rattle.vm_model.specs.History.{World, opening_world, step, pick_all, moves_in, first_mover, finish, most_events};
@@ -11,7 +10,7 @@ ghost use Rattle.vm_model.specs.LegalHistory.{AllOver};
 ghost use Rattle.vm_model.specs.Parts.{wants, moves, after};
 ghost use Rattle.vm_model.specs.Run.{section_by};
 ghost use Rattle.section_core.specs.declared.region.Stepped.TheVariants.{Moved};
-ghost use Rattle.section_laws.specs.Lawful.{IsRunning, IsLawful};
+ghost use Rattle.section_laws.specs.Lawful.{IsLawful};
 ghost use Rattle.kernel_steps.specs.Kernels.{KernelState, IsStanding, IsSteppedAs, SectionAs, CanStart, IsBefore, CanJoin, start_of, opening_of, callers_of};
 
 use callers::{AnswerList, Local, first_callers, placing_calls};
@@ -39,9 +38,17 @@ impl Model for Kernel {
 
     ghost Value = { KernelState };
 
-    ghost view = { λ k. record { regions = k.regions.items; locals = k.locals.items; moved = k.moved.items } };
+    ghost view = { λ k. record {
+      regions = k.regions.items;
+      locals = k.locals.items;
+      moved = k.moved.items;
+    } };
 
-    ghost invariant = { λ k. IsSomewhere (record { regions = k.regions.items; locals = k.locals.items; moved = k.moved.items }) };
+    ghost invariant = { λ k. IsSomewhere (record {
+      regions = k.regions.items;
+      locals = k.locals.items;
+      moved = k.moved.items;
+    }) };
 }
 
 /// The next section of a caller, over the region of all that it wants.
@@ -52,7 +59,8 @@ fn section_of(
 ) -> Result<Stepped, AllocError>
     requires caller { caller < length locals.old }
     requires lawful { IsLawful regions.old locals.old }
-    ensures ok { OnOk result ((regions.new, locals.new) ≡ section_by wants moves after (regions.old, locals.old) caller (slice_get locals.old caller)) }
+    ensures ok { OnOk result ((regions.new, locals.new) ≡ section_by wants moves after
+        (regions.old, locals.old) caller (slice_get locals.old caller)) }
     ensures ended { IfOk result (SectionAs (regions.old, locals.old) caller) }
     ensures err { OnErr result ((regions.new ≡ regions.old) × (locals.new ≡ locals.old)) }
 {
@@ -68,7 +76,8 @@ impl Kernel {
     /// end. The callers of the further sections stand before their first calls then.
     pub fn start(alloc: Global, config: Config, sections: CallsList) -> Result<Kernel, AllocError>
         requires { CanStart (setup_of config) sections }
-        ensures { IfOk result (λ kernel. IsStanding (setup_of config) (opening_of sections) (callers_of sections) (start_of (setup_of config) sections) kernel) }
+        ensures { IfOk result (λ kernel. IsStanding (setup_of config) (opening_of sections)
+            (callers_of sections) (start_of (setup_of config) sections) kernel) }
     {
         let config = Arc::new(alloc, config)?;
         let room = placing_calls(&sections);
@@ -88,8 +97,12 @@ impl Kernel {
         opening: CallerCalls,
         room: u32,
     ) -> Result<Kernel, AllocError>
-        requires { (calls : List (List Call)) × IsBefore (setup_of (arc_value config.now)) (opening ∷ calls) room }
-        ensures { IfOk result (λ kernel. (calls : List (List Call)) → IsBefore (setup_of (arc_value config.now)) (opening ∷ calls) room → IsStanding (setup_of (arc_value config.now)) opening calls (opening_world (setup_of (arc_value config.now)) opening calls) kernel) }
+        requires { (calls : List (List Call))
+            × IsBefore (setup_of (arc_value config.now)) (opening ∷ calls) room }
+        ensures { IfOk result (λ kernel. (calls : List (List Call))
+            → IsBefore (setup_of (arc_value config.now)) (opening ∷ calls) room
+            → IsStanding (setup_of (arc_value config.now)) opening calls
+            (opening_world (setup_of (arc_value config.now)) opening calls) kernel) }
     {
         let none = Arc::new(alloc, AnswerList::of(Vec::new(alloc)))?;
         let first = Local::start(alloc, Arc::try_clone(config)?, 0, none, opening)?;
@@ -103,8 +116,12 @@ impl Kernel {
 
     /// Callers beside the opening, which has ended.
     fn join(&mut self, callers: Vec<Local>) -> Result<(), AllocError>
-        requires { (c : Setup) × (sections : List (List Call)) × CanJoin c sections self.old callers.items }
-        ensures { OnOk result ((c : Setup) (sections : List (List Call)) → CanJoin c sections self.old callers.items → IsStanding c (opening_of sections) (callers_of sections) (start_of c sections) self.new) }
+        requires { (c : Setup) × (sections : List (List Call))
+            × CanJoin c sections self.old callers.items }
+        ensures { OnOk result ((c : Setup) (sections : List (List Call))
+            → CanJoin c sections self.old callers.items
+            → IsStanding c (opening_of sections) (callers_of sections)
+            (start_of c sections) self.new) }
     {
         let mut callers = callers;
         self.locals.append(&mut callers)?;
@@ -115,7 +132,9 @@ impl Kernel {
     fn stands_still(&self, caller: u16) -> Stepped
         requires { caller < length self.now.locals }
         ensures still { result ≢ Moved }
-        ensures stepped { (c : Setup) (opening : List Call) (calls : List (List Call)) (w : World) → IsStanding c opening calls w self.now → moves_in w (slice_get w.locals caller) ≡ false → IsSteppedAs w caller result }
+        ensures stepped { (c : Setup) (opening : List Call) (calls : List (List Call)) (w : World)
+            → IsStanding c opening calls w self.now → moves_in w (slice_get w.locals caller) ≡ false
+            → IsSteppedAs w caller result }
     {
         match self.locals[caller as usize].wants() {
             Some(_) => Stepped::Stays,
@@ -126,7 +145,8 @@ impl Kernel {
     /// The number of the region that a caller's next section wants, or none where all its calls are answered.
     pub fn wants(&self, caller: u16) -> Option<u16>
         requires { caller < length self.now.locals }
-        ensures { (l : history.Local) × (slice_get self.now.locals caller ≡ Some l) × (result ≡ wants l) }
+        ensures { (l : history.Local) × (slice_get self.now.locals caller ≡ Some l)
+            × (result ≡ wants l) }
     {
         self.locals[caller as usize].wants()
     }
@@ -134,7 +154,8 @@ impl Kernel {
     /// How many calls of a caller are answered.
     pub fn answered(&self, caller: u16) -> u32
         requires { caller < length self.now.locals }
-        ensures { (l : history.Local) × (slice_get self.now.locals caller ≡ Some l) × (result ≡ length l.answers) }
+        ensures { (l : history.Local) × (slice_get self.now.locals caller ≡ Some l)
+            × (result ≡ length l.answers) }
     {
         self.locals[caller as usize].answered()
     }
@@ -144,11 +165,17 @@ impl Kernel {
     /// either.
     pub fn step(&mut self, caller: u16) -> Result<Stepped, AllocError>
         requires { caller < length self.old.locals }
-        ensures ok { OnOk result ((c : Setup) (opening : List Call) (calls : List (List Call)) (w : World) → IsStanding c opening calls w self.old → IsStanding c opening calls (step w caller) self.new) }
-        ensures stepped { IfOk result (λ stepped. (c : Setup) (opening : List Call) (calls : List (List Call)) (w : World) → IsStanding c opening calls w self.old → IsSteppedAs w caller stepped) }
+        ensures ok { OnOk result ((c : Setup) (opening : List Call) (calls : List (List Call))
+            (w : World) → IsStanding c opening calls w self.old
+            → IsStanding c opening calls (step w caller) self.new) }
+        ensures stepped { IfOk result
+            (λ stepped. (c : Setup) (opening : List Call) (calls : List (List Call)) (w : World)
+            → IsStanding c opening calls w self.old → IsSteppedAs w caller stepped) }
         ensures unchanged { IfOk result (λ stepped. stepped ≢ Moved → self.new ≡ self.old) }
         ensures callers { length self.new.locals ≡ length self.old.locals }
-        ensures memory { OnErr result ((c : Setup) (opening : List Call) (calls : List (List Call)) (w : World) → IsStanding c opening calls w self.old → moves_in w (slice_get w.locals caller) ≡ true) }
+        ensures memory { OnErr result ((c : Setup) (opening : List Call) (calls : List (List Call))
+            (w : World) → IsStanding c opening calls w self.old
+            → moves_in w (slice_get w.locals caller) ≡ true) }
         ensures err { OnErr result (self.new ≡ self.old) }
     {
         if !self.can_move(caller) {
@@ -166,7 +193,9 @@ impl Kernel {
     /// Whether a caller's next section would move now.
     fn can_move(&self, caller: u16) -> bool
         requires { caller < length self.now.locals }
-        ensures { (c : Setup) (opening : List Call) (calls : List (List Call)) (w : World) → IsStanding c opening calls w self.now → result ≡ moves_in w (slice_get w.locals caller) }
+        ensures { (c : Setup) (opening : List Call) (calls : List (List Call)) (w : World)
+            → IsStanding c opening calls w self.now
+            → result ≡ moves_in w (slice_get w.locals caller) }
     {
         let local = &self.locals[caller as usize];
         match local.wants() {
@@ -178,9 +207,14 @@ impl Kernel {
     /// One step for each pick, in their order. After an error the kernel stands where the picks before it led.
     pub fn run(&mut self, picks: &[u16]) -> Result<(), AllocError>
         requires { All (λ (pick : ℕ). pick < length self.old.locals) picks.now }
-        ensures ok { OnOk result ((c : Setup) (opening : List Call) (calls : List (List Call)) (w : World) → IsStanding c opening calls w self.old → IsStanding c opening calls (pick_all w picks.now) self.new) }
+        ensures ok { OnOk result ((c : Setup) (opening : List Call) (calls : List (List Call))
+            (w : World) → IsStanding c opening calls w self.old
+            → IsStanding c opening calls (pick_all w picks.now) self.new) }
         ensures callers { length self.new.locals ≡ length self.old.locals }
-        ensures err { OnErr result ((n : ℕ) × (n < length picks.now) × ((c : Setup) (opening : List Call) (calls : List (List Call)) (w : World) → IsStanding c opening calls w self.old → IsStanding c opening calls (pick_all w (take n picks.now)) self.new)) }
+        ensures err { OnErr result ((n : ℕ) × (n < length picks.now)
+            × ((c : Setup) (opening : List Call) (calls : List (List Call)) (w : World)
+            → IsStanding c opening calls w self.old
+            → IsStanding c opening calls (pick_all w (take n picks.now)) self.new)) }
     {
         for pick in picks {
             self.step(*pick)?;
@@ -190,7 +224,8 @@ impl Kernel {
 
     /// The lowest caller that can move.
     fn first_mover(&self) -> Option<u16>
-        ensures first { (c : Setup) (opening : List Call) (calls : List (List Call)) (w : World) → IsStanding c opening calls w self.now → result ≡ first_mover w }
+        ensures first { (c : Setup) (opening : List Call) (calls : List (List Call)) (w : World)
+            → IsStanding c opening calls w self.now → result ≡ first_mover w }
         ensures within { IfSome result (λ caller. caller < length self.now.locals) }
     {
         for caller in 0..self.locals.len() as u16 {
@@ -204,10 +239,16 @@ impl Kernel {
     /// The lowest caller that can move, again and again, until all have ended. After an error the kernel stands where
     /// the steps before it led.
     pub fn finish(&mut self) -> Result<(), AllocError>
-        ensures ok { OnOk result ((c : Setup) (opening : List Call) (calls : List (List Call)) (w : World) → IsStanding c opening calls w self.old → IsStanding c opening calls (finish most_events w) self.new) }
-        ensures over { OnOk result ((c : Setup) (opening : List Call) (calls : List (List Call)) (w : World) → IsStanding c opening calls w self.old → AllOver self.new.locals) }
+        ensures ok { OnOk result ((c : Setup) (opening : List Call) (calls : List (List Call))
+            (w : World) → IsStanding c opening calls w self.old
+            → IsStanding c opening calls (finish most_events w) self.new) }
+        ensures over { OnOk result ((c : Setup) (opening : List Call) (calls : List (List Call))
+            (w : World) → IsStanding c opening calls w self.old → AllOver self.new.locals) }
         ensures callers { length self.new.locals ≡ length self.old.locals }
-        ensures err { OnErr result ((n : ℕ) × (n < most_events) × ((c : Setup) (opening : List Call) (calls : List (List Call)) (w : World) → IsStanding c opening calls w self.old → IsStanding c opening calls (finish n w) self.new)) }
+        ensures err { OnErr result ((n : ℕ) × (n < most_events)
+            × ((c : Setup) (opening : List Call) (calls : List (List Call)) (w : World)
+            → IsStanding c opening calls w self.old
+            → IsStanding c opening calls (finish n w) self.new)) }
     {
         for _ in 0..MOST_EVENTS {
             let Some(caller) = self.first_mover() else {

@@ -31,7 +31,9 @@ use vm_model::{
 impl Kernel {
     /// The entry of each call that was answered, by caller and call.
     fn entries(&self) -> Result<Vec<Entry>, AllocError>
-        ensures { IfOk result (λ entries. (c : Setup) (opening : List Call) (calls : List (List Call)) (w : World) → IsStanding c opening calls w self.now → entries.items ≡ entries_of w.events w.locals) }
+        ensures { IfOk result (λ entries. (c : Setup) (opening : List Call)
+            (calls : List (List Call)) (w : World) → IsStanding c opening calls w self.now
+            → entries.items ≡ entries_of w.events w.locals) }
     {
         let mut entries = Vec::new(self.alloc);
         for local in &self.locals {
@@ -43,7 +45,10 @@ impl Kernel {
     /// The replies so far, and the tables of what there is now. The rows that an audit alone reads, which are scans of
     /// all chunks, are made with one only.
     pub fn tables(&self, audit: bool) -> Result<Tables, AllocError>
-        ensures { IfOk result (λ tables. (config : Config) (opening : List Call) (calls : List (List Call)) (w : World) → IsStanding (setup_of config) opening calls w self.now → tables ≡ tables_for audit (setup_of config) w) }
+        ensures { IfOk result (λ tables. (config : Config) (opening : List Call)
+            (calls : List (List Call)) (w : World)
+            → IsStanding (setup_of config) opening calls w self.now
+            → tables ≡ tables_for audit (setup_of config) w) }
     {
         let alloc = self.alloc;
         let free = self.regions[FREE_BLOCKS as usize].free();
@@ -118,7 +123,9 @@ fn waiting_spans(alloc: Global, lazy: &LazySide) -> Result<Vec<Span>, AllocError
 /// The blocks of all processors by rising start.
 fn block_rows(alloc: Global, regions: &[Region]) -> Result<Vec<BlockRow>, AllocError>
     requires { All IsOfBlocks regions.now }
-    ensures { IfOk result (λ rows. (c : Setup) (opening : List Call) (calls : List (List Call)) (w : World) → IsRunning c opening calls w → regions.now ≡ drop 8 (regions_of c w.map) → rows.items ≡ (tables_of c w).blocks) }
+    ensures { IfOk result (λ rows. (c : Setup) (opening : List Call) (calls : List (List Call))
+        (w : World) → IsRunning c opening calls w → regions.now ≡ drop 8 (regions_of c w.map)
+        → rows.items ≡ (tables_of c w).blocks) }
 {
     let mut rows = Vec::new(alloc);
     for region in regions {
@@ -131,7 +138,9 @@ fn block_rows(alloc: Global, regions: &[Region]) -> Result<Vec<BlockRow>, AllocE
 /// The live parts of all processors by rising start.
 fn part_rows(alloc: Global, regions: &[Region]) -> Result<Vec<PartRow>, AllocError>
     requires { All IsOfBlocks regions.now }
-    ensures { IfOk result (λ rows. (c : Setup) (opening : List Call) (calls : List (List Call)) (w : World) → IsRunning c opening calls w → regions.now ≡ drop 8 (regions_of c w.map) → rows.items ≡ (tables_of c w).parts) }
+    ensures { IfOk result (λ rows. (c : Setup) (opening : List Call) (calls : List (List Call))
+        (w : World) → IsRunning c opening calls w → regions.now ≡ drop 8 (regions_of c w.map)
+        → rows.items ≡ (tables_of c w).parts) }
 {
     let mut rows = Vec::new(alloc);
     for region in regions {

@@ -42,7 +42,12 @@ impl Model for BlockSide {
 
     ghost Value = { BlockRows };
 
-    ghost view = { λ s. record { cpu = s.cpu; pages = s.pages; blocks = blocks_in (values s.blocks); next = s.next } };
+    ghost view = { λ s. record {
+      cpu = s.cpu;
+      pages = s.pages;
+      blocks = blocks_in (values s.blocks);
+      next = s.next;
+    } };
 
     ghost invariant = { λ s. AreKept s.cpu s.pages s.blocks.entries s.queue.items s.added };
 }
@@ -89,7 +94,8 @@ impl BlockSide {
     pub fn is_unused(&self, start: u32) -> bool
         ensures end { IsTrue result → start + self.now.pages ≤ 1048576 }
         ensures unused { IsTrue result → IsUnused self.now (span start self.now.pages) }
-        ensures only { start + self.now.pages ≤ 1048576 → IsUnused self.now (span start self.now.pages) → IsTrue result }
+        ensures only { start + self.now.pages ≤ 1048576
+            → IsUnused self.now (span start self.now.pages) → IsTrue result }
     {
         if start > 1048576 - self.pages {
             return false;
@@ -114,11 +120,13 @@ impl BlockSide {
     pub fn take_part(&mut self, pages: u32, caller: u16) -> Option<Part>
         requires least { 1 ≤ pages }
         requires most { pages ≤ self.old.pages }
-        ensures place { IfSome result (λ part. rows.part_to_cut pages self.old ≡ Some (at_of self.old.cpu part)) }
+        ensures place { IfSome result (λ part. rows.part_to_cut pages self.old
+            ≡ Some (at_of self.old.cpu part)) }
         ensures order { IfSome result (λ part. part.order ≡ binary_digits (pages - 1)) }
         ensures pages { IfSome result (λ part. part.pages ≡ pages) }
         ensures caller { IfSome result (λ part. part.caller ≡ caller) }
-        ensures cut { IfSome result (λ part. self.new ≡ rows.with_cut caller (at_of self.old.cpu part) self.old) }
+        ensures cut { IfSome result
+            (λ part. self.new ≡ rows.with_cut caller (at_of self.old.cpu part) self.old) }
         ensures none { IfNone result (rows.part_to_cut pages self.old ≡ None) }
         ensures unchanged { IfNone result (self.new ≡ self.old) }
     {
@@ -147,8 +155,15 @@ impl BlockSide {
         requires most { pages ≤ self.old.pages }
         requires end { start + self.old.pages ≤ 1048576 }
         requires unused { IsUnused self.old (span start self.old.pages) }
-        ensures part { IfOk result (λ part. part ≡ record { block = start; offset = 0; order = binary_digits (pages - 1); pages = pages; caller = caller }) }
-        ensures added { IfOk result (λ part. self.new ≡ rows.with_block caller (at_of self.old.cpu part) self.old) }
+        ensures part { IfOk result (λ part. part ≡ record {
+          block = start;
+          offset = 0;
+          order = binary_digits (pages - 1);
+          pages = pages;
+          caller = caller;
+        }) }
+        ensures added { IfOk result
+            (λ part. self.new ≡ rows.with_block caller (at_of self.old.cpu part) self.old) }
         ensures unchanged { OnErr result (self.new ≡ self.old) }
     {
         let number = self.added;
@@ -190,10 +205,12 @@ impl BlockSide {
     /// A caller takes the live part in hand that has this first page and serial, as `vb_free` of the kernel begins. None
     /// where there is none, and then nothing is changed. It takes no memory.
     pub fn begin_unmap(&mut self, start: u32, serial: u32, caller: u16) -> Option<Part>
-        ensures place { IfSome result (λ part. rows.named_parts start serial self.old ≡ at_of self.old.cpu part ∷ []) }
+        ensures place { IfSome result (λ part. rows.named_parts start serial self.old
+            ≡ at_of self.old.cpu part ∷ []) }
         ensures order { IfSome result (λ part. part.order ≡ binary_digits (part.pages - 1)) }
         ensures caller { IfSome result (λ part. part.caller ≡ caller) }
-        ensures held { IfSome result (λ part. self.new ≡ rows.with_held caller (at_of self.old.cpu part) self.old) }
+        ensures held { IfSome result
+            (λ part. self.new ≡ rows.with_held caller (at_of self.old.cpu part) self.old) }
         ensures none { IfNone result (rows.named_parts start serial self.old ≡ []) }
         ensures unchanged { IfNone result (self.new ≡ self.old) }
     {
@@ -246,7 +263,8 @@ impl BlockSide {
     /// starts alone, and an error leaves all as it was.
     pub fn take_fragmented(&mut self) -> Result<StartList, AllocError>
         ensures starts { IfOk result (λ starts. starts ≡ rows.fragmented self.old) }
-        ensures gone { OnOk result (self.new ≡ rows.without_blocks (rows.fragmented self.old) self.old) }
+        ensures gone { OnOk result
+            (self.new ≡ rows.without_blocks (rows.fragmented self.old) self.old) }
         ensures memory { OnErr result (rows.fragmented self.old ≢ []) }
         ensures unchanged { OnErr result (self.new ≡ self.old) }
     {
@@ -274,7 +292,8 @@ impl BlockSide {
     /// What its fields keep of the pages of blocks and parts.
     pub(crate) fn keeps_apart(&self)
         ensures apart { All (λ (b : Block). ShareNoPage (part_spans b)) self.now.blocks }
-        ensures inside { All (λ (b : Block). All (LiesIn (block_span self.now.pages b)) (part_spans b)) self.now.blocks }
+        ensures inside { All (λ (b : Block). All (LiesIn (block_span self.now.pages b))
+            (part_spans b)) self.now.blocks }
         ensures blocks { ShareNoPage (map (block_span self.now.pages) self.now.blocks) }
     {
         let _pages = self.pages;

@@ -33,9 +33,17 @@ impl Model for KeptBlock {
 
     ghost Value = { KeptRow };
 
-    ghost view = { λ b. record { number = b.number; pages = b.pages; block = record { start = b.start; cpu = b.cpu; parts = b.parts.items } } };
+    ghost view = { λ b. record {
+      number = b.number;
+      pages = b.pages;
+      block = record { start = b.start; cpu = b.cpu; parts = b.parts.items };
+    } };
 
-    ghost invariant = { λ b. IsKept (record { start = b.start; cpu = b.cpu; parts = b.parts.items }) b.pages b.free b.dirty b.range (vec_capacity b.parts) };
+    ghost invariant = { λ b. IsKept (record {
+      start = b.start;
+      cpu = b.cpu;
+      parts = b.parts.items;
+    }) b.pages b.free b.dirty b.range (vec_capacity b.parts) };
 }
 
 impl KeptBlock {
@@ -50,7 +58,11 @@ impl KeptBlock {
         requires least { 1 ≤ pages }
         requires most { pages ≤ 1024 }
         requires end { start + pages ≤ 1048576 }
-        ensures { IfOk result (λ block. block ≡ record { number = number; pages = pages; block = record { start = start; cpu = cpu; parts = [] } }) }
+        ensures { IfOk result (λ block. block ≡ record {
+          number = number;
+          pages = pages;
+          block = record { start = start; cpu = cpu; parts = [] };
+        }) }
     {
         let parts = Vec::with_capacity(alloc, pages as usize)?;
         Ok(KeptBlock {
@@ -113,7 +125,8 @@ impl KeptBlock {
     /// Whether it shares no page with a block of as many pages at a start.
     pub fn is_apart_from(&self, start: u32) -> bool
         requires { start ≤ 1048576 }
-        ensures { IsTrue result ↔ ((self.now.block.start + self.now.pages ≤ start) ⊎ (start + self.now.pages ≤ self.now.block.start)) }
+        ensures { IsTrue result ↔ ((self.now.block.start + self.now.pages ≤ start)
+            ⊎ (start + self.now.pages ≤ self.now.block.start)) }
     {
         self.start + self.pages <= start || start + self.pages <= self.start
     }
@@ -123,7 +136,10 @@ impl KeptBlock {
         requires least { 1 ≤ pages }
         requires room { rounded pages ≤ free_of (sized self.old.pages) self.old.block }
         ensures offset { result ≡ self.old.pages - free_of (sized self.old.pages) self.old.block }
-        ensures part { self.new ≡ record self.old { block = with_part caller (cut_from (sized self.old.pages) pages self.old.block) self.old.block } }
+        ensures part { self.new ≡ record self.old {
+          block = with_part caller (cut_from (sized self.old.pages) pages self.old.block)
+              self.old.block;
+        } }
     {
         let offset = self.pages - self.free;
         self.parts
@@ -136,7 +152,8 @@ impl KeptBlock {
     fn place_of(&self, offset: u32) -> usize
         requires { 1 ≤ length self.now.block.parts }
         ensures there { result < length self.now.block.parts }
-        ensures found { IsSome (part_in offset self.now.block) → slice_get self.now.block.parts result ≡ part_in offset self.now.block }
+        ensures found { IsSome (part_in offset self.now.block)
+            → slice_get self.now.block.parts result ≡ part_in offset self.now.block }
     {
         let mut low = 0;
         let mut high = self.parts.len();
@@ -181,7 +198,8 @@ impl KeptBlock {
     /// A caller takes the part in hand that lives under a serial and begins at an offset, and gets its pages. None where
     /// there is no such part, and then nothing is changed. It takes no memory.
     pub fn take_up(&mut self, offset: u32, serial: u32, caller: u16) -> Option<u32>
-        ensures some { IfSome result (λ pages. parts_named offset serial self.old.block ≡ part_of offset pages self.old.block ∷ []) }
+        ensures some { IfSome result (λ pages. parts_named offset serial self.old.block
+            ≡ part_of offset pages self.old.block ∷ []) }
         ensures least { IfSome result (λ pages. 1 ≤ pages) }
         ensures most { IfSome result (λ pages. pages ≤ 1024) }
         ensures none { IfNone result (parts_named offset serial self.old.block ≡ []) }

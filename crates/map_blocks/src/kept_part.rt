@@ -29,13 +29,23 @@ impl Model for KeptPart {
 
     ghost Value = { Part };
 
-    ghost view = { λ p. record { offset = p.offset; pages = p.pages; caller = p.caller; life = life_of p.life } };
+    ghost view = { λ p. record {
+      offset = p.offset;
+      pages = p.pages;
+      caller = p.caller;
+      life = life_of p.life;
+    } };
 }
 
 impl KeptPart {
     /// A part that its caller has in hand.
     pub fn new(offset: u32, pages: u32, caller: u16) -> KeptPart
-        ensures { result ≡ record { offset = offset; pages = pages; caller = caller; life = InHand caller } }
+        ensures { result ≡ record {
+          offset = offset;
+          pages = pages;
+          caller = caller;
+          life = InHand caller;
+        } }
     {
         KeptPart {
             offset,

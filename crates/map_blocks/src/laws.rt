@@ -9,7 +9,8 @@ use crate::block_side::BlockSide;
 /// `vb_alloc` gives are given to nobody else until the block is gone.
 pub fn parts_are_disjoint(side: &BlockSide)
     ensures apart { All (λ (b : Block). ShareNoPage (part_spans b)) side.now.blocks }
-    ensures inside { All (λ (b : Block). All (LiesIn (block_span side.now.pages b)) (part_spans b)) side.now.blocks }
+    ensures inside { All (λ (b : Block). All (LiesIn (block_span side.now.pages b)) (part_spans b))
+        side.now.blocks }
     ensures blocks { ShareNoPage (map (block_span side.now.pages) side.now.blocks) }
 {
     side.keeps_apart();

@@ -51,7 +51,8 @@ pub(crate) fn fragmented_starts(
     blocks: &BTreeMap<u32, KeptBlock>,
     queue: &[u32],
 ) -> Result<Vec<u32>, AllocError>
-    ensures starts { IfOk result (λ starts. starts.items ≡ filter (is_broken blocks.now.entries) queue.now) }
+    ensures starts { IfOk result (λ starts. starts.items
+        ≡ filter (is_broken blocks.now.entries) queue.now) }
     ensures memory { OnErr result (filter (is_broken blocks.now.entries) queue.now ≢ []) }
 {
     let mut starts = Vec::new(alloc);
@@ -75,7 +76,8 @@ pub(crate) fn fragmented_count(blocks: &BTreeMap<u32, KeptBlock>, queue: &[u32])
 
 /// Takes the starts of the fragmented blocks out of a queue.
 pub(crate) fn unqueue_fragmented(queue: &mut Vec<u32>, blocks: &BTreeMap<u32, KeptBlock>)
-    ensures { queue.new.items ≡ filter (λ start. not (is_broken blocks.now.entries start)) queue.old.items }
+    ensures { queue.new.items
+        ≡ filter (λ start. not (is_broken blocks.now.entries start)) queue.old.items }
 {
     queue.retain(|start| !is_fragmented_at(blocks, *start));
 }
@@ -95,7 +97,8 @@ pub(crate) fn put_block(
     start: u32,
     block: KeptBlock,
 ) -> Result<(), AllocError>
-    ensures ok { OnOk result (blocks.new.entries ≡ insert_entry nat_cmp blocks.old.entries start block) }
+    ensures ok { OnOk result
+        (blocks.new.entries ≡ insert_entry nat_cmp blocks.old.entries start block) }
     ensures err { OnErr result (blocks.new.entries ≡ blocks.old.entries) }
 {
     match blocks.insert(start, block) {

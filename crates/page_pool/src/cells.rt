@@ -33,7 +33,8 @@ impl Model for Cells {
 
     ghost view = { λ c. with_groups (pos 0) c.numbers.items c.written.items (1024 * c.frames) };
 
-    ghost invariant = { λ c. HasGroups ℤ (pos 0) (1024 * c.frames) c.numbers.items c.written.items (vec_capacity c.written) };
+    ghost invariant = { λ c. HasGroups ℤ (pos 0) (1024 * c.frames) c.numbers.items c.written.items
+        (vec_capacity c.written) };
 }
 
 /// So many words from one on are 0.

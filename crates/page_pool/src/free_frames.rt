@@ -31,7 +31,10 @@ impl Model for FreeFrames {
 impl FreeFrames {
     /// All frames of a memory. An error comes also where there are more than 2 ^ 31.
     pub(crate) fn all(alloc: Global, memory: u32) -> Result<FreeFrames, AllocError>
-        ensures { IfOk result (λ free. free ≡ record { numbers = count_from memory 0; memory = memory }) }
+        ensures { IfOk result (λ free. free ≡ record {
+          numbers = count_from memory 0;
+          memory = memory;
+        }) }
     {
         if memory > MOST_FRAMES {
             return Err(AllocError);

@@ -13,8 +13,10 @@ pub(crate) fn own_group<T: Copy>(
     group: usize,
 ) -> usize
     requires within { group < length numbers.old.items }
-    requires groups { AreGroups T blank numbers.old.items written.old.items (vec_capacity written.old) }
-    ensures { IsOwn T blank numbers.old.items written.old.items numbers.new.items written.new.items (vec_capacity written.new) group result }
+    requires groups { AreGroups T blank numbers.old.items written.old.items
+        (vec_capacity written.old) }
+    ensures { IsOwn T blank numbers.old.items written.old.items numbers.new.items written.new.items
+        (vec_capacity written.new) group result }
 {
     if numbers[group] > 0 {
         return numbers[group] as usize * GROUP;

@@ -22,7 +22,8 @@ impl Model for PageMap {
 
     ghost view = { λ m. with_groups None m.numbers.items m.written.items m.pages };
 
-    ghost invariant = { λ m. HasGroups (Option ℕ) None m.pages m.numbers.items m.written.items (vec_capacity m.written) };
+    ghost invariant = { λ m. HasGroups (Option ℕ) None m.pages m.numbers.items m.written.items
+        (vec_capacity m.written) };
 }
 
 impl PageMap {

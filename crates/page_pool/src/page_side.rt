@@ -1,5 +1,5 @@
 //! The page map: which frame each page of the space has, as the kernel's page tables tell it.
-ghost use Rattle.std.specs.Prelude.{◌≡◌, ◌*◌, ◌≤◌, ◌<◌, ◌^◌, ℕ, true, false, Some, None, pos, length, replicate, drop, count_by, slice_get, is_some, IsSome, IsTrue, ◌↔◌, ◌+◌, OnOk, OnErr, IfOk, IfErr};
+ghost use Rattle.std.specs.Prelude.{◌≡◌, ◌≤◌, ◌<◌, ◌^◌, ℕ, true, false, Some, None, length, drop, count_by, slice_get, is_some, IsSome, IsTrue, ◌↔◌, ◌+◌, OnOk, OnErr, IfOk, IfErr};
 ghost use Rattle.vm_model.specs.Space.{holds, end_of, pages_of, paint};
 ghost use Rattle.vm_model.specs.Frames.{give_frames, joined_option, frame_of};
 ghost use Rattle.page_pool.specs.FrameList.{AreShared};
@@ -44,7 +44,11 @@ impl Model for PageSide {
 
     ghost view = { λ s. record { frames = s.frames; stale = s.stale; cells = s.cells } };
 
-    ghost invariant = { λ s. IsKept (record { frames = s.frames; stale = s.stale; cells = s.cells }) s.free s.mapped };
+    ghost invariant = { λ s. IsKept (record {
+      frames = s.frames;
+      stale = s.stale;
+      cells = s.cells;
+    }) s.free s.mapped };
 }
 
 /// Gives the pages of a span the lowest free frames, by rising page.
@@ -53,7 +57,8 @@ fn give_lowest(frames: &mut PageMap, free: &mut FreeFrames, span: Span)
     requires space { length frames.old < 2 ^ 32 }
     requires enough { span.pages ≤ length free.old.numbers }
     requires shared { AreShared frames.old free.old }
-    requires unmapped { (page : ℕ) → holds span page ≡ true → slice_get frames.old page ≡ Some None }
+    requires unmapped { (page : ℕ) → holds span page ≡ true
+        → slice_get frames.old page ≡ Some None }
     ensures frames { frames.new ≡ give_frames (pages_of span) free.old.numbers frames.old }
     ensures free { free.new ≡ record free.old { numbers = drop span.pages free.old.numbers } }
     ensures shared { AreShared frames.new free.new }
@@ -68,7 +73,8 @@ fn take_back(frames: &mut PageMap, free: &mut FreeFrames, span: Span)
     requires inside { end_of span ≤ length frames.old }
     requires space { length frames.old < 2 ^ 32 }
     requires shared { AreShared frames.old free.old }
-    requires mapped { (page : ℕ) → holds span page ≡ true → IsSome (joined_option (slice_get frames.old page)) }
+    requires mapped { (page : ℕ) → holds span page ≡ true
+        → IsSome (joined_option (slice_get frames.old page)) }
     ensures frames { frames.new ≡ paint (holds span) None frames.old }
     ensures shared { AreShared frames.new free.new }
     ensures memory { free.new.memory ≡ free.old.memory }
@@ -111,7 +117,8 @@ impl PageSide {
     pub fn is_bare(&self, span: Span) -> bool
         ensures inside { IsTrue result → end_of span ≤ length self.now.frames }
         ensures bare { IsTrue result → (page : ℕ) → holds span page ≡ true → IsBare self.now page }
-        ensures only { end_of span ≤ length self.now.frames → ((page : ℕ) → holds span page ≡ true → IsBare self.now page) → IsTrue result }
+        ensures only { end_of span ≤ length self.now.frames
+            → ((page : ℕ) → holds span page ≡ true → IsBare self.now page) → IsTrue result }
     {
         if !self.has(span) {
             return false;
@@ -128,8 +135,10 @@ impl PageSide {
     /// no memory.
     pub fn is_mapped(&self, span: Span) -> bool
         ensures inside { IsTrue result → end_of span ≤ length self.now.frames }
-        ensures mapped { IsTrue result → (page : ℕ) → holds span page ≡ true → IsMapped self.now page }
-        ensures only { end_of span ≤ length self.now.frames → ((page : ℕ) → holds span page ≡ true → IsMapped self.now page) → IsTrue result }
+        ensures mapped { IsTrue result → (page : ℕ) → holds span page ≡ true
+            → IsMapped self.now page }
+        ensures only { end_of span ≤ length self.now.frames
+            → ((page : ℕ) → holds span page ≡ true → IsMapped self.now page) → IsTrue result }
     {
         if !self.has(span) {
             return false;
@@ -150,7 +159,10 @@ impl PageSide {
         requires bare { (page : ℕ) → holds span page ≡ true → IsBare self.old page }
         ensures mapped { OnOk result (self.new ≡ with_mapped span self.old) }
         ensures enough { OnOk result (span.pages ≤ length (free_of self.old)) }
-        ensures refused { IfErr result (λ refusal. refusal ≡ record { asked = span.pages; free = length (free_of self.old) }) }
+        ensures refused { IfErr result (λ refusal. refusal ≡ record {
+          asked = span.pages;
+          free = length (free_of self.old);
+        }) }
         ensures too_few { OnErr result (length (free_of self.old) < span.pages) }
         ensures err { OnErr result (self.new ≡ self.old) }
     {

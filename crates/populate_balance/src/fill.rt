@@ -43,7 +43,8 @@ fn lowest_unpopulated(side: &PcpuSide, chunk: u32) -> Option<UnpopulatedPage>
 /// and then by number, that has one. None comes exactly where at least 4 populated pages are empty, or no page is
 /// unpopulated. It takes no memory.
 pub fn next_page(side: &PcpuSide) -> Option<UnpopulatedPage>
-    ensures { option_map told_page result ≡ option_map placed_page (page_to_fill (setup_of side.now) side.now.chunks) }
+    ensures { option_map told_page result ≡ option_map placed_page
+        (page_to_fill (setup_of side.now) side.now.chunks) }
 {
     if side.empty_pages() >= EMPTY_PAGES {
         return None;

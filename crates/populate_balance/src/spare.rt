@@ -21,7 +21,8 @@ pub struct SpareChunk {
 /// Takes out the second lowest-numbered of the wholly free chunks; the kernel keeps the first of its free list too. None
 /// comes exactly where fewer than two are wholly free, and then nothing is changed. It takes no memory.
 pub fn take_spare_chunk(side: &mut PcpuSide) -> Option<SpareChunk>
-    ensures spare { option_map told_of result ≡ option_map (spare_in (setup_of side.old)) (spare_chunk side.old.chunks) }
+    ensures spare { option_map told_of result ≡ option_map (spare_in (setup_of side.old))
+        (spare_chunk side.old.chunks) }
     ensures gone { IfSome result (λ spare. side.new ≡ without_chunk spare.chunk side.old) }
     ensures unchanged { IfNone result (side.new ≡ side.old) }
 {

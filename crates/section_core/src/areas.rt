@@ -29,7 +29,8 @@ fn place_for(aim: Aim, span: Span) -> Place
     ensures sized { IsSized result }
     ensures empty_handed { IsEmptyHanded result }
     ensures whole { (c : Setup) → IsWhole c (place_of result nothing) }
-    ensures at_hand { (answered : ℕ) (calls : List Call) → answered < length calls → HasCall result answered calls }
+    ensures at_hand { (answered : ℕ) (calls : List Call) → answered < length calls
+        → HasCall result answered calls }
 {
     match aim {
         Aim::Area(kind) => Place::MappingArea(span, kind),
@@ -40,7 +41,8 @@ fn place_for(aim: Aim, span: Span) -> Place
 /// The first search of a call, which carves the lowest fit, or goes on to a purge.
 pub(crate) fn find(local: &mut Local, free: &mut FreeSide, search: Search) -> Result<(), AllocError>
     requires { CanMake (place.Finding search) local.old (free_region free.old) }
-    ensures ok { OnOk result (IsMoved local.old (free_region free.old) local.new (free_region free.new)) }
+    ensures ok { OnOk result (IsMoved local.old (free_region free.old) local.new
+        (free_region free.new)) }
     ensures spare { free.new.spare ≡ free.old.spare }
     ensures memory { OnErr result (TakesMemory local.old (free_region free.old)) }
     ensures err { OnErr result ((local.new ≡ local.old) × (free.new ≡ free.old)) }
@@ -62,7 +64,8 @@ pub(crate) fn find_again(
     search: Search,
 ) -> Result<(), AllocError>
     requires { CanMake (place.FindingAgain search) local.old (free_region free.old) }
-    ensures ok { OnOk result (IsMoved local.old (free_region free.old) local.new (free_region free.new)) }
+    ensures ok { OnOk result (IsMoved local.old (free_region free.old) local.new
+        (free_region free.new)) }
     ensures spare { free.new.spare ≡ free.old.spare }
     ensures memory { OnErr result (TakesMemory local.old (free_region free.old)) }
     ensures err { OnErr result ((local.new ≡ local.old) × (free.new ≡ free.old)) }
@@ -106,7 +109,8 @@ pub(crate) fn drop_span(
     span: Span,
 ) -> Result<(), AllocError>
     requires { CanMake (place.Dropping span) local.old (free_region free.old) }
-    ensures ok { OnOk result (IsMoved local.old (free_region free.old) local.new (free_region free.new)) }
+    ensures ok { OnOk result (IsMoved local.old (free_region free.old) local.new
+        (free_region free.new)) }
     ensures spare { free.new.spare ≡ free.old.spare }
     ensures memory { OnErr result (TakesMemory local.old (free_region free.old)) }
     ensures err { OnErr result ((local.new ≡ local.old) × (free.new ≡ free.old)) }
@@ -124,7 +128,8 @@ pub(crate) fn settle_area(
     kind: AreaKind,
 ) -> Result<(), AllocError>
     requires { CanMake (place.SettlingArea span kind) local.old (areas_region busy.old) }
-    ensures ok { OnOk result (IsMoved local.old (areas_region busy.old) local.new (areas_region busy.new)) }
+    ensures ok { OnOk result (IsMoved local.old (areas_region busy.old) local.new
+        (areas_region busy.new)) }
     ensures memory { OnErr result (TakesMemory local.old (areas_region busy.old)) }
     ensures err { OnErr result ((local.new ≡ local.old) × (busy.new ≡ busy.old)) }
 {
@@ -169,7 +174,8 @@ pub(crate) fn wait(
     after: After,
 ) -> Result<(), AllocError>
     requires { CanMake (place.Waiting span after) local.old (WaitingSpans lazy.old) }
-    ensures ok { OnOk result (IsMoved local.old (WaitingSpans lazy.old) local.new (WaitingSpans lazy.new)) }
+    ensures ok { OnOk result (IsMoved local.old (WaitingSpans lazy.old) local.new
+        (WaitingSpans lazy.new)) }
     ensures memory { OnErr result (TakesMemory local.old (WaitingSpans lazy.old)) }
     ensures err { OnErr result ((local.new ≡ local.old) × (lazy.new ≡ lazy.old)) }
 {

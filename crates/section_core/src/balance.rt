@@ -1,5 +1,4 @@
 //! The sections of a balance: spare chunks are given up, and then pages are filled.
-ghost use Rattle.std.specs.Prelude.{◌≡◌};
 ghost use Rattle.callers.specs.declared.place.Place.TheVariants as place;
 ghost use Rattle.section_core.specs.RegionSides.{pages_region, percpu_region};
 ghost use Rattle.section_core.specs.MadeSections.{IsMoved};

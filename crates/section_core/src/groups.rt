@@ -27,7 +27,8 @@ pub(crate) fn find_groups(
     wanted: NewChunk,
 ) -> Result<(), AllocError>
     requires { CanMake (place.FindingGroups wanted) local.old (free_region free.old) }
-    ensures ok { OnOk result (IsMoved local.old (free_region free.old) local.new (free_region free.new)) }
+    ensures ok { OnOk result (IsMoved local.old (free_region free.old) local.new
+        (free_region free.new)) }
     ensures spare { free.new.spare ≤ free.old.spare }
     ensures memory { OnErr result (TakesMemory local.old (free_region free.old)) }
     ensures err { OnErr result ((local.new ≡ local.old) × (free.new ≡ free.old)) }
@@ -53,7 +54,8 @@ pub(crate) fn find_groups_again(
     wanted: NewChunk,
 ) -> Result<(), AllocError>
     requires { CanMake (place.FindingGroupsAgain wanted) local.old (free_region free.old) }
-    ensures ok { OnOk result (IsMoved local.old (free_region free.old) local.new (free_region free.new)) }
+    ensures ok { OnOk result (IsMoved local.old (free_region free.old) local.new
+        (free_region free.new)) }
     ensures spare { free.new.spare ≤ free.old.spare }
     ensures memory { OnErr result (TakesMemory local.old (free_region free.old)) }
     ensures err { OnErr result ((local.new ≡ local.old) × (free.new ≡ free.old)) }
@@ -136,7 +138,8 @@ pub(crate) fn settle_groups(
     wanted: NewChunk,
 ) -> Result<(), AllocError>
     requires { CanMake (place.SettlingGroups base wanted) local.old (areas_region busy.old) }
-    ensures ok { OnOk result (IsMoved local.old (areas_region busy.old) local.new (areas_region busy.new)) }
+    ensures ok { OnOk result (IsMoved local.old (areas_region busy.old) local.new
+        (areas_region busy.new)) }
     ensures memory { OnErr result (TakesMemory local.old (areas_region busy.old)) }
     ensures err { OnErr result ((local.new ≡ local.old) × (busy.new ≡ busy.old)) }
 {
@@ -165,7 +168,8 @@ pub(crate) fn wait_for_groups(
     base: u32,
 ) -> Result<(), AllocError>
     requires { CanMake (place.WaitingForGroups base) local.old (WaitingSpans lazy.old) }
-    ensures ok { OnOk result (IsMoved local.old (WaitingSpans lazy.old) local.new (WaitingSpans lazy.new)) }
+    ensures ok { OnOk result (IsMoved local.old (WaitingSpans lazy.old) local.new
+        (WaitingSpans lazy.new)) }
     ensures memory { OnErr result (TakesMemory local.old (WaitingSpans lazy.old)) }
     ensures err { OnErr result ((local.new ≡ local.old) × (lazy.new ≡ lazy.old)) }
 {

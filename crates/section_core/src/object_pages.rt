@@ -1,5 +1,4 @@
 //! The sections over the pages and words of per-CPU objects.
-ghost use Rattle.std.specs.Prelude.{◌≡◌};
 ghost use Rattle.callers.specs.declared.place.Place.TheVariants as place;
 ghost use Rattle.section_core.specs.RegionSides.{pages_region};
 ghost use Rattle.section_core.specs.MadeSections.{IsMoved};
@@ -46,7 +45,8 @@ pub(crate) fn add_word(
     index: u32,
     amount: i32,
 )
-    requires { CanMake (place.Adding object serial cpu index amount) local.old (pages_region pages.old) }
+    requires { CanMake (place.Adding object serial cpu index amount) local.old
+        (pages_region pages.old) }
     ensures { IsMoved local.old (pages_region pages.old) local.new (pages_region pages.new) }
 {
     let _named = serial;

@@ -37,7 +37,8 @@ pub(crate) fn add_chunk(
     wanted: NewChunk,
 ) -> Result<(), AllocError>
     requires { CanMake (place.AddingChunk base wanted) local.old (percpu_region percpu.old) }
-    ensures ok { OnOk result (IsMoved local.old (percpu_region percpu.old) local.new (percpu_region percpu.new)) }
+    ensures ok { OnOk result (IsMoved local.old (percpu_region percpu.old) local.new
+        (percpu_region percpu.new)) }
     ensures memory { OnErr result (TakesMemory local.old (percpu_region percpu.old)) }
     ensures local { OnErr result (local.new ≡ local.old) }
     ensures region { OnErr result (percpu_region percpu.new ≡ percpu_region percpu.old) }

@@ -37,7 +37,8 @@ pub(crate) fn settle_block(
     pages: u32,
 ) -> Result<(), AllocError>
     requires { CanMake (place.SettlingBlock span cpu pages) local.old (areas_region busy.old) }
-    ensures ok { OnOk result (IsMoved local.old (areas_region busy.old) local.new (areas_region busy.new)) }
+    ensures ok { OnOk result (IsMoved local.old (areas_region busy.old) local.new
+        (areas_region busy.new)) }
     ensures memory { OnErr result (TakesMemory local.old (areas_region busy.old)) }
     ensures err { OnErr result ((local.new ≡ local.old) × (busy.new ≡ busy.old)) }
 {
@@ -59,7 +60,8 @@ pub(crate) fn add_block(
     pages: u32,
 ) -> Result<(), AllocError>
     requires { CanMake (place.AddingBlock start cpu pages) local.old (blocks_region blocks.old) }
-    ensures ok { OnOk result (IsMoved local.old (blocks_region blocks.old) local.new (blocks_region blocks.new)) }
+    ensures ok { OnOk result (IsMoved local.old (blocks_region blocks.old) local.new
+        (blocks_region blocks.new)) }
     ensures memory { OnErr result (TakesMemory local.old (blocks_region blocks.old)) }
     ensures err { OnErr result ((local.new ≡ local.old) × (blocks.new ≡ blocks.old)) }
 {

@@ -47,8 +47,10 @@ pub(crate) fn take_fragmented(
     extra: Option<Span>,
     after: After,
 ) -> Result<(), AllocError>
-    requires { CanMake (place.PurgeFragmenting cpu extra after) local.old (blocks_region blocks.old) }
-    ensures ok { OnOk result (IsMoved local.old (blocks_region blocks.old) local.new (blocks_region blocks.new)) }
+    requires { CanMake (place.PurgeFragmenting cpu extra after) local.old
+        (blocks_region blocks.old) }
+    ensures ok { OnOk result (IsMoved local.old (blocks_region blocks.old) local.new
+        (blocks_region blocks.new)) }
     ensures memory { OnErr result (TakesMemory local.old (blocks_region blocks.old)) }
     ensures err { OnErr result ((local.new ≡ local.old) × (blocks.new ≡ blocks.old)) }
 {
@@ -77,7 +79,8 @@ pub(crate) fn wait_for_blocks(
     after: After,
 ) -> Result<(), AllocError>
     requires { CanMake (place.PurgeWaiting extra after) local.old (WaitingSpans lazy.old) }
-    ensures ok { OnOk result (IsMoved local.old (WaitingSpans lazy.old) local.new (WaitingSpans lazy.new)) }
+    ensures ok { OnOk result (IsMoved local.old (WaitingSpans lazy.old) local.new
+        (WaitingSpans lazy.new)) }
     ensures memory { OnErr result (TakesMemory local.old (WaitingSpans lazy.old)) }
     ensures err { OnErr result ((local.new ≡ local.old) × (lazy.new ≡ lazy.old)) }
 {
@@ -111,7 +114,8 @@ pub(crate) fn return_spans(
     after: After,
 ) -> Result<(), AllocError>
     requires { CanMake (place.PurgeReturning after) local.old (free_region free.old) }
-    ensures ok { OnOk result (IsMoved local.old (free_region free.old) local.new (free_region free.new)) }
+    ensures ok { OnOk result (IsMoved local.old (free_region free.old) local.new
+        (free_region free.new)) }
     ensures spare { free.new.spare ≡ free.old.spare }
     ensures memory { OnErr result (TakesMemory local.old (free_region free.old)) }
     ensures err { OnErr result ((local.new ≡ local.old) × (free.new ≡ free.old)) }

@@ -105,8 +105,10 @@ impl Region {
 
     /// The blocks of a processor, of the region that has them.
     pub fn blocks(&self) -> &BlockSide
-        requires { (cpu : ℕ) × (pages : ℕ) × (blocks : List Block) × (next : ℕ) × (self.now ≡ CpuBlocks cpu pages blocks next) }
-        ensures { self.now ≡ CpuBlocks result.now.cpu result.now.pages result.now.blocks result.now.next }
+        requires { (cpu : ℕ) × (pages : ℕ) × (blocks : List Block) × (next : ℕ)
+            × (self.now ≡ CpuBlocks cpu pages blocks next) }
+        ensures { self.now ≡ CpuBlocks result.now.cpu result.now.pages result.now.blocks
+            result.now.next }
     {
         match &self.side {
             Side::Blocks(blocks) => blocks,
@@ -116,7 +118,8 @@ impl Region {
 
     /// The page map, of the region that has it.
     pub fn pages(&self) -> &PageSide
-        requires { (frames : List (Option ℕ)) × (stale : List Bool) × (cells : List ℤ) × (self.now ≡ parts.Pages frames stale cells) }
+        requires { (frames : List (Option ℕ)) × (stale : List Bool) × (cells : List ℤ)
+            × (self.now ≡ parts.Pages frames stale cells) }
         ensures { self.now ≡ parts.Pages result.now.frames result.now.stale result.now.cells }
     {
         match &self.side {
@@ -127,8 +130,10 @@ impl Region {
 
     /// The per-CPU chunks, of the region that has them.
     pub fn percpu(&self) -> &PcpuSide
-        requires { (chunks : List Chunk) × (next_object : ℕ) × (next_chunk : ℕ) × (room : ℕ) × (self.now ≡ parts.Percpu chunks next_object next_chunk room) }
-        ensures { self.now ≡ parts.Percpu result.now.chunks result.now.next_object result.now.next_chunk result.now.room }
+        requires { (chunks : List Chunk) × (next_object : ℕ) × (next_chunk : ℕ) × (room : ℕ)
+            × (self.now ≡ parts.Percpu chunks next_object next_chunk room) }
+        ensures { self.now ≡ parts.Percpu result.now.chunks result.now.next_object
+            result.now.next_chunk result.now.room }
     {
         match &self.side {
             Side::Percpu(percpu) => percpu,
@@ -140,7 +145,9 @@ impl Region {
 /// Puts the regions of the processors' blocks behind those that are there.
 fn push_blocks(alloc: Global, config: &Config, regions: &mut Vec<Region>) -> Result<(), AllocError>
     requires { IsSetup (setup_of config.now) }
-    ensures { OnOk result (regions.new.items ≡ regions.old.items ++ map (cpu_blocks (at_first (setup_of config.now) 0) config.now.block_pages) (count_from (cpus (setup_of config.now)) 0)) }
+    ensures { OnOk result (regions.new.items ≡ regions.old.items ++ map
+        (cpu_blocks (at_first (setup_of config.now) 0) config.now.block_pages)
+        (count_from (cpus (setup_of config.now)) 0)) }
 {
     for cpu in 0..config.layout.cpus() {
         let blocks = BlockSide::new(alloc, cpu, config.block_pages);
@@ -153,7 +160,8 @@ fn push_blocks(alloc: Global, config: &Config, regions: &mut Vec<Region>) -> Res
 /// objects.
 pub fn first_regions(alloc: Global, config: &Config, room: u32) -> Result<Vec<Region>, AllocError>
     requires { IsSetup (setup_of config.now) }
-    ensures { IfOk result (λ regions. regions.items ≡ regions_of (setup_of config.now) (at_first (setup_of config.now) room)) }
+    ensures { IfOk result (λ regions. regions.items ≡ regions_of (setup_of config.now)
+        (at_first (setup_of config.now) room)) }
 {
     let free = FreeSide::whole(alloc, config.space)?;
     let pages = PageSide::new(alloc, config.space, config.frames)?;

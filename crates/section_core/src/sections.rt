@@ -137,7 +137,8 @@ fn over_alloc_turn(local: &mut Local, turn: &mut Option<u16>, place: Place)
 fn over_free(local: &mut Local, free: &mut FreeSide, place: Place) -> Result<(), AllocError>
     requires row { is_row (side.Free free.old) place ≡ true }
     requires can { CanMake place local.old (free_region free.old) }
-    ensures ok { OnOk result (IsMoved local.old (free_region free.old) local.new (free_region free.new)) }
+    ensures ok { OnOk result (IsMoved local.old (free_region free.old) local.new
+        (free_region free.new)) }
     ensures memory { OnErr result (TakesMemory local.old (free_region free.old)) }
     ensures local { OnErr result (local.new ≡ local.old) }
     ensures region { OnErr result (free_region free.new ≡ free_region free.old) }
@@ -157,7 +158,8 @@ fn over_free(local: &mut Local, free: &mut FreeSide, place: Place) -> Result<(),
 fn over_areas(local: &mut Local, busy: &mut BusySide, place: Place) -> Result<(), AllocError>
     requires row { is_row (side.Busy busy.old) place ≡ true }
     requires can { CanMake place local.old (areas_region busy.old) }
-    ensures ok { OnOk result (IsMoved local.old (areas_region busy.old) local.new (areas_region busy.new)) }
+    ensures ok { OnOk result (IsMoved local.old (areas_region busy.old) local.new
+        (areas_region busy.new)) }
     ensures memory { OnErr result (TakesMemory local.old (areas_region busy.old)) }
     ensures local { OnErr result (local.new ≡ local.old) }
     ensures region { OnErr result (areas_region busy.new ≡ areas_region busy.old) }
@@ -178,7 +180,8 @@ fn over_areas(local: &mut Local, busy: &mut BusySide, place: Place) -> Result<()
 fn over_waiting(local: &mut Local, lazy: &mut LazySide, place: Place) -> Result<(), AllocError>
     requires row { is_row (side.Lazy lazy.old) place ≡ true }
     requires can { CanMake place local.old (WaitingSpans lazy.old) }
-    ensures ok { OnOk result (IsMoved local.old (WaitingSpans lazy.old) local.new (WaitingSpans lazy.new)) }
+    ensures ok { OnOk result (IsMoved local.old (WaitingSpans lazy.old) local.new
+        (WaitingSpans lazy.new)) }
     ensures memory { OnErr result (TakesMemory local.old (WaitingSpans lazy.old)) }
     ensures local { OnErr result (local.new ≡ local.old) }
     ensures region { OnErr result (WaitingSpans lazy.new ≡ WaitingSpans lazy.old) }
@@ -233,7 +236,8 @@ fn over_pages(local: &mut Local, pages: &mut PageSide, place: Place)
 fn over_chunks(local: &mut Local, percpu: &mut PcpuSide, place: Place) -> Result<(), AllocError>
     requires row { is_row (side.Percpu percpu.old) place ≡ true }
     requires can { CanMake place local.old (percpu_region percpu.old) }
-    ensures ok { OnOk result (IsMoved local.old (percpu_region percpu.old) local.new (percpu_region percpu.new)) }
+    ensures ok { OnOk result (IsMoved local.old (percpu_region percpu.old) local.new
+        (percpu_region percpu.new)) }
     ensures memory { OnErr result (TakesMemory local.old (percpu_region percpu.old)) }
     ensures local { OnErr result (local.new ≡ local.old) }
     ensures region { OnErr result (percpu_region percpu.new ≡ percpu_region percpu.old) }
@@ -261,7 +265,8 @@ fn over_chunks(local: &mut Local, percpu: &mut PcpuSide, place: Place) -> Result
 fn over_blocks(local: &mut Local, blocks: &mut BlockSide, place: Place) -> Result<(), AllocError>
     requires row { is_row (side.Blocks blocks.old) place ≡ true }
     requires can { CanMake place local.old (blocks_region blocks.old) }
-    ensures ok { OnOk result (IsMoved local.old (blocks_region blocks.old) local.new (blocks_region blocks.new)) }
+    ensures ok { OnOk result (IsMoved local.old (blocks_region blocks.old) local.new
+        (blocks_region blocks.new)) }
     ensures memory { OnErr result (TakesMemory local.old (blocks_region blocks.old)) }
     ensures local { OnErr result (local.new ≡ local.old) }
     ensures region { OnErr result (blocks_region blocks.new ≡ blocks_region blocks.old) }

@@ -1,5 +1,4 @@
 //! The sections over the alloc turn, the kernel's `pcpu_alloc_mutex`.
-ghost use Rattle.std.specs.Prelude.{◌≡◌};
 ghost use Rattle.callers.specs.declared.place.Place.TheVariants as place;
 ghost use Rattle.vm_model.specs.Parts.{AllocTurn};
 ghost use Rattle.section_core.specs.MadeSections.{IsMoved};

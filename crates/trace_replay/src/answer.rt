@@ -1,5 +1,5 @@
 //! What is written for the bytes of a trace.
-ghost use Rattle.std.specs.Prelude.{◌≡◌, ◌≤◌, ◌<◌, ℕ, List, IfOk, OnOk, length};
+ghost use Rattle.std.specs.Prelude.{◌≡◌, ◌≤◌, ◌<◌, IfOk, length};
 ghost use Rattle.kernel_steps.specs.Kernels.{tables_for};
 ghost use Rattle.trace_text.specs.Reading.{Reading};
 ghost use Rattle.report_text.specs.Report.{fault_line};
@@ -26,7 +26,9 @@ pub struct Outcome {
 /// The replies and tables of a trace, in which the rows that an audit alone reads stand with one only.
 fn tables_of_trace(alloc: Global, trace: Trace, audit: bool) -> Result<Tables, AllocError>
     requires { (reading : Reading) × IsRuledTrace reading × Tells trace reading }
-    ensures { IfOk result (λ tables. (reading : Reading) → IsRuledTrace reading → Tells trace reading → tables ≡ tables_for audit (setup reading) (history_of_trace reading)) }
+    ensures { IfOk result (λ tables. (reading : Reading) → IsRuledTrace reading
+        → Tells trace reading
+        → tables ≡ tables_for audit (setup reading) (history_of_trace reading)) }
 {
     let Trace {
         config,
@@ -43,7 +45,8 @@ fn tables_of_trace(alloc: Global, trace: Trace, audit: bool) -> Result<Tables, A
 /// The report of a trace.
 fn report(alloc: Global, mode: Mode, trace: Trace) -> Result<Outcome, AllocError>
     requires { (reading : Reading) × IsRuledTrace reading × Tells trace reading }
-    ensures { IfOk result (λ outcome. (reading : Reading) → IsRuledTrace reading → Tells trace reading → Reports (IsReport mode) reading outcome.status outcome.text) }
+    ensures { IfOk result (λ outcome. (reading : Reading) → IsRuledTrace reading
+        → Tells trace reading → Reports (IsReport mode) reading outcome.status outcome.text) }
 {
     let counters = counters_of_trace(alloc, &trace)?;
     let audit = mode.audits();
@@ -57,7 +60,8 @@ fn report(alloc: Global, mode: Mode, trace: Trace) -> Result<Outcome, AllocError
 
 /// A fault line.
 pub fn fault(alloc: Global, status: Status, fault: &Fault) -> Result<Outcome, AllocError>
-    ensures { IfOk result (λ outcome. (outcome.status ≡ status) × (outcome.text ≡ fault_line fault.now)) }
+    ensures { IfOk result (λ outcome. (outcome.status ≡ status)
+        × (outcome.text ≡ fault_line fault.now)) }
 {
     let text = write_fault(alloc, fault)?;
     Ok(Outcome { status, text })
@@ -66,7 +70,8 @@ pub fn fault(alloc: Global, status: Status, fault: &Fault) -> Result<Outcome, Al
 /// The answer to all bytes of a source.
 pub fn answer(alloc: Global, mode: Mode, bytes: &[u8]) -> Result<Outcome, AllocError>
     requires { length bytes.now ≤ most_bytes }
-    ensures { IfOk result (λ outcome. Writes (IsReport mode) bytes.now outcome.status outcome.text) }
+    ensures { IfOk result (λ outcome. Writes
+        (IsReport mode) bytes.now outcome.status outcome.text) }
 {
     match read_trace(alloc, bytes) {
         Ok(trace) => report(alloc, mode, trace),
@@ -82,14 +87,16 @@ pub fn answer(alloc: Global, mode: Mode, bytes: &[u8]) -> Result<Outcome, AllocE
 
 /// The answer to a source with too many bytes.
 pub fn too_long(alloc: Global) -> Result<Outcome, AllocError>
-    ensures { IfOk result (λ outcome. (outcome.status ≡ Status.TooLong) × (outcome.text ≡ fault_line Fault.Length)) }
+    ensures { IfOk result (λ outcome. (outcome.status ≡ Status.TooLong)
+        × (outcome.text ≡ fault_line Fault.Length)) }
 {
     fault(alloc, Status::TooLong, &Fault::Length)
 }
 
 /// The answer to words that name no command.
 pub fn usage(alloc: Global) -> Result<Outcome, AllocError>
-    ensures { IfOk result (λ outcome. (outcome.status ≡ Status.Usage) × (outcome.text ≡ fault_line Fault.Usage)) }
+    ensures { IfOk result (λ outcome. (outcome.status ≡ Status.Usage)
+        × (outcome.text ≡ fault_line Fault.Usage)) }
 {
     fault(alloc, Status::Usage, &Fault::Usage)
 }

@@ -26,9 +26,12 @@ use trace_maker::make_trace;
 
 /// The answer to all that a source gives.
 fn outcome_of<S: Source>(alloc: Global, mode: Mode, source: &mut S) -> Result<Outcome, Cut>
-    ensures made { IfOk result (λ o. IsMadeOf (IsReport mode) (S.left source.old) (S.left source.new) o.status o.text) }
-    ensures failed { result ≡ Err Cut.Failed → RoseByOne (S.faults source.old) (S.faults source.new) }
-    ensures cut_short { result ≡ Err Cut.Failed → IsCutShort (S.left source.old) (S.left source.new) }
+    ensures made { IfOk result (λ o. IsMadeOf (IsReport mode) (S.left source.old)
+        (S.left source.new) o.status o.text) }
+    ensures failed { result ≡ Err Cut.Failed
+        → RoseByOne (S.faults source.old) (S.faults source.new) }
+    ensures cut_short { result ≡ Err Cut.Failed
+        → IsCutShort (S.left source.old) (S.left source.new) }
     ensures not_cut { result ≢ Err Cut.TooLong }
     ensures no_fault { result ≢ Err Cut.Failed → S.faults source.new ≡ S.faults source.old }
 {
@@ -43,7 +46,8 @@ fn outcome_of<S: Source>(alloc: Global, mode: Mode, source: &mut S) -> Result<Ou
 /// Writes an outcome's text.
 pub(crate) fn tell<K: Sink>(sink: &mut K, outcome: Outcome) -> Status
     requires { HasRoomOf outcome.text (K.room sink.old) }
-    ensures told { IsTold outcome.status outcome.text result (K.taken sink.old) (K.taken sink.new) (K.faults sink.old) (K.faults sink.new) }
+    ensures told { IsTold outcome.status outcome.text result (K.taken sink.old) (K.taken sink.new)
+        (K.faults sink.old) (K.faults sink.new) }
     ensures no_fault { result ≢ Status.WriteFault → K.faults sink.new ≡ K.faults sink.old }
 {
     match send(sink, outcome.text.as_slice()) {
@@ -56,8 +60,10 @@ pub(crate) fn tell<K: Sink>(sink: &mut K, outcome: Outcome) -> Status
 /// before its first byte is written, and the first failed read or write ends the command.
 pub fn replay<S: Source, K: Sink>(alloc: Global, mode: Mode, source: &mut S, sink: &mut K) -> Status
     requires { HasRoomFor (IsReport mode) (S.left source.old) (K.room sink.old) }
-    ensures replays { Replays (IsReport mode) (S.left source.old) (S.left source.new) (K.taken sink.old) (K.taken sink.new) result }
-    ensures faults { TellsFaults result (S.faults source.old) (S.faults source.new) (K.faults sink.old) (K.faults sink.new) }
+    ensures replays { Replays (IsReport mode) (S.left source.old) (S.left source.new)
+        (K.taken sink.old) (K.taken sink.new) result }
+    ensures faults { TellsFaults result (S.faults source.old) (S.faults source.new)
+        (K.faults sink.old) (K.faults sink.new) }
     ensures silent { IsSilent result → K.taken sink.new ≡ K.taken sink.old }
     ensures usage { result ≢ Status.Usage }
 {
@@ -73,9 +79,11 @@ pub fn make<K: Sink>(alloc: Global, start: u32, calls: u32, sink: &mut K) -> Sta
     requires start { start < 2 ^ 31 }
     requires calls { calls ≤ 100000 }
     requires room { HasRoomOf (generated start calls) (K.room sink.old) }
-    ensures sends { Sends Status.Done (generated start calls) (K.taken sink.old) (K.taken sink.new) result }
+    ensures sends { Sends Status.Done (generated start calls) (K.taken sink.old)
+        (K.taken sink.new) result }
     ensures silent { IsSilent result → K.taken sink.new ≡ K.taken sink.old }
-    ensures write_fault { result ≡ Status.WriteFault → RoseByOne (K.faults sink.old) (K.faults sink.new) }
+    ensures write_fault { result ≡ Status.WriteFault
+        → RoseByOne (K.faults sink.old) (K.faults sink.new) }
     ensures failed_write { result ≢ Status.WriteFault → K.faults sink.new ≡ K.faults sink.old }
 {
     match make_trace(alloc, start, calls) {
@@ -90,9 +98,11 @@ pub fn make<K: Sink>(alloc: Global, start: u32, calls: u32, sink: &mut K) -> Sta
 /// Writes that the words name no command.
 fn refuse<K: Sink>(alloc: Global, sink: &mut K) -> Status
     requires { HasRoomOf (fault_line Fault.Usage) (K.room sink.old) }
-    ensures sends { Sends Status.Usage (fault_line Fault.Usage) (K.taken sink.old) (K.taken sink.new) result }
+    ensures sends { Sends Status.Usage (fault_line Fault.Usage) (K.taken sink.old)
+        (K.taken sink.new) result }
     ensures silent { IsSilent result → K.taken sink.new ≡ K.taken sink.old }
-    ensures write_fault { result ≡ Status.WriteFault → RoseByOne (K.faults sink.old) (K.faults sink.new) }
+    ensures write_fault { result ≡ Status.WriteFault
+        → RoseByOne (K.faults sink.old) (K.faults sink.new) }
     ensures failed_write { result ≢ Status.WriteFault → K.faults sink.new ≡ K.faults sink.old }
 {
     match usage(alloc) {
@@ -120,25 +130,33 @@ pub fn run<S: Source, K: Sink, G: Gate + Sync, R: Threads + Wait + Sync>(
     gate: &G,
 ) -> Status
     // The sink has room for what the named command may write.
-    requires room { (mode : Mode) → Names words.now (Command.Replay mode) → HasRoomFor (IsReport mode) (S.left source.old) (K.room sink.old) }
-    requires live_room { Names words.now Command.Live → HasRoomFor IsLiveReport (S.left source.old) (K.room sink.old) }
-    requires make_room { (start calls : ℕ) → Names words.now (Command.Make start calls) → HasRoomOf (generated start calls) (K.room sink.old) }
-    requires usage_room { NamesNone words.now → HasRoomOf (fault_line Fault.Usage) (K.room sink.old) }
+    requires room { (mode : Mode) → Names words.now (Command.Replay mode)
+        → HasRoomFor (IsReport mode) (S.left source.old) (K.room sink.old) }
+    requires live_room { Names words.now Command.Live
+        → HasRoomFor IsLiveReport (S.left source.old) (K.room sink.old) }
+    requires make_room { (start calls : ℕ) → Names words.now (Command.Make start calls)
+        → HasRoomOf (generated start calls) (K.room sink.old) }
+    requires usage_room { NamesNone words.now
+        → HasRoomOf (fault_line Fault.Usage) (K.room sink.old) }
 
     // What each command does; `replay`, `live` and `make` say the same of themselves.
     ensures replays { (mode : Mode) → Names words.now (Command.Replay mode)
-        → Replays (IsReport mode) (S.left source.old) (S.left source.new) (K.taken sink.old) (K.taken sink.new) result }
+        → Replays (IsReport mode) (S.left source.old) (S.left source.new) (K.taken sink.old)
+        (K.taken sink.new) result }
     ensures lives { Names words.now Command.Live
-        → Replays IsLiveReport (S.left source.old) (S.left source.new) (K.taken sink.old) (K.taken sink.new) result }
+        → Replays IsLiveReport (S.left source.old) (S.left source.new) (K.taken sink.old)
+        (K.taken sink.new) result }
     ensures makes { (start calls : ℕ) → Names words.now (Command.Make start calls)
         → Sends Status.Done (generated start calls) (K.taken sink.old) (K.taken sink.new) result }
-    ensures refuses { NamesNone words.now → Sends Status.Usage (fault_line Fault.Usage) (K.taken sink.old) (K.taken sink.new) result }
+    ensures refuses { NamesNone words.now
+        → Sends Status.Usage (fault_line Fault.Usage) (K.taken sink.old) (K.taken sink.new) result }
     ensures usage { result ≡ Status.Usage → NamesNone words.now }
 
     // Only a replay and a live run read.
     ensures unread { ReadsNothing words.now → S.left source.new ≡ S.left source.old }
     ensures silent { IsSilent result → K.taken sink.new ≡ K.taken sink.old }
-    ensures faults { TellsFaults result (S.faults source.old) (S.faults source.new) (K.faults sink.old) (K.faults sink.new) }
+    ensures faults { TellsFaults result (S.faults source.old) (S.faults source.new)
+        (K.faults sink.old) (K.faults sink.new) }
 {
     match find_command(words) {
         Some(Command::Replay(mode)) => replay(alloc, mode, source, sink),

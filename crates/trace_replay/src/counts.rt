@@ -33,7 +33,10 @@ fn counter_rows(
 /// The counters of a trace after its count lines.
 pub(crate) fn counters_of_trace(alloc: Global, trace: &Trace) -> Result<CounterList, AllocError>
     requires { (reading : Reading) × IsRuledTrace reading × Tells trace.now reading }
-    ensures { IfOk result (λ rows. (reading : Reading) → IsRuledTrace reading → Tells trace.now reading → rows ≡ totals.counter_rows reading.header.counters (cpus_of reading.header) reading.header.batch reading.counts) }
+    ensures { IfOk result (λ rows. (reading : Reading) → IsRuledTrace reading
+        → Tells trace.now reading
+        → rows ≡ totals.counter_rows reading.header.counters
+        (cpus_of reading.header) reading.header.batch reading.counts) }
 {
     counter_rows(
         alloc,

@@ -25,7 +25,11 @@ impl Model for FailingCalls {
 impl FailingCalls {
     /// No call yet. The calls whose numbers, from 1, are listed will fail.
     pub fn new(alloc: Global, failing: &[u32]) -> Result<FailingCalls, AllocError>
-        ensures { IfOk result (λ calls. calls ≡ record { failing = failing.now; made = 0; faults = 0 }) }
+        ensures { IfOk result (λ calls. calls ≡ record {
+          failing = failing.now;
+          made = 0;
+          faults = 0;
+        }) }
     {
         let failing = Vec::from_slice(alloc, failing)?;
         Ok(FailingCalls {

@@ -1,5 +1,5 @@
 //! Reading all that a source has.
-ghost use Rattle.std.specs.Prelude.{◌≡◌, ◌≢◌, ◌≤◌, ◌<◌, ℕ, List, [], Some, Err, IfOk, OnErr, length, vec_len};
+ghost use Rattle.std.specs.Prelude.{◌≡◌, ◌≢◌, ◌≤◌, ◌<◌, ℕ, List, [], Some, Err, IfOk, length, vec_len};
 ghost use Rattle.trace_replay.specs.Streams.{RoseByOne, IsReadInPart};
 
 use crate::source::{Failed, Source};
@@ -53,12 +53,17 @@ fn buffer(alloc: Global) -> Result<Vec<u8>, AllocError>
 #[tactic(auto, using(crate::proofs::Gathered::read_in_part))]
 fn gather_by<S: Source>(alloc: Global, source: &mut S, piece: &mut [u8]) -> Result<Vec<u8>, Cut>
     requires { 0 < length piece.old }
-    ensures all { IfOk result (λ bytes. (told : List ℕ) → S.left source.old ≡ Some told → bytes.items ≡ told) }
-    ensures to_the_end { IfOk result (λ bytes. (told : List ℕ) → S.left source.old ≡ Some told → S.left source.new ≡ Some []) }
+    ensures all { IfOk result (λ bytes. (told : List ℕ) → S.left source.old ≡ Some told
+        → bytes.items ≡ told) }
+    ensures to_the_end { IfOk result (λ bytes. (told : List ℕ) → S.left source.old ≡ Some told
+        → S.left source.new ≡ Some []) }
     ensures short { IfOk result (λ bytes. length bytes.items ≤ MOST_BYTES) }
-    ensures too_long { result ≡ Err Cut.TooLong → (told : List ℕ) → S.left source.old ≡ Some told → MOST_BYTES < length told }
-    ensures failed { result ≡ Err Cut.Failed → RoseByOne (S.faults source.old) (S.faults source.new) }
-    ensures in_part { result ≡ Err Cut.Failed → (told : List ℕ) → S.left source.old ≡ Some told → IsReadInPart MOST_BYTES told (S.left source.new) }
+    ensures too_long { result ≡ Err Cut.TooLong → (told : List ℕ) → S.left source.old ≡ Some told
+        → MOST_BYTES < length told }
+    ensures failed { result ≡ Err Cut.Failed
+        → RoseByOne (S.faults source.old) (S.faults source.new) }
+    ensures in_part { result ≡ Err Cut.Failed → (told : List ℕ) → S.left source.old ≡ Some told
+        → IsReadInPart MOST_BYTES told (S.left source.new) }
     ensures no_fault { result ≢ Err Cut.Failed → S.faults source.new ≡ S.faults source.old }
 {
     let mut bytes = Vec::new(alloc);
@@ -76,12 +81,17 @@ fn gather_by<S: Source>(alloc: Global, source: &mut S, piece: &mut [u8]) -> Resu
 
 /// All bytes of a source, up to its end.
 pub fn gather<S: Source>(alloc: Global, source: &mut S) -> Result<Vec<u8>, Cut>
-    ensures all { IfOk result (λ bytes. (told : List ℕ) → S.left source.old ≡ Some told → bytes.items ≡ told) }
-    ensures to_the_end { IfOk result (λ bytes. (told : List ℕ) → S.left source.old ≡ Some told → S.left source.new ≡ Some []) }
+    ensures all { IfOk result (λ bytes. (told : List ℕ) → S.left source.old ≡ Some told
+        → bytes.items ≡ told) }
+    ensures to_the_end { IfOk result (λ bytes. (told : List ℕ) → S.left source.old ≡ Some told
+        → S.left source.new ≡ Some []) }
     ensures short { IfOk result (λ bytes. length bytes.items ≤ MOST_BYTES) }
-    ensures too_long { result ≡ Err Cut.TooLong → (told : List ℕ) → S.left source.old ≡ Some told → MOST_BYTES < length told }
-    ensures failed { result ≡ Err Cut.Failed → RoseByOne (S.faults source.old) (S.faults source.new) }
-    ensures in_part { result ≡ Err Cut.Failed → (told : List ℕ) → S.left source.old ≡ Some told → IsReadInPart MOST_BYTES told (S.left source.new) }
+    ensures too_long { result ≡ Err Cut.TooLong → (told : List ℕ) → S.left source.old ≡ Some told
+        → MOST_BYTES < length told }
+    ensures failed { result ≡ Err Cut.Failed
+        → RoseByOne (S.faults source.old) (S.faults source.new) }
+    ensures in_part { result ≡ Err Cut.Failed → (told : List ℕ) → S.left source.old ≡ Some told
+        → IsReadInPart MOST_BYTES told (S.left source.new) }
     ensures no_fault { result ≢ Err Cut.Failed → S.faults source.new ≡ S.faults source.old }
 {
     let mut piece = buffer(alloc)?;

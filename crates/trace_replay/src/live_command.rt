@@ -31,7 +31,8 @@ fn live_report<G: Gate + Sync, R: Threads + Wait + Sync>(
     gate: &G,
 ) -> Result<Outcome, AllocError>
     requires { (reading : Reading) × IsRuledTrace reading × Tells trace reading }
-    ensures { IfOk result (λ outcome. (reading : Reading) → IsRuledTrace reading → Tells trace reading → Reports IsLiveReport reading outcome.status outcome.text) }
+    ensures { IfOk result (λ outcome. (reading : Reading) → IsRuledTrace reading
+        → Tells trace reading → Reports IsLiveReport reading outcome.status outcome.text) }
 {
     let Counting {
         counters,
@@ -85,9 +86,12 @@ fn live_outcome<S: Source, G: Gate + Sync, R: Threads + Wait + Sync>(
     source: &mut S,
     gate: &G,
 ) -> Result<Outcome, Cut>
-    ensures made { IfOk result (λ o. IsMadeOf IsLiveReport (S.left source.old) (S.left source.new) o.status o.text) }
-    ensures failed { result ≡ Err Cut.Failed → RoseByOne (S.faults source.old) (S.faults source.new) }
-    ensures cut_short { result ≡ Err Cut.Failed → IsCutShort (S.left source.old) (S.left source.new) }
+    ensures made { IfOk result
+        (λ o. IsMadeOf IsLiveReport (S.left source.old) (S.left source.new) o.status o.text) }
+    ensures failed { result ≡ Err Cut.Failed
+        → RoseByOne (S.faults source.old) (S.faults source.new) }
+    ensures cut_short { result ≡ Err Cut.Failed
+        → IsCutShort (S.left source.old) (S.left source.new) }
     ensures not_cut { result ≢ Err Cut.TooLong }
     ensures no_fault { result ≢ Err Cut.Failed → S.faults source.new ≡ S.faults source.old }
 {
@@ -110,8 +114,10 @@ pub fn live<S: Source, K: Sink, G: Gate + Sync, R: Threads + Wait + Sync>(
     gate: &G,
 ) -> Status
     requires { HasRoomFor IsLiveReport (S.left source.old) (K.room sink.old) }
-    ensures replays { Replays IsLiveReport (S.left source.old) (S.left source.new) (K.taken sink.old) (K.taken sink.new) result }
-    ensures faults { TellsFaults result (S.faults source.old) (S.faults source.new) (K.faults sink.old) (K.faults sink.new) }
+    ensures replays { Replays IsLiveReport (S.left source.old) (S.left source.new)
+        (K.taken sink.old) (K.taken sink.new) result }
+    ensures faults { TellsFaults result (S.faults source.old) (S.faults source.new)
+        (K.faults sink.old) (K.faults sink.new) }
     ensures silent { IsSilent result → K.taken sink.new ≡ K.taken sink.old }
     ensures usage { result ≢ Status.Usage }
 {

@@ -27,7 +27,9 @@ pub(crate) struct Counting {
 /// Adds the opening's count lines, and gives each caller a share with its own.
 pub(crate) fn start_counts(alloc: Global, trace: &Trace) -> Result<Counting, AllocError>
     requires { (reading : Reading) × IsRuledTrace reading × Tells trace.now reading }
-    ensures { IfOk result (λ counting. (reading : Reading) → IsRuledTrace reading → Tells trace.now reading → IsCountingFor reading counting.counters counting.pass counting.shares.items) }
+    ensures { IfOk result (λ counting. (reading : Reading) → IsRuledTrace reading
+        → Tells trace.now reading
+        → IsCountingFor reading counting.counters counting.pass counting.shares.items) }
 {
     let lines = trace.counts.as_slice();
     let cpus = trace.config.layout.units().len() as u16;
@@ -51,8 +53,10 @@ pub(crate) fn finish_counts(
     requires pass { IsPassOf counters pass }
     requires shares { All (IsShareOf counters) shares.items }
     requires finished { All IsFinished shares.items }
-    requires all { length (adds_of pass) + spare_of pass + length (flat_map lines_in shares.items) ≡ (shape_of counters).adds }
-    ensures { IfOk result (λ rows. totals_in rows ≡ totals_of (shape_of counters) (adds_of pass ++ map added_by (flat_map lines_in shares.items))) }
+    requires all { length (adds_of pass) + spare_of pass + length (flat_map lines_in shares.items)
+        ≡ (shape_of counters).adds }
+    ensures { IfOk result (λ rows. totals_in rows ≡ totals_of (shape_of counters)
+        (adds_of pass ++ map added_by (flat_map lines_in shares.items))) }
 {
     join_all(&counters, &mut pass, shares);
     counters.close(alloc, pass)

@@ -25,7 +25,12 @@ impl Model for MemorySink {
 
     ghost Value = { Intake };
 
-    ghost view = { λ s. record { taken = s.bytes.taken; room = s.bytes.room; piece = s.piece; calls = s.calls } };
+    ghost view = { λ s. record {
+      taken = s.bytes.taken;
+      room = s.bytes.room;
+      piece = s.piece;
+      calls = s.calls;
+    } };
 
     ghost invariant = { λ s. 1 ≤ s.piece };
 }
@@ -35,7 +40,12 @@ impl MemorySink {
     /// will fail.
     pub fn new(alloc: Global, piece: usize, failing: &[u32]) -> Result<MemorySink, AllocError>
         requires { 1 ≤ piece }
-        ensures { IfOk result (λ sink. sink ≡ record { taken = []; room = 0; piece = piece; calls = record { failing = failing.now; made = 0; faults = 0 } }) }
+        ensures { IfOk result (λ sink. sink ≡ record {
+          taken = [];
+          room = 0;
+          piece = piece;
+          calls = record { failing = failing.now; made = 0; faults = 0 };
+        }) }
     {
         let calls = FailingCalls::new(alloc, failing)?;
         Ok(MemorySink {

@@ -38,7 +38,11 @@ impl MemorySource {
         failing: &[u32],
     ) -> Result<MemorySource, AllocError>
         requires { 1 ≤ piece }
-        ensures { IfOk result (λ source. source ≡ record { left = bytes.now; piece = piece; calls = record { failing = failing.now; made = 0; faults = 0 } }) }
+        ensures { IfOk result (λ source. source ≡ record {
+          left = bytes.now;
+          piece = piece;
+          calls = record { failing = failing.now; made = 0; faults = 0 };
+        }) }
     {
         let bytes = SteadySource::new(alloc, bytes)?;
         let calls = FailingCalls::new(alloc, failing)?;

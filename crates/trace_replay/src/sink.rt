@@ -26,7 +26,8 @@ pub trait Sink {
         requires { ForSome (room self.old) (λ left. 0 < left) }
         ensures within { IfOk result (λ n. n ≤ length piece.now) }
         ensures some { 0 < length piece.now → IfOk result (λ n. 0 < n) }
-        ensures takes { (bytes : List ℕ) → taken self.old ≡ Some bytes → Takes bytes (taken self.new) piece.now result }
+        ensures takes { (bytes : List ℕ) → taken self.old ≡ Some bytes
+            → Takes bytes (taken self.new) piece.now result }
         ensures fills { (left : ℕ) → room self.old ≡ Some left → Fills left (room self.new) result }
         ensures no_room { room self.old ≡ None → room self.new ≡ None }
         ensures never_falls { faults self.old ≤ faults self.new }
@@ -116,7 +117,8 @@ impl Sink for SteadySink {
 fn write_retrying<W: Write>(writer: &mut W, piece: &[u8]) -> Option<usize>
     ensures within { IfSome result (λ count. count ≤ length piece.now) }
     ensures some { 0 < length piece.now → IfSome result (λ count. 0 < count) }
-    ensures took { IfSome result (λ count. Appends (W.contents writer.old) (W.contents writer.new) (take count piece.now)) }
+    ensures took { IfSome result (λ count. Appends (W.contents writer.old) (W.contents writer.new)
+        (take count piece.now)) }
     ensures failed { IsNone result → Keeps (W.contents writer.old) (W.contents writer.new) }
 {
     for _ in 0..u64::MAX {

@@ -22,8 +22,10 @@ pub trait Source {
     /// Reads at most the buffer's length. No byte, into a buffer with room, is the end of the input.
     fn read(&mut self, into: &mut [u8]) -> Result<usize, Failed>
         ensures within { IfOk result (λ n. n ≤ length into.new) }
-        ensures gives { (bytes : List ℕ) → left self.old ≡ Some bytes → Gives bytes (left self.new) into.new result }
-        ensures end { (bytes : List ℕ) → left self.old ≡ Some bytes → IsEndAt bytes into.new result }
+        ensures gives { (bytes : List ℕ) → left self.old ≡ Some bytes
+            → Gives bytes (left self.new) into.new result }
+        ensures end { (bytes : List ℕ) → left self.old ≡ Some bytes
+            → IsEndAt bytes into.new result }
         ensures never_falls { faults self.old ≤ faults self.new }
         ensures failed { OnErr result (RoseByOne (faults self.old) (faults self.new)) }
         ensures no_fault { OnOk result (faults self.new ≡ faults self.old) };
@@ -81,8 +83,11 @@ impl Source for SteadySource {
 #[tactic(auto, using(crate::proofs::Gathered::kept_first, crate::proofs::Gathered::kept_after, crate::proofs::Gathered::consumes_after))]
 fn read_retrying<R: Read>(reader: &mut R, into: &mut [u8]) -> Option<usize>
     ensures within { IfSome result (λ count. count ≤ length into.new) }
-    ensures gave { IfSome result (λ count. Consumes (R.remaining reader.old) (R.remaining reader.new) (take count into.new)) }
-    ensures end { IfSome result (λ count. count ≡ 0 → 0 < length into.new → IsAtEnd (R.remaining reader.new)) }
+    ensures gave { IfSome result
+        (λ count. Consumes (R.remaining reader.old) (R.remaining reader.new)
+        (take count into.new)) }
+    ensures end { IfSome result (λ count. count ≡ 0 → 0 < length into.new
+        → IsAtEnd (R.remaining reader.new)) }
     ensures failed { IsNone result → Keeps (R.remaining reader.old) (R.remaining reader.new) }
 {
     for _ in 0..u64::MAX {

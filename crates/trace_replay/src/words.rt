@@ -96,7 +96,8 @@ fn find_number(word: &str, most: u32) -> Option<u32>
 
 /// The trace that these two words ask for behind `make`.
 fn find_numbers(start: &str, calls: &str) -> Option<Command>
-    ensures some { IfSome result (λ command. Name command (codes "make" ∷ start.now ∷ calls.now ∷ [])) }
+    ensures some { IfSome result
+        (λ command. Name command (codes "make" ∷ start.now ∷ calls.now ∷ [])) }
     ensures none { IfNone result (NameNone (codes "make" ∷ start.now ∷ calls.now ∷ [])) }
 {
     let Some(start) = find_number(start, MOST_START) else {

@@ -23,7 +23,8 @@ use vm_model::Span;
 impl Local {
     /// The starts of the blocks that its purge has taken out.
     pub fn gone(&self) -> &[u32]
-        requires { (extra : Option Span) × (after : Then) × (self.now.place ≡ model.PurgeUnlinking (carried_at self.now.place).gone extra after) }
+        requires { (extra : Option Span) × (after : Then)
+            × (self.now.place ≡ model.PurgeUnlinking (carried_at self.now.place).gone extra after) }
         ensures { result.now ≡ (carried_at self.now.place).gone }
     {
         self.gone.as_slice()
@@ -31,8 +32,10 @@ impl Local {
 
     /// The spans of the blocks that its purge has taken out.
     pub fn gone_spans(&self) -> Result<Vec<Span>, AllocError>
-        requires { (extra : Option Span) × (after : Then) × (self.now.place ≡ model.PurgeWaiting (carried_at self.now.place).gone extra after) }
-        ensures { IfOk result (λ spans. spans.items ≡ model.block_spans self.now.setup (carried_at self.now.place).gone) }
+        requires { (extra : Option Span) × (after : Then)
+            × (self.now.place ≡ model.PurgeWaiting (carried_at self.now.place).gone extra after) }
+        ensures { IfOk result (λ spans. spans.items ≡ model.block_spans self.now.setup
+            (carried_at self.now.place).gone) }
     {
         let pages = self.config.block_pages;
         self.gone
@@ -46,7 +49,8 @@ impl Local {
 
     /// The spans that its purge has flushed and returns.
     pub fn waited(&self) -> &[Span]
-        requires { (after : Then) × (self.now.place ≡ model.PurgeReturning (carried_at self.now.place).waited after) }
+        requires { (after : Then)
+            × (self.now.place ≡ model.PurgeReturning (carried_at self.now.place).waited after) }
         ensures spans { result.now ≡ (carried_at self.now.place).waited }
         ensures some { All HasPage result.now }
     {
@@ -59,7 +63,8 @@ impl Local {
         requires sized { IsSizedAfter after }
         requires at_hand { length self.old.answers < length self.old.calls }
         requires events { self.old.events + 1 < 2 ^ 32 }
-        ensures { self.new ≡ moved_to self.old (Go (model.PurgeFragmenting 0 [] extra (then_of after))) }
+        ensures { self.new ≡ moved_to self.old
+            (Go (model.PurgeFragmenting 0 [] extra (then_of after))) }
     {
         self.events += 1;
         self.gone.clear();
@@ -79,12 +84,16 @@ impl Local {
         extra: Option<Span>,
         after: After,
     ) -> Result<(), AllocError>
-        requires place { self.old.place ≡ model.PurgeFragmenting cpu (carried_at self.old.place).gone extra (then_of after) }
+        requires place { self.old.place ≡ model.PurgeFragmenting cpu
+            (carried_at self.old.place).gone extra (then_of after) }
         requires sized { IsSizedAfter after }
         requires at_hand { length self.old.answers < length self.old.calls }
         requires events { self.old.events + 1 < 2 ^ 32 }
-        ensures local { OnOk result (self.new ≡ moved_to self.old (next self.old.setup self.old.place (Fragment cpu (rows.fragmented blocks.old)))) }
-        ensures blocks { OnOk result (blocks.new ≡ rows.without_blocks (rows.fragmented blocks.old) blocks.old) }
+        ensures local { OnOk result
+            (self.new ≡ moved_to self.old
+            (next self.old.setup self.old.place (Fragment cpu (rows.fragmented blocks.old)))) }
+        ensures blocks { OnOk result
+            (blocks.new ≡ rows.without_blocks (rows.fragmented blocks.old) blocks.old) }
         ensures memory { OnErr result (rows.fragmented blocks.old ≢ []) }
         ensures err { OnErr result ((self.new ≡ self.old) × (blocks.new ≡ blocks.old)) }
     {
@@ -98,11 +107,13 @@ impl Local {
 
     /// One event more, which unlinked the blocks that its purge has taken out.
     pub fn unlinked(&mut self, extra: Option<Span>, after: After)
-        requires place { self.old.place ≡ model.PurgeUnlinking (carried_at self.old.place).gone extra (then_of after) }
+        requires place { self.old.place
+            ≡ model.PurgeUnlinking (carried_at self.old.place).gone extra (then_of after) }
         requires sized { IsSizedAfter after }
         requires at_hand { length self.old.answers < length self.old.calls }
         requires events { self.old.events + 1 < 2 ^ 32 }
-        ensures { self.new ≡ moved_to self.old (Go (model.PurgeWaiting (carried_at self.old.place).gone extra (then_of after))) }
+        ensures { self.new ≡ moved_to self.old
+            (Go (model.PurgeWaiting (carried_at self.old.place).gone extra (then_of after))) }
     {
         self.events += 1;
         self.place = Place::PurgeWaiting { extra, after };
@@ -118,7 +129,8 @@ impl Local {
         requires sized { IsSizedAfter after }
         requires at_hand { length self.old.answers < length self.old.calls }
         requires events { self.old.events + 1 < 2 ^ 32 }
-        ensures { self.new ≡ moved_to self.old (after_collecting batch (hull (batch ++ option_to_list extra)) (then_of after)) }
+        ensures { self.new ≡ moved_to self.old
+            (after_collecting batch (hull (batch ++ option_to_list extra)) (then_of after)) }
     {
         let Some(hull) = joined_hull(&batch, extra) else {
             return self.go(Place::PurgeGiving(after));
@@ -131,10 +143,13 @@ impl Local {
     /// One event more, which flushed the spans that were collected.
     pub fn flushed(&mut self, after: After)
         requires sized { IsSizedAfter after }
-        requires place { (hull : Span) × (self.old.place ≡ model.PurgeFlushing hull (carried_at self.old.place).waited (then_of after)) }
+        requires place { (hull : Span)
+            × (self.old.place ≡ model.PurgeFlushing hull (carried_at self.old.place).waited
+            (then_of after)) }
         requires at_hand { length self.old.answers < length self.old.calls }
         requires events { self.old.events + 1 < 2 ^ 32 }
-        ensures { self.new ≡ moved_to self.old (after_flush (carried_at self.old.place).waited (then_of after)) }
+        ensures { self.new ≡ moved_to self.old
+            (after_flush (carried_at self.old.place).waited (then_of after)) }
     {
         self.events += 1;
         self.place = if self.waited.spans().is_empty() {
@@ -147,11 +162,13 @@ impl Local {
     /// One event more, which saw the hull of a processor's dirty ranges. The next processor's comes then, or a purge that
     /// flushes the hull of them all.
     pub fn saw_dirty(&mut self, cpu: u8, range: Option<Span>)
-        requires place { self.old.place ≡ model.LookingAtDirty cpu (carried_at self.old.place).ranges }
+        requires place { self.old.place ≡ model.LookingAtDirty cpu
+            (carried_at self.old.place).ranges }
         requires range { IsExtra self.old.setup.space range }
         requires at_hand { length self.old.answers < length self.old.calls }
         requires events { self.old.events + 1 < 2 ^ 32 }
-        ensures { self.new ≡ moved_to self.old (next self.old.setup self.old.place (Dirty cpu range)) }
+        ensures { self.new ≡ moved_to self.old
+            (next self.old.setup self.old.place (Dirty cpu range)) }
     {
         push_range(&mut self.ranges, range);
         self.events += 1;

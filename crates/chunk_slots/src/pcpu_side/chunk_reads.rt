@@ -29,7 +29,8 @@ impl PcpuSide {
 
     /// The slot of a chunk. None comes exactly where there is no such chunk. It takes no memory.
     pub fn slot_of(&self, chunk: u32) -> Option<u32>
-        ensures { result ≡ option_map (slot_in_model (setup_of self.now)) (slice_get (chunks_numbered chunk self.now.chunks) 0) }
+        ensures { result ≡ option_map (slot_in_model (setup_of self.now))
+            (slice_get (chunks_numbered chunk self.now.chunks) 0) }
     {
         let index = index_of(&self.chunks, u64::from(chunk))?;
         Some(self.chunks[index].slot())
@@ -56,7 +57,8 @@ impl PcpuSide {
     /// `pcpu_free_slot` of the kernel.
     pub fn free_slot(&self) -> u32
         ensures slot { result ≡ slot_for (4096 * self.now.unit_pages) + 2 }
-        ensures free { filter (λ h. slot_in_model (setup_of self.now) h == result) self.now.chunks ≡ filter (λ (h : Chunk). length h.objects == 0) self.now.chunks }
+        ensures free { filter (λ h. slot_in_model (setup_of self.now) h == result) self.now.chunks
+            ≡ filter (λ (h : Chunk). length h.objects == 0) self.now.chunks }
     {
         slot_for_size(4096 * self.unit_pages) + 2
     }
@@ -91,7 +93,8 @@ impl PcpuSide {
     pub fn hint_at(&self, index: u32, block: u32) -> Hint
         requires index { index < length self.now.chunks }
         requires block { block < self.now.unit_pages }
-        ensures { IfSome (slice_get self.now.chunks index) (λ h. result ≡ hint_of (block_bits (bit_list (setup_of self.now) h) block)) }
+        ensures { IfSome (slice_get self.now.chunks index)
+            (λ h. result ≡ hint_of (block_bits (bit_list (setup_of self.now) h) block)) }
     {
         self.chunks[index as usize].hint(block)
     }
@@ -99,8 +102,10 @@ impl PcpuSide {
     /// The populated pages of a chunk. It takes no memory.
     pub fn populated_at(&self, index: u32) -> PageSet
         requires { index < length self.now.chunks }
-        ensures pages { IfSome (slice_get self.now.chunks index) (λ h. pages_in result ≡ populated_pages (setup_of self.now) h) }
-        ensures each { IfSome (slice_get self.now.chunks index) (λ h. (page : ℕ) → page < self.now.unit_pages → has_page result page ≡ is_populated h page) }
+        ensures pages { IfSome (slice_get self.now.chunks index)
+            (λ h. pages_in result ≡ populated_pages (setup_of self.now) h) }
+        ensures each { IfSome (slice_get self.now.chunks index) (λ h. (page : ℕ)
+            → page < self.now.unit_pages → has_page result page ≡ is_populated h page) }
     {
         self.chunks[index as usize].populated()
     }

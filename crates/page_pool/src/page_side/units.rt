@@ -48,12 +48,21 @@ impl PageSide {
     /// page, each to the lowest free frame. They are neither mapped nor stale, and no two are the same. The error comes
     /// where there are too few frames for all. It takes no memory.
     pub fn populate(&mut self, base: u32, units: &[u32], pages: PageSet) -> Result<(), NoFrames>
-        requires bare { (page : ℕ) → is_among (pages_at base units.now (pages_in pages)) page ≡ true → IsBare self.old page }
+        requires bare { (page : ℕ) → is_among (pages_at base units.now (pages_in pages)) page ≡ true
+            → IsBare self.old page }
         requires distinct { AreDistinct (pages_at base units.now (pages_in pages)) }
-        ensures mapped { OnOk result (self.new ≡ with_frames_for (pages_at base units.now (pages_in pages)) self.old) }
-        ensures enough { OnOk result (length (pages_at base units.now (pages_in pages)) ≤ length (free_of self.old)) }
-        ensures refused { IfErr result (λ refusal. refusal ≡ record { asked = length (pages_at base units.now (pages_in pages)); free = length (free_of self.old) }) }
-        ensures too_few { OnErr result (length (free_of self.old) < length (pages_at base units.now (pages_in pages))) }
+        ensures mapped { OnOk result
+            (self.new ≡ with_frames_for (pages_at base units.now (pages_in pages)) self.old) }
+        ensures enough { OnOk result (length (pages_at base units.now (pages_in pages))
+            ≤ length (free_of self.old)) }
+        ensures refused { IfErr result
+            (λ refusal. refusal ≡ record {
+              asked = length (pages_at base units.now (pages_in pages));
+              free = length
+                  (free_of self.old);
+            }) }
+        ensures too_few { OnErr result (length (free_of self.old)
+            < length (pages_at base units.now (pages_in pages))) }
         ensures err { OnErr result (self.new ≡ self.old) }
     {
         let free = self.free.len();
@@ -87,8 +96,10 @@ impl PageSide {
 
     /// Unmaps the pages of a set in one unit.
     fn unmap_unit(&mut self, base: u32, unit: u32, pages: PageSet)
-        requires { (page : ℕ) → is_among (pages_in_unit base unit (pages_in pages)) page ≡ true → page < length self.old.frames }
-        ensures { self.new ≡ without_frames_for (pages_in_unit base unit (pages_in pages)) self.old }
+        requires { (page : ℕ) → is_among (pages_in_unit base unit (pages_in pages)) page ≡ true
+            → page < length self.old.frames }
+        ensures { self.new ≡ without_frames_for
+            (pages_in_unit base unit (pages_in pages)) self.old }
     {
         for page in 0..64 {
             if pages.contains(page) {
@@ -100,8 +111,10 @@ impl PageSide {
     /// Unmaps the pages of a set in the unit of each processor, as `pcpu_depopulate_chunk` does: all are mapped. Their
     /// frames are free then, and they are stale until a flush. It takes no memory.
     pub fn depopulate(&mut self, base: u32, units: &[u32], pages: PageSet)
-        requires mapped { (page : ℕ) → is_among (pages_at base units.now (pages_in pages)) page ≡ true → IsMapped self.old page }
-        ensures unmapped { self.new ≡ without_frames_for (pages_at base units.now (pages_in pages)) self.old }
+        requires mapped { (page : ℕ) → is_among (pages_at base units.now (pages_in pages)) page
+            ≡ true → IsMapped self.old page }
+        ensures unmapped { self.new
+            ≡ without_frames_for (pages_at base units.now (pages_in pages)) self.old }
     {
         for unit in units {
             self.unmap_unit(base, *unit, pages);

@@ -48,7 +48,10 @@ impl PageSide {
     /// Some words of a page of a unit are 0.
     fn zero_page(&mut self, base: u32, unit: u32, page: u32, words: Span)
         requires { IsMapped self.old (base + unit + page) }
-        ensures { self.new ≡ record self.old { cells = zero_frame (frame_of self.old.frames (base + unit + page)) words self.old.cells } }
+        ensures { self.new ≡ record self.old {
+          cells = zero_frame (frame_of self.old.frames (base + unit + page)) words
+              self.old.cells;
+        } }
     {
         let frame = self.frame_at(base, unit, page);
         self.cells.clear(
@@ -59,8 +62,12 @@ impl PageSide {
 
     /// The words from an offset of a unit on are 0.
     fn zero_unit(&mut self, base: u32, unit: u32, off: u32, bytes: u32)
-        requires { (page : ℕ) → is_among (pages_in_unit base unit (pages_of_bytes off bytes)) page ≡ true → IsMapped self.old page }
-        ensures { self.new ≡ record self.old { cells = zero_pages self.old.frames (base + unit) off bytes (pages_of_bytes off bytes) self.old.cells } }
+        requires { (page : ℕ) → is_among (pages_in_unit base unit (pages_of_bytes off bytes)) page
+            ≡ true → IsMapped self.old page }
+        ensures { self.new ≡ record self.old {
+          cells = zero_pages self.old.frames (base + unit) off bytes
+              (pages_of_bytes off bytes) self.old.cells;
+        } }
     {
         let end = u64::from(off) + u64::from(bytes);
         let last = (end.saturating_sub(1) / 4096) as u32;
@@ -72,7 +79,9 @@ impl PageSide {
     /// Sets the words of so many bytes to 0 in the unit of each processor, from an offset of the unit on, as a new
     /// per-CPU object has them. Their pages are mapped. It takes no memory.
     pub fn zero_words(&mut self, base: u32, units: &[u32], off: u32, bytes: u32)
-        requires mapped { (page : ℕ) → is_among (pages_at base units.now (pages_of_bytes off bytes)) page ≡ true → IsMapped self.old page }
+        requires mapped { (page : ℕ)
+            → is_among (pages_at base units.now (pages_of_bytes off bytes)) page ≡ true
+            → IsMapped self.old page }
         ensures zeroed { self.new ≡ with_zeroed base units.now off bytes self.old }
     {
         if self.cells.is_blank() {
@@ -98,8 +107,10 @@ impl PageSide {
     /// The words at an offset of the unit of each processor, added up, as `per_cpu_sum` does. Their pages are mapped, and
     /// the sums up to each of them fit. It takes no memory.
     pub fn sum_words(&self, base: u32, units: &[u32], off: u32) -> i64
-        requires mapped { (page : ℕ) → is_among (pages_at base units.now (off / 4096 ∷ [])) page ≡ true → IsMapped self.now page }
-        requires fit { (count : ℕ) → FitsSigned w64 (sum_of self.now (bytes_at base (take count units.now) off)) }
+        requires mapped { (page : ℕ) → is_among (pages_at base units.now (off / 4096 ∷ [])) page
+            ≡ true → IsMapped self.now page }
+        requires fit { (count : ℕ)
+            → FitsSigned w64 (sum_of self.now (bytes_at base (take count units.now) off)) }
         ensures sum { result ≡ sum_of self.now (bytes_at base units.now off) }
     {
         let mut sum = 0;
