@@ -1,7 +1,7 @@
 //! The free blocks of a space: what `free_vmap_area_root` holds in the kernel. Functions of mm/vmalloc.c of Linux 6.1
 //! that these follow are named with them.
-ghost use Rattle.std.specs.Prelude.{◌≡◌, ◌≤◌, ◌<◌, ◌+◌, ◌&&◌, not, nat_le, max, find, filter, ℕ, List, Bool, true, false, Some, None, All, length, slice_get, replicate, option_map, IfOk, IfSome, IfNone, IsSome, OnOk, OnErr, ◌∷◌, []};
-ghost use Rattle.vm_model.specs.Space.{span, holds, covers, times, end_of, lowest, longest_of, paint, AreSeparateFrom};
+ghost use Rattle.std.specs.Prelude.{◌≡◌, ◌≤◌, ◌<◌, ◌+◌, ◌&&◌, not, nat_le, max, find, filter, ℕ, List, Bool, true, false, Some, None, All, length, slice_get, replicate, IfOk, IfSome, IfNone, IsSome, OnOk, OnErr, ◌∷◌, []};
+ghost use Rattle.vm_model.specs.Space.{span, holds, covers, times, end_of, lowest, longest_of, AreSeparateFrom};
 ghost use Rattle.vm_model.specs.declared.areas.Span.{Span};
 ghost use Rattle.vm_model.specs.Setup.{last_of};
 ghost use Rattle.augmented_tree.specs.Blocks.{AreBlocks};
@@ -41,7 +41,8 @@ impl FreeSide {
     pub fn whole(alloc: Global, pages: u32) -> Result<FreeSide, AllocError>
         requires low { 1 ≤ pages }
         requires high { pages ≤ 1048576 }
-        ensures block { IfOk result (λ side. side ≡ record { blocks = span 0 pages ∷ []; spare = 0 }) }
+        ensures block { IfOk result (λ side.
+            side ≡ record { blocks = span 0 pages ∷ []; spare = 0 }) }
         ensures free { IfOk result (λ side. AreFreeRuns side (replicate pages false)) }
     {
         let mut stock = Stock::new(alloc);
@@ -60,7 +61,8 @@ impl FreeSide {
     pub fn lowest(&self, pages: u32, align: u32) -> Option<u32>
         requires pages { 1 ≤ pages }
         requires align { 1 ≤ align }
-        ensures { (taken : List Bool) → AreFreeRuns self.now taken → result ≡ lowest taken pages align }
+        ensures { (taken : List Bool) → AreFreeRuns self.now taken
+            → result ≡ lowest taken pages align }
     {
         match self.blocks.first_fit(pages, align) {
             Some(fit) => Some(fit.start),
@@ -76,10 +78,12 @@ impl FreeSide {
         requires pages { 1 ≤ pages }
         requires align { 1 ≤ align }
         ensures place { IfOk result (IsLowestFit self.old pages align) }
-        ensures carved { IfOk result (λ found. IfSome found (λ place. LeavesRunsWithout self.old self.new (holds place))) }
+        ensures carved { IfOk result (λ found.
+            IfSome found (λ place. LeavesRunsWithout self.old self.new (holds place))) }
         ensures none { IfOk result (λ found. IfNone found (self.new ≡ self.old)) }
         ensures spare { self.new.spare ≡ self.old.spare }
-        ensures fits { OnErr result ((taken : List Bool) → AreFreeRuns self.old taken → IsSome (lowest taken pages align)) }
+        ensures fits { OnErr result ((taken : List Bool) → AreFreeRuns self.old taken
+            → IsSome (lowest taken pages align)) }
         ensures err { OnErr result (self.new ≡ self.old) }
     {
         let Some(fit) = self.blocks.first_fit(pages, align) else {
@@ -118,7 +122,8 @@ impl FreeSide {
         requires free { IsFree self.old.blocks span }
         requires spare { 1 ≤ self.old.spare }
         ensures carved { LeavesRunsWithout self.old self.new (holds span) }
-        ensures cover { (page : ℕ) → covers self.new.blocks page ≡ (covers self.old.blocks page && not (holds span page)) }
+        ensures cover { (page : ℕ) → covers self.new.blocks page
+            ≡ (covers self.old.blocks page && not (holds span page)) }
         ensures spare { self.new.spare + 1 ≡ self.old.spare }
     {
         self.spare -= 1;
@@ -136,7 +141,8 @@ impl FreeSide {
         requires pages { All (λ (s : Span). 1 ≤ s.pages) spans.now }
         requires ends { All (λ (s : Span). end_of s ≤ 1048576) spans.now }
         requires disjoint { (page : ℕ) → times page spans.now ≤ 1 }
-        requires taken { (page : ℕ) → covers spans.now page ≡ true → covers self.old.blocks page ≡ false }
+        requires taken { (page : ℕ) → covers spans.now page ≡ true
+            → covers self.old.blocks page ≡ false }
         ensures ok { OnOk result (GivesRunsWith self.old self.new spans.now) }
         ensures spare { self.new.spare ≡ self.old.spare }
         ensures err { OnErr result (self.new ≡ self.old) }
@@ -158,7 +164,8 @@ impl FreeSide {
     /// The highest of the blocks that end at a page or before it, or none where no block does. The end is the page behind
     /// a block's last one. It takes no memory.
     pub fn last_ending_by(&self, page: u32) -> Option<Span>
-        ensures block { result ≡ last_of (filter (λ (b : Span). nat_le (end_of b) page) self.now.blocks) }
+        ensures block { result ≡ last_of
+            (filter (λ (b : Span). nat_le (end_of b) page) self.now.blocks) }
         ensures blocks { AreBlocks self.now.blocks }
     {
         self.blocks.block_before(page)

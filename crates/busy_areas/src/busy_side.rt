@@ -37,7 +37,8 @@ impl Model for BusySide {
 
 /// Puts an area under its start.
 fn put_area(areas: &mut BTreeMap<u32, Area>, area: Area) -> Result<(), AllocError>
-    ensures ok { OnOk result (areas.new.entries ≡ insert_entry nat_cmp areas.old.entries area.span.start area) }
+    ensures ok { OnOk result (areas.new.entries
+        ≡ insert_entry nat_cmp areas.old.entries area.span.start area) }
     ensures err { OnErr result (areas.new.entries ≡ areas.old.entries) }
 {
     match areas.insert(area.span.start, area) {
@@ -124,7 +125,8 @@ impl BusySide {
     /// is that of the next. An error comes for want of memory only.
     pub fn insert_all(&mut self, areas: &[(Span, AreaKind)], caller: u16) -> Result<u32, AllocError>
         requires pages { All (λ (s : Span). 0 < s.pages) (asked_spans areas.now) }
-        requires unused { (page : ℕ) → covers (asked_spans areas.now) page ≡ true → covers (spans_of self.old.areas) page ≡ false }
+        requires unused { (page : ℕ) → covers (asked_spans areas.now) page ≡ true
+            → covers (spans_of self.old.areas) page ≡ false }
         requires disjoint { (page : ℕ) → times page (asked_spans areas.now) ≤ 1 }
         requires serials { self.old.next + length areas.now < 2 ^ 32 }
         ensures serial { IfOk result (λ serial. serial ≡ self.old.next) }
@@ -140,10 +142,12 @@ impl BusySide {
     /// Takes the area with this start and serial away, if there is one: `__find_vmap_area` and `unlink_va`, which go by
     /// the start alone. An area that was put later at the same start has another serial, and stays. It takes no memory.
     pub fn remove(&mut self, start: u32, serial: u32) -> Option<Area>
-        ensures found { IfSome result (λ area. named_areas start serial self.old.areas ≡ area ∷ []) }
+        ensures found { IfSome result (λ area.
+            named_areas start serial self.old.areas ≡ area ∷ []) }
         ensures page { IfSome result (λ area. 1 ≤ area.span.pages) }
         ensures none { IfNone result (named_areas start serial self.old.areas ≡ []) }
-        ensures gone { OnSome result (self.new ≡ record self.old { areas = without_area start serial self.old.areas }) }
+        ensures gone { OnSome result (self.new
+            ≡ record self.old { areas = without_area start serial self.old.areas }) }
         ensures unchanged { IfNone result (self.new ≡ self.old) }
     {
         match self.areas.get(&start) {
@@ -155,7 +159,8 @@ impl BusySide {
     /// Takes the areas with these starts away, whatever their serials, as `unlink_va` does. Where no area has a start,
     /// that start changes nothing. It takes no memory.
     pub fn unlink(&mut self, starts: &[u32])
-        ensures others { self.new ≡ record self.old { areas = areas_elsewhere starts.now self.old.areas } }
+        ensures others { self.new ≡ record self.old
+            { areas = areas_elsewhere starts.now self.old.areas } }
     {
         for start in starts {
             self.areas.remove(start);

@@ -14,16 +14,16 @@ use Rattle.vm_model.specs.History.{World, Local}
 use Rattle.vm_model.specs.LegalHistory.{IsReached, IsNext}
 use Rattle.vm_model.specs.Rules.{IsTrace}
 use Rattle.vm_model.specs.Laws.{object_at, word_of, is_word, grown_if}
-use Rattle.map_laws.proofs.AreaWorlds.{IsLegalStep, event_legal, legally_lasts}
-use Rattle.map_laws.proofs.BlockFacts.{to_same}
+use Rattle.map_laws.proofs.areas.AreaWorlds.{IsLegalStep, event_legal, legally_lasts}
+use Rattle.map_laws.proofs.blocks.BlockFacts.{to_same}
 use Rattle.map_laws.proofs.Words.{HaveCells, have_cells_section, have_cells_first, AreCells, HasFrame, added_other}
 use Rattle.map_laws.proofs.Deeds.{adds_at}
 use Rattle.map_laws.proofs.Frames.{IsFramed, there}
 use Rattle.map_laws.proofs.SizedCalls.{IsNow, AreSized, sized_lasts, sized_first}
-use Rattle.map_laws.proofs.ObjectFacts.{IsObject, object_only}
+use Rattle.map_laws.proofs.objects.ObjectFacts.{IsObject, object_only}
 use Rattle.map_laws.proofs.MapLaws.{objects_mapped}
-use Rattle.map_laws.proofs.ObjectsReady.{named_live}
-use Rattle.map_laws.proofs.ObjectWords.{IsWordOf, IsWordy, word_whole, word_mapped, one_word, add_within}
+use Rattle.map_laws.proofs.objects.ObjectsReady.{named_live}
+use Rattle.map_laws.proofs.objects.ObjectWords.{IsWordOf, IsWordy, word_whole, word_mapped, one_word, add_within}
 use Rattle.map_laws.proofs.TraceWorlds.{SomeonePlaces, IsTraceWorld, trace_reached}
 use Rattle.map_laws.proofs.SumLaws.{sums_are_the_adds}
 use Rattle.call_laws.specs.Adds.{AddsChangeOneWord}

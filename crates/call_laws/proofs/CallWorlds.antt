@@ -11,7 +11,7 @@ use Rattle.vm_model.specs.History.{World, Local, started, moved_to, made_by, ope
 use Rattle.vm_model.specs.LegalHistory.{Meets, IsReached, AllOver}
 use Rattle.vm_model.specs.Rules.{IsTrace}
 use Rattle.map_laws.proofs.Frames.{same_or, set_cases, set_other, append_cases, append_first, IsFramed, not_over, has_call}
-use Rattle.map_laws.proofs.AreaWorlds.{IsLegalStep, legally_lasts}
+use Rattle.map_laws.proofs.areas.AreaWorlds.{IsLegalStep, legally_lasts}
 use Rattle.call_laws.proofs.Dues.{IsDue, due_led, call_due}
 use Rattle.call_laws.specs.Histories.{OwnSection, own_sections, sections, sections_since, Leads, answers_before, HistoriesHaveTheShapesOfCalls}
 use Rattle.call_laws.proofs.Owns.{last, own_more, own_same}

@@ -81,12 +81,6 @@ pub record Has (es : List Section) (x : Section) : Type 0 where
   pub after : List Section
   pub all : es ≡ before ++ x ∷ after
 
-has_here : (x : Section) (es : List Section) → Has (x ∷ es) x
-has_here x es = record { before = []; after = es; all = refl }
-
-has_behind : (xs es : List Section) (x : Section) → Has es x → Has (xs ++ es) x
-has_behind xs es x h = record { before = xs ++ h.before; after = h.after; all = ap (λ l. xs ++ l) h.all ∙ sym (append_assoc xs h.before (x ∷ h.after)) }
-
 -- two failed searches with a purge between, with those before and behind them
 pub record Searched (c : Setup) (es : List Section) (search : Search) : Type 0 where
   pub before : List Section

@@ -20,9 +20,9 @@ use Rattle.vm_model.specs.Calls.{Answered}
 use Rattle.vm_model.specs.History.{World, Local, started, moved_to, made_by, opening_world, opening_answers, callers_from}
 use Rattle.vm_model.specs.LegalHistory.{Meets}
 use Rattle.vm_model.specs.Rules.{IsSetup, IsTrace}
-use Rattle.map_laws.proofs.AreaFacts.{IsHolding, guard_part, unpainted, painted_still}
-use Rattle.map_laws.proofs.AreaStarts.{asks_settle, no_settle, areas_after}
-use Rattle.map_laws.proofs.AreaWorlds.{IsLegalStep, IsLegallyLasting}
+use Rattle.map_laws.proofs.areas.AreaFacts.{IsHolding, guard_part, unpainted, painted_still}
+use Rattle.map_laws.proofs.areas.AreaStarts.{asks_settle, no_settle, areas_after}
+use Rattle.map_laws.proofs.areas.AreaWorlds.{IsLegalStep, IsLegallyLasting}
 use Rattle.map_laws.proofs.Chosen.{IsIn, filter_has, covers_one, holds_from}
 use Rattle.map_laws.proofs.Frames.{IsFramed, has_call, not_over, set_cases, append_cases}
 use Rattle.map_laws.proofs.OutMoves.{with_in}
@@ -40,10 +40,6 @@ clean_kept c m k (Unmap s) page legal none clean = grind (arith, unpainted, cove
 clean_kept c m k (Depopulate base pages) page legal none clean = grind (arith, unpainted)
 clean_kept c m k (Flush s) page legal none clean = painted_still (holds s) false m.stale page clean
 clean_kept c m k _ page legal none clean = clean
-
--- of a guard
-pub on_guard : (P Q : ℕ → Type 0) (k : AreaKind) (s : Span) → ((page : ℕ) → P page → Q page) → OnGuard k s P → OnGuard k s Q
-on_guard P Q k s f is = grind arith
 
 pub both_guards : (P Q R : ℕ → Type 0) (k : AreaKind) (s : Span) → ((page : ℕ) → P page → Q page → R page) → OnGuard k s P → OnGuard k s Q → OnGuard k s R
 both_guards P Q R k s f is also = grind arith

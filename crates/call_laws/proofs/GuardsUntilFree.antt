@@ -19,25 +19,25 @@ use Rattle.vm_model.specs.LegalHistory.{Meets, IsReached}
 use Rattle.vm_model.specs.Rules.{IsSetup, IsTrace}
 use Rattle.vm_model.specs.Laws.{IsEvent, IsTakenFrom}
 use Rattle.map_laws.specs.Waits.{IsWaitOf}
-use Rattle.map_laws.proofs.AreaWorlds.{IsLegalStep, IsLegallyLasting, legally_lasts}
-use Rattle.map_laws.proofs.BlockFacts.{IsBlockArea, IsBlockAt}
-use Rattle.map_laws.proofs.BlockPlaces.{with_keeps}
-use Rattle.map_laws.proofs.BlockWorlds.{only_one}
+use Rattle.map_laws.proofs.areas.AreaWorlds.{IsLegalStep, IsLegallyLasting, legally_lasts}
+use Rattle.map_laws.proofs.blocks.BlockFacts.{IsBlockArea, IsBlockAt}
+use Rattle.map_laws.proofs.blocks.BlockPlaces.{with_keeps}
+use Rattle.map_laws.proofs.blocks.BlockWorlds.{only_one}
 use Rattle.map_laws.proofs.Chosen.{IsIn, filter_in, covers_one, holds_from}
-use Rattle.map_laws.proofs.ChunkFacts.{IsChunkAt, start_of}
-use Rattle.map_laws.proofs.ChunkNoted.{with_new}
+use Rattle.map_laws.proofs.chunks.ChunkFacts.{IsChunkAt, start_of}
+use Rattle.map_laws.proofs.chunks.ChunkNoted.{with_new}
 use Rattle.map_laws.proofs.Deeds.{removes_at, UnlinksAt, OfPurge, OfBlock, OfGroups, unlinks_at}
 use Rattle.map_laws.proofs.Frames.{IsFramed, same_or, set_same, set_other, append_first}
 use Rattle.map_laws.proofs.OutMoves.{same_area}
-use Rattle.map_laws.proofs.WaitStories.{more_events, event_first, event_last, WhichEvent, Before, Last, which_event, behind_flushed, taken_before}
+use Rattle.map_laws.proofs.waits.WaitStories.{more_events, event_first, event_last, WhichEvent, Before, Last, which_event, behind_flushed, taken_before}
 use Rattle.map_laws.proofs.TraceWorlds.{areas_once, holding_here}
-use Rattle.map_laws.proofs.WaitReached.{IsWaitedWorld, wait_lasts, wait_first}
-use Rattle.map_laws.proofs.WaitWorlds.{Follows, Taken, IsWaitWorld}
+use Rattle.map_laws.proofs.waits.WaitReached.{IsWaitedWorld, wait_lasts, wait_first}
+use Rattle.map_laws.proofs.waits.WaitWorlds.{Follows, Taken, IsWaitWorld}
 use Rattle.call_laws.specs.Guards.{OnGuard, GuardsStayBare}
 use Rattle.call_laws.proofs.GuardsBare.{IsClean, clean_kept, HandClean, IsGuardedWorld, area_unmapped, hand_unmapped, guarded_lasts, guarded_first, bare, areas_bare, hands_bare}
 use Rattle.vm_model.specs.declared.calls.Reply.TheVariants as reply
 use Rattle.vm_model.specs.declared.areas.AreaKind.TheVariants as kind
-use Rattle.map_laws.proofs.WaitWorlds as waits
+use Rattle.map_laws.proofs.waits.WaitWorlds as waits
 
 -- where the guard of an area is that event i settled: it lives, a caller unmaps it or is about to let it wait, or it waited since
 pub data Where (w : World) (i page : ℕ) : Type 0 where

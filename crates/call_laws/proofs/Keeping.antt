@@ -12,7 +12,7 @@ use Rattle.map_laws.proofs.TurnProofs.{turns_kept, purge_last}
 use Rattle.map_laws.proofs.MapLaws.{areas_apart, guard_unmapped, free_clean, parts_disjoint, objects_mapped}
 use Rattle.map_laws.proofs.CarriedKept.{carried_kept}
 use Rattle.map_laws.proofs.SumLaws.{sums_are_the_adds}
-use Rattle.map_laws.proofs.WaitReached.{pages_wait, freed_pages_waited}
+use Rattle.map_laws.proofs.waits.WaitReached.{pages_wait, freed_pages_waited}
 use Rattle.call_laws.specs.Kept.{KeepsTheLaws, ReachedWorldsKeepTheLaws}
 use Rattle.call_laws.proofs.Openings.{the_opening_first}
 use Rattle.call_laws.proofs.CallWorlds.{histories_have_shapes}

@@ -12,8 +12,8 @@ use Rattle.vm_model.specs.History.{World, Local, made_by, placing_calls}
 use Rattle.vm_model.specs.LegalHistory.{IsReached}
 use Rattle.vm_model.specs.Laws.{map_after, map_at}
 use Rattle.map_laws.proofs.Frames.{append_cases, IsFramed}
-use Rattle.map_laws.proofs.AreaWorlds.{IsLegalStep, legally_lasts}
-use Rattle.map_laws.proofs.WaitStories.{map_after-append, map_at-before, map_at-last}
+use Rattle.map_laws.proofs.areas.AreaWorlds.{IsLegalStep, legally_lasts}
+use Rattle.map_laws.proofs.waits.WaitStories.{map_after-append, map_at-before, map_at-last}
 use Rattle.call_laws.specs.Histories.{OwnSection, own_if, own_from, own_sections}
 use Rattle.call_laws.specs.Causes.{WereLegal, EachEventIsLegal}
 

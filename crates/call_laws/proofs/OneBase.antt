@@ -18,11 +18,11 @@ use Rattle.vm_model.specs.History.{World, Local, moved_to, made_by, opening_answ
 use Rattle.vm_model.specs.LegalHistory.{Meets, IsReached}
 use Rattle.vm_model.specs.Laws.{IsAligned}
 use Rattle.vm_model.specs.Rules.{IsTrace}
-use Rattle.map_laws.proofs.AreaStarts.{asks_settle, no_settle, areas_after}
-use Rattle.map_laws.proofs.AreaWorlds.{IsLegalStep, legally_lasts}
+use Rattle.map_laws.proofs.areas.AreaStarts.{asks_settle, no_settle, areas_after}
+use Rattle.map_laws.proofs.areas.AreaWorlds.{IsLegalStep, legally_lasts}
 use Rattle.map_laws.proofs.Chosen.{IsIn}
-use Rattle.map_laws.proofs.ChunkAdded.{chunk_number}
-use Rattle.map_laws.proofs.ChunkWorlds.{alone}
+use Rattle.map_laws.proofs.chunks.ChunkAdded.{chunk_number}
+use Rattle.map_laws.proofs.chunks.ChunkWorlds.{alone}
 use Rattle.map_laws.proofs.Frames.{IsFramed, there, same_or, set_same, set_other, append_first}
 use Rattle.map_laws.proofs.OutMoves.{with_in}
 use Rattle.map_laws.proofs.Places.{IsPlainKind, IsProper}

@@ -1,8 +1,8 @@
 //! Bitmaps over words of 64 bits, as `lib/bitmap.c` and `lib/find_bit.c` have them.
-ghost use Rattle.std.specs.Prelude.{◌≡◌, ◌+◌, ◌-◌, ◌*◌, ◌/◌, ◌%◌, ◌^◌, ◌<◌, ◌≤◌, ℕ, Bool, false, IfOk, if◌then◌else◌, ◌==◌, not, length, replicate, slice_index, bit_and, bit_or};
+ghost use Rattle.std.specs.Prelude.{◌≡◌, ◌+◌, ◌-◌, ◌*◌, ◌/◌, ◌%◌, ◌^◌, ◌<◌, ◌≤◌, ℕ, Bool, false, IfOk, if◌then◌else◌, ◌==◌, not, length, replicate};
 ghost use Rattle.std.specs.Int.{bit_at};
 ghost use Rattle.vm_model.specs.Space.{span, holds, paint, one_if};
-ghost use Rattle.chunk_bitmaps.specs.Bitmap.{IsNextBit, bit_of};
+ghost use Rattle.chunk_bitmaps.specs.Bitmap.{IsNextBit};
 ghost use Rattle.vm_model.specs.Bits.{value_at};
 
 use std::alloc::{AllocError, Global};
@@ -75,7 +75,9 @@ impl Bitmap {
     /// A word whose set bits are those that have the value, from a place to the end of its word.
     fn word_from(&self, place: u32, value: bool) -> u64
         requires { place < length self.now }
-        ensures rest { (i : ℕ) → i < 64 - place % 64 → place + i < length self.now → bit_at result i ≡ one_if (if value then value_at self.now (place + i) else not (value_at self.now (place + i))) }
+        ensures rest { (i : ℕ) → i < 64 - place % 64 → place + i < length self.now
+            → bit_at result i ≡ one_if (if value then value_at self.now (place + i)
+            else not (value_at self.now (place + i))) }
         ensures above { (i : ℕ) → 64 - place % 64 ≤ i → bit_at result i ≡ 0 }
     {
         let word = self.words[(place / WORD) as usize];

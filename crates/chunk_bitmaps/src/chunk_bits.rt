@@ -1,6 +1,6 @@
 //! The allocation map and the boundary map of a chunk, as `mm/percpu.c` keeps them: `alloc_map` and `bound_map` of
 //! `struct pcpu_chunk`.
-ghost use Rattle.std.specs.Prelude.{◌≡◌, true, false, ◌↔◌, ◌+◌, ◌-◌, ◌*◌, ◌^◌, ◌<◌, ◌≤◌, ℕ, Option, Some, IfOk, IfSome, OnSome, IfNone, IsTrue, MatchOption, length, take, drop, [], ◌∷◌};
+ghost use Rattle.std.specs.Prelude.{◌≡◌, true, false, ◌+◌, ◌-◌, ◌*◌, ◌<◌, ◌≤◌, Option, Some, IfOk, IfSome, IfNone, MatchOption, length, take, drop, [], ◌∷◌};
 ghost use Rattle.vm_model.specs.Space.{span, holds, paint, begins_free};
 ghost use Rattle.vm_model.specs.Bits.{leading_free};
 ghost use Rattle.chunk_bitmaps.specs.Bitmap.{IsNextBit};
@@ -141,8 +141,10 @@ impl ChunkBits {
     /// The first object that begins at a place or behind it, by its bits. It takes no memory.
     pub fn next_object(&self, from: u32) -> Option<Span>
         requires { from ≤ self.now.bits }
-        ensures next { MatchOption result (objects_from from self.now ≡ []) (λ s. objects_from from self.now ≡ s ∷ objects_from (s.start + s.pages) self.now) }
-        ensures within { IfSome result (λ s. (1 ≤ s.pages) × (from ≤ s.start) × (s.start + s.pages ≤ self.now.bits)) }
+        ensures next { MatchOption result (objects_from from self.now ≡ []) (λ s.
+            objects_from from self.now ≡ s ∷ objects_from (s.start + s.pages) self.now) }
+        ensures within { IfSome result (λ s.
+            (1 ≤ s.pages) × (from ≤ s.start) × (s.start + s.pages ≤ self.now.bits)) }
     {
         let len = self.taken.len();
         let mut place = self.taken.find_next(true, from, len);
@@ -165,7 +167,8 @@ impl ChunkBits {
         requires inside { at + bits ≤ self.old.bits }
         requires free { begins_free bits (drop at (taken_bits self.old)) ≡ true }
         ensures object { self.new ≡ with_object_at at bits self.old }
-        ensures taken { taken_bits self.new ≡ paint (holds (span at bits)) true (taken_bits self.old) }
+        ensures taken { taken_bits self.new
+            ≡ paint (holds (span at bits)) true (taken_bits self.old) }
     {
         self.taken.fill(at, bits, true);
         self.bounds.fill(at, bits, false);
@@ -181,7 +184,8 @@ impl ChunkBits {
         ensures object { self.new ≡ without_object_at at self.old }
         ensures none { IfNone result (self.new ≡ self.old) }
         ensures some { IfSome result (λ bits. (1 ≤ bits) × (at + bits ≤ self.old.bits)) }
-        ensures freed { IfSome result (λ bits. taken_bits self.new ≡ paint (holds (span at bits)) false (taken_bits self.old)) }
+        ensures freed { IfSome result (λ bits.
+            taken_bits self.new ≡ paint (holds (span at bits)) false (taken_bits self.old)) }
     {
         if !begins_at(&self.taken, &self.bounds, at) {
             return None;

@@ -1,7 +1,7 @@
 //! The search for the highest base. Functions of mm/vmalloc.c of Linux 6.1 that these follow are named with them.
 ghost use Rattle.std.specs.Prelude.{◌≡◌, ◌+◌, ◌-◌, ◌%◌, ◌<◌, ◌≤◌, ℕ, true, false, length, option_map, All, IfSome, IfNone, IfOk, OnErr};
 ghost use Rattle.vm_model.specs.Space.{covers};
-ghost use Rattle.augmented_tree.specs.FreeBlocks.{AreFreeRuns, IsFree, LeavesRunsWithout};
+ghost use Rattle.augmented_tree.specs.FreeBlocks.{IsFree, LeavesRunsWithout};
 ghost use Rattle.unit_layout.specs.declared.layout.Group.{Group};
 ghost use Rattle.congruent_areas.specs.Groups.{AreLaidOut, IsBase, HasBase, IsGreatestBase, IsBaseOfTheMap, HasBaseOfTheMap, IsLastUpTo, span_at, spans_at};
 ghost use Rattle.congruent_areas.specs.declared.bundle.Bundle.{Bundle};
@@ -35,9 +35,12 @@ fn lowered(free: &FreeSide, group: Group, base: u32) -> Option<u32>
     requires within { group.offset + group.pages ≤ 1048576 }
     requires base { base ≤ 1048576 }
     ensures lower { IfSome result (λ high. high ≤ base) }
-    ensures fits { IfSome result (λ high. high ≡ base → IsFree free.now.blocks (span_at base group)) }
-    ensures above { IfSome result (λ high. (b : ℕ) → b ≤ base → IsFree free.now.blocks (span_at b group) → b ≤ high) }
-    ensures none { IfNone result ((b : ℕ) → b ≤ base → IsFree free.now.blocks (span_at b group) → ⊥) }
+    ensures fits { IfSome result (λ high. high ≡ base
+        → IsFree free.now.blocks (span_at base group)) }
+    ensures above { IfSome result (λ high. (b : ℕ) → b ≤ base
+        → IsFree free.now.blocks (span_at b group) → b ≤ high) }
+    ensures none { IfNone result ((b : ℕ) → b ≤ base → IsFree free.now.blocks (span_at b group)
+        → ⊥) }
 {
     let block = block_up_to(free, base + group.offset)?;
     let high = (block.start + block.pages).checked_sub(group.offset + group.pages)?;
@@ -54,9 +57,12 @@ fn lowered_by_all(free: &FreeSide, groups: &[Group], align: u32, from: u32) -> O
     requires aligned { from % align ≡ 0 }
     ensures lower { IfSome result (λ base. base ≤ from) }
     ensures aligned { IfSome result (λ base. base % align ≡ 0) }
-    ensures fit { IfSome result (λ base. base ≡ from → IsBase free.now.blocks groups.now align from) }
-    ensures above { IfSome result (λ base. (b : ℕ) → b ≤ from → IsBase free.now.blocks groups.now align b → b ≤ base) }
-    ensures none { IfNone result ((b : ℕ) → b ≤ from → IsBase free.now.blocks groups.now align b → ⊥) }
+    ensures fit { IfSome result (λ base. base ≡ from
+        → IsBase free.now.blocks groups.now align from) }
+    ensures above { IfSome result (λ base. (b : ℕ) → b ≤ from
+        → IsBase free.now.blocks groups.now align b → b ≤ base) }
+    ensures none { IfNone result ((b : ℕ) → b ≤ from → IsBase free.now.blocks groups.now align b
+        → ⊥) }
 {
     let mut base = from;
     for group in groups {
@@ -122,12 +128,19 @@ pub fn carve_groups(
 ) -> Result<Option<Bundle>, AllocError>
     requires groups { AreLaidOut groups.now }
     requires align { 1 ≤ align }
-    ensures base { IfOk result (λ found. IsBaseOfTheMap free.old groups.now align (option_map (λ (bundle : Bundle). bundle.base) found)) }
-    ensures greatest { IfOk result (λ found. IfSome found (λ bundle. IsGreatestBase free.old.blocks groups.now align bundle.base)) }
-    ensures spans { IfOk result (λ found. IfSome found (λ bundle. bundle.spans ≡ spans_at bundle.base groups.now)) }
-    ensures carved { IfOk result (λ found. IfSome found (λ bundle. LeavesRunsWithout free.old free.new (covers bundle.spans))) }
-    ensures spare { IfOk result (λ found. IfSome found (λ bundle. free.new.spare ≡ free.old.spare - length groups.now)) }
-    ensures none { IfOk result (λ found. IfNone found (HasBase free.old.blocks groups.now align → ⊥)) }
+    ensures base { IfOk result (λ found.
+        IsBaseOfTheMap free.old groups.now align
+        (option_map (λ (bundle : Bundle). bundle.base) found)) }
+    ensures greatest { IfOk result (λ found.
+        IfSome found (λ bundle. IsGreatestBase free.old.blocks groups.now align bundle.base)) }
+    ensures spans { IfOk result (λ found.
+        IfSome found (λ bundle. bundle.spans ≡ spans_at bundle.base groups.now)) }
+    ensures carved { IfOk result (λ found.
+        IfSome found (λ bundle. LeavesRunsWithout free.old free.new (covers bundle.spans))) }
+    ensures spare { IfOk result (λ found.
+        IfSome found (λ bundle. free.new.spare ≡ free.old.spare - length groups.now)) }
+    ensures none { IfOk result (λ found.
+        IfNone found (HasBase free.old.blocks groups.now align → ⊥)) }
     ensures unchanged { IfOk result (λ found. IfNone found (free.new ≡ free.old)) }
     ensures memory { OnErr result (HasBase free.old.blocks groups.now align) }
     ensures fits { OnErr result (HasBaseOfTheMap free.old groups.now align) }

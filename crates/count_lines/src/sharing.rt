@@ -40,7 +40,8 @@ fn share_of(
     ensures lines { IfOk result (λ share. lines_in share ≡ lines_by caller lines.now) }
     ensures done { IfOk result (λ share. done_in share ≡ 0) }
     ensures adds { adds_of pass.new ≡ adds_of pass.old }
-    ensures spare { IfOk result (λ share. spare_of pass.new + length (lines_in share) ≡ spare_of pass.old) }
+    ensures spare { IfOk result (λ share.
+        spare_of pass.new + length (lines_in share) ≡ spare_of pass.old) }
 {
     let lines = own_lines(alloc, lines, caller)?;
     let spare = pass.spare();
@@ -78,8 +79,10 @@ fn count_opening(
     requires room { length (lines_by 0 lines.now) ≤ spare_of pass.old }
     requires lines { (callers : ℕ) × All (IsLineOf (shape_of counters.now) callers) lines.now }
     ensures pass { IfOk result (λ _. IsPassOf counters.now pass.new) }
-    ensures adds { IfOk result (λ _. adds_of pass.new ≡ adds_of pass.old ++ map added_by (lines_by 0 lines.now)) }
-    ensures spare { IfOk result (λ _. spare_of pass.new + length (lines_by 0 lines.now) ≡ spare_of pass.old) }
+    ensures adds { IfOk result (λ _.
+        adds_of pass.new ≡ adds_of pass.old ++ map added_by (lines_by 0 lines.now)) }
+    ensures spare { IfOk result (λ _.
+        spare_of pass.new + length (lines_by 0 lines.now) ≡ spare_of pass.old) }
 {
     let mut share = share_of(alloc, counters, pass, lines, 0)?;
     share.finish(counters);
@@ -100,8 +103,10 @@ pub fn share_out(
     requires room { length lines.now ≤ spare_of pass.old }
     requires lines { All (IsLineOf (shape_of counters.now) callers) lines.now }
     ensures pass { IfOk result (λ _. IsPassOf counters.now pass.new) }
-    ensures shares { IfOk result (λ shares. AreSharesOf counters.now callers lines.now shares.items) }
-    ensures adds { IfOk result (λ _. adds_of pass.new ≡ adds_of pass.old ++ map added_by (lines_by 0 lines.now)) }
+    ensures shares { IfOk result (λ shares.
+        AreSharesOf counters.now callers lines.now shares.items) }
+    ensures adds { IfOk result (λ _.
+        adds_of pass.new ≡ adds_of pass.old ++ map added_by (lines_by 0 lines.now)) }
     ensures spare { IfOk result (λ _. spare_of pass.new + length lines.now ≡ spare_of pass.old) }
 {
     count_opening(alloc, counters, pass, lines)?;
@@ -118,7 +123,8 @@ pub fn join_all(counters: &Counters, pass: &mut CountPass, shares: Vec<Share>)
     requires shares { All (IsShareOf counters.now) shares.items }
     requires finished { All IsFinished shares.items }
     ensures pass { IsPassOf counters.now pass.new }
-    ensures adds { adds_of pass.new ≡ adds_of pass.old ++ map added_by (flat_map lines_in shares.items) }
+    ensures adds { adds_of pass.new
+        ≡ adds_of pass.old ++ map added_by (flat_map lines_in shares.items) }
     ensures spare { spare_of pass.new ≡ spare_of pass.old }
 {
     for share in shares {

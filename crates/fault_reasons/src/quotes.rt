@@ -1,5 +1,5 @@
 //! A line as a person is shown it.
-ghost use Rattle.std.specs.Prelude.{◌≡◌, ◌<◌, ◌≤◌, ◌++◌, IfOk, OnOk, flat_map};
+ghost use Rattle.std.specs.Prelude.{◌≡◌, ◌<◌, ◌++◌, IfOk, OnOk, flat_map};
 ghost use Rattle.fault_reasons.specs.Quotes.{digit, shown, quoted, head};
 
 use crate::lines::{first_line, skip_lines};

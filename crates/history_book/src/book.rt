@@ -31,7 +31,8 @@ impl Model for Book {
 impl Book {
     /// An empty book of a caller, with room for so many calls. It takes all the memory that the book ever needs.
     pub fn with_room(alloc: Global, caller: u16, calls: u32) -> Result<Book, AllocError>
-        ensures { IfOk result (λ book. book ≡ record { caller = caller; rows = []; spare = calls }) }
+        ensures { IfOk result (λ book.
+            book ≡ record { caller = caller; rows = []; spare = calls }) }
     {
         let rows = Vec::with_capacity(alloc, calls as usize)?;
         Ok(Book {
@@ -46,7 +47,10 @@ impl Book {
     pub fn note(&mut self, reply: Reply, own_event: u32)
         requires room { 1 ≤ self.old.spare }
         requires event { 1 ≤ own_event }
-        ensures { self.new ≡ record self.old { rows = self.old.rows ++ record { reply = reply; own_event = own_event } ∷ []; spare = self.old.spare - 1 } }
+        ensures { self.new ≡ record self.old {
+          rows = self.old.rows ++ record { reply = reply; own_event = own_event } ∷ [];
+          spare = self.old.spare - 1;
+        } }
     {
         self.rows.push_reserved(Noted { reply, own_event });
         self.spare -= 1;
@@ -84,7 +88,8 @@ impl Book {
     pub fn reply_at(&self, call: u32) -> Reply
         requires first { 1 ≤ call }
         requires last { call ≤ length self.now.rows }
-        ensures { option_map (λ (n : Noted). n.reply) (slice_get self.now.rows (call - 1)) ≡ Some result }
+        ensures { option_map (λ (n : Noted). n.reply) (slice_get self.now.rows (call - 1))
+            ≡ Some result }
     {
         self.rows[call as usize - 1].reply
     }
@@ -93,7 +98,8 @@ impl Book {
     pub fn own_event_at(&self, call: u32) -> u32
         requires first { 1 ≤ call }
         requires last { call ≤ length self.now.rows }
-        ensures place { option_map (λ (n : Noted). n.own_event) (slice_get self.now.rows (call - 1)) ≡ Some result }
+        ensures place { option_map (λ (n : Noted). n.own_event) (slice_get self.now.rows (call - 1))
+            ≡ Some result }
         ensures event { 1 ≤ result }
     {
         self.rows[call as usize - 1].own_event

@@ -41,12 +41,17 @@ fn pass_to(moved: &[u16], caller: u16, place: u32, from: Passed) -> Passed
 /// place in `moved` at which the caller stands there for the `own_event`-th time. An error leaves the entries as they
 /// were. It takes time for the length of `moved` once, where the own events rise from call to call.
 pub fn number(book: &Book, moved: &[u16], into: &mut Vec<Entry>) -> Result<(), AllocError>
-    requires { All (λ (n : Noted). n.own_event ≤ length (places_of book.now.caller 1 moved.now)) book.now.rows }
-    ensures ok { OnOk result (into.new.items ≡ into.old.items ++ entries_noted (places_of book.now.caller 1 moved.now) book.now.caller 1 book.now.rows) }
+    requires { All (λ (n : Noted).
+        n.own_event ≤ length (places_of book.now.caller 1 moved.now)) book.now.rows }
+    ensures ok { OnOk result (into.new.items
+        ≡ into.old.items ++ entries_noted (places_of book.now.caller 1 moved.now) book.now.caller 1
+        book.now.rows) }
 
     // they are the entries of that caller in the table of replies
-    ensures history { OnOk result ((answers : List Answered) (events : List Event) → AreNotedOf book.now.rows moved.now answers events
-        → into.new.items ≡ into.old.items ++ entries_from (numbers_of book.now.caller 1 events) book.now.caller 1 answers) }
+    ensures history { OnOk result ((answers : List Answered) (events : List Event)
+        → AreNotedOf book.now.rows moved.now answers events
+        → into.new.items ≡ into.old.items
+        ++ entries_from (numbers_of book.now.caller 1 events) book.now.caller 1 answers) }
     ensures err { OnErr result (into.new.items ≡ into.old.items) }
 {
     let rows = book.rows();

@@ -29,9 +29,9 @@ use Rattle.map_parts.specs.Locality.{StaysWithin}
 use Rattle.map_parts.proofs.KeptApart.{kept_callers_stay_within}
 use Rattle.map_parts.proofs.ReachedKept.{callers_keep, opening_keeps}
 use Rattle.map_parts.proofs.StepKeeps.{steps_keep_apart}
-use Rattle.map_laws.proofs.AreaWorlds.{IsLegalStep, IsLegallyLasting, legally_lasts}
-use Rattle.map_laws.proofs.BlockFacts.{AreStacked, IsBlockFine, block_count, block_starts, count_cons, same_test, size_cons}
-use Rattle.map_laws.proofs.BlockMoves.{same_start}
+use Rattle.map_laws.proofs.areas.AreaWorlds.{IsLegalStep, IsLegallyLasting, legally_lasts}
+use Rattle.map_laws.proofs.blocks.BlockFacts.{AreStacked, IsBlockFine, block_count, block_starts, count_cons, same_test, size_cons}
+use Rattle.map_laws.proofs.blocks.BlockMoves.{same_start}
 use Rattle.map_laws.proofs.Chosen.{IsIn, in_more}
 use Rattle.map_laws.proofs.Frames.{IsFramed}
 use Rattle.vm_model.proofs.RoundedPages.{rounded_some}

@@ -1,5 +1,5 @@
 //! One processor's blocks.
-ghost use Rattle.std.specs.Prelude.{All, ◌≡◌, ◌≢◌, ◌≤◌, ◌<◌, ◌+◌, ◌-◌, ◌^◌, ◌∷◌, [], true, false, ◌==◌, Some, None, length, map, slice_get, IsTrue, IsNone, ◌↔◌, IfOk, IfSome, IfNone, OnSome, OnOk, OnErr};
+ghost use Rattle.std.specs.Prelude.{All, ◌≡◌, ◌≢◌, ◌≤◌, ◌<◌, ◌+◌, ◌-◌, ◌∷◌, [], true, false, ◌==◌, Some, None, length, map, slice_get, IsTrue, IsNone, ◌↔◌, IfOk, IfSome, IfNone, OnSome, OnOk, OnErr};
 ghost use Rattle.vm_model.specs.Space.{span};
 ghost use Rattle.vm_model.specs.Bits.{binary_digits};
 ghost use Rattle.vm_model.specs.PlainMap.{Block};

@@ -16,15 +16,15 @@ use Rattle.vm_model.specs.Space.{covers, holds, is_among, span, times}
 use Rattle.vm_model.specs.declared.areas.Area.{Area}
 use Rattle.vm_model.specs.declared.areas.AreaKind.{AreaKind}
 use Rattle.vm_model.specs.declared.areas.Span.{Span}
-use Rattle.map_laws.proofs.AreaFacts.{IsAreaFine, IsHolding}
-use Rattle.map_laws.proofs.BlockFacts.{IsBlockAt, IsBlockFine, IsOut, IsPartFine, IsPartIn, OnRow, block_out, stacked_at, stacked_covers}
-use Rattle.map_laws.proofs.BlockWorlds.{covered_start, only_one, out_area, row_covers}
-use Rattle.map_laws.proofs.ChunkFacts.{AreGroupsLive, IsChunkAt, IsChunkFine, start_of, unit_page}
-use Rattle.map_laws.proofs.ChunkRows.{populated_at}
+use Rattle.map_laws.proofs.areas.AreaFacts.{IsAreaFine, IsHolding}
+use Rattle.map_laws.proofs.blocks.BlockFacts.{IsBlockAt, IsBlockFine, IsOut, IsPartFine, IsPartIn, OnRow, block_out, stacked_at, stacked_covers}
+use Rattle.map_laws.proofs.blocks.BlockWorlds.{covered_start, only_one, out_area, row_covers}
+use Rattle.map_laws.proofs.chunks.ChunkFacts.{AreGroupsLive, IsChunkAt, IsChunkFine, start_of, unit_page}
+use Rattle.map_laws.proofs.chunks.ChunkRows.{populated_at}
 use Rattle.map_laws.proofs.Frames.{IsFramed}
 use Rattle.map_laws.proofs.MapLegal.{block_at, held_life, one_at}
 use Rattle.map_laws.proofs.Namings.{namings_once}
-use Rattle.map_laws.proofs.ObjectFacts.{IsObject, IsObjectAt, object_life}
+use Rattle.map_laws.proofs.objects.ObjectFacts.{IsObject, IsObjectAt, object_life}
 use Rattle.map_laws.proofs.TraceWorlds.{SomeonePlaces, AreFull, IsTraceWorld, areas_once, has_parts, own_names, trace_reached}
 use Rattle.map_laws.proofs.Chosen.{or_right, covers_one, holds_from, holds_to}
 

@@ -164,10 +164,6 @@ module _ {X : Type 0} where
 
 -- In how many spans a page is, and whether it is in one.
 
-pub one_le : (b : Bool) → one_if b ≤ 1
-one_le true = omega arith
-one_le false = omega arith
-
 pub times-cons : (page : ℕ) (s : Span) (spans : List Span) → times page (s ∷ spans) ≡ one_if (holds s page) + times page spans
 times-cons page s spans = sum_by-cons (λ (s : Span). one_if (holds s page)) s spans
 

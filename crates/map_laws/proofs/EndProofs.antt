@@ -21,7 +21,7 @@ use Rattle.map_laws.proofs.Places.{begins_with}
 use Rattle.map_laws.proofs.TurnProofs.{AreTurnsProper, turns_first, turns_last, some_moves}
 use Rattle.map_laws.proofs.Chosen.{find_has}
 use Rattle.map_laws.proofs.StepFalls.{left, per_call}
-use Rattle.map_laws.proofs.ChunkFalls.{AreSized, sized_section}
+use Rattle.map_laws.proofs.chunks.ChunkFalls.{AreSized, sized_section}
 use Rattle.map_laws.proofs.Potential.{weight, credit_at, credit_of, potential, left_begins, potential_falls, past_end, no_rest, one_rest}
 
 -- what each section needs to lower the potential

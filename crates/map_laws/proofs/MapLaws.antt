@@ -4,9 +4,9 @@ use Rattle.vm_model.specs.Blocks.{size_of}
 use Rattle.vm_model.specs.Laws.{AreasAreDisjointAndAligned, FreePagesAreClean, PartsOfABlockAreDisjoint, TheGuardIsNeverMapped, ObjectsAreMappedInEveryUnit, all_copies, copies_of, object_at, IsOneLegalHistory}
 use Rattle.vm_model.specs.PlainMap.{Part, Chunk, Ended, InHand, Life, Lives, Object, PlainMap, is_in_hand, is_live}
 use Rattle.vm_model.specs.Space.{covers, end_of, holds, one_if, span, times, is_among}
-use Rattle.map_laws.proofs.AreaFacts.{guard_part}
-use Rattle.map_laws.proofs.AreaStarts.{guard_in}
-use Rattle.map_laws.proofs.BlockFacts.{AreStacked, same_test}
+use Rattle.map_laws.proofs.areas.AreaFacts.{guard_part}
+use Rattle.map_laws.proofs.areas.AreaStarts.{guard_in}
+use Rattle.map_laws.proofs.blocks.BlockFacts.{AreStacked, same_test}
 use Rattle.map_laws.proofs.Places.{IsPlainKind}
 use Rattle.map_laws.proofs.Chosen.{holds_to, times-cons, holds_from, times-append, IsIn, one_if_le}
 use Rattle.map_laws.proofs.TraceWorlds.{trace_reached, IsObjectWorld, SomeonePlaces}
@@ -22,19 +22,19 @@ use Rattle.vm_model.specs.Places.{Place, ask}
 use Rattle.vm_model.specs.Rules.{AreUnits, IsTrace}
 use Rattle.vm_model.specs.Setup.{Setup, pages_in_units}
 use Rattle.vm_model.specs.declared.areas.Span.{Span}
-use Rattle.map_laws.proofs.BlockPlaces.{IsInChunk}
-use Rattle.map_laws.proofs.BlockWorlds.{sum_some}
-use Rattle.map_laws.proofs.ChunkFacts.{AreGroupsLive, group_page, unit_covered, unit_page}
-use Rattle.map_laws.proofs.ChunkMoves.{number_once}
-use Rattle.map_laws.proofs.ChunkWorlds.{IsChunkWorld}
+use Rattle.map_laws.proofs.blocks.BlockPlaces.{IsInChunk}
+use Rattle.map_laws.proofs.blocks.BlockWorlds.{sum_some}
+use Rattle.map_laws.proofs.chunks.ChunkFacts.{AreGroupsLive, group_page, unit_covered, unit_page}
+use Rattle.map_laws.proofs.chunks.ChunkMoves.{number_once}
+use Rattle.map_laws.proofs.chunks.ChunkWorlds.{IsChunkWorld}
 use Rattle.map_laws.proofs.Frames.{same_or, there, IsFramed, IsStep, framed_opening, framed_callers, framed_step}
-use Rattle.map_laws.proofs.ObjectFacts.{AreChunksFine, IsBeingPlaced, IsObject, IsObjectAt, IsShaped, count_sum, object_only, same_place, times_map}
+use Rattle.map_laws.proofs.objects.ObjectFacts.{AreChunksFine, IsBeingPlaced, IsObject, IsObjectAt, IsShaped, count_sum, object_only, same_place, times_map}
 use Rattle.vm_model.specs.declared.calls.Call.{Call}
 use Rattle.vm_model.specs.Events.{Section, Event}
 use Rattle.vm_model.specs.Given.{given}
 use Rattle.vm_model.specs.Next.{next}
 use Rattle.vm_model.specs.LegalHistory.{IsRun, IsReached, IsLegalHistory, AllOver, after_event, world_after, callers_world}
-use Rattle.map_laws.proofs.AreaWorlds.{IsLegalStep, IsLegallyLasting}
+use Rattle.map_laws.proofs.areas.AreaWorlds.{IsLegalStep, IsLegallyLasting}
 use Rattle.map_laws.proofs.EndProofs.{finish_zero, finish_none, finish_some, every_run_ends}
 
 pub areas_apart : AreasAreDisjointAndAligned

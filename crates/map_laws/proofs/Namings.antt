@@ -13,17 +13,17 @@ use Rattle.vm_model.specs.Setup.{Setup}
 use Rattle.vm_model.specs.Space.{one_if, span, times}
 use Rattle.vm_model.specs.declared.areas.Area.{Area}
 use Rattle.vm_model.specs.declared.areas.Span.{Span}
-use Rattle.map_laws.proofs.BlockFacts.{IsBlockArea, block_out, block_starts, count_among, count_append, count_cons, counted_block, same_test, to_same}
-use Rattle.map_laws.proofs.BlockMoves.{area_holds}
-use Rattle.map_laws.proofs.BlockPlaces.{IsInChunk, in_one_kind}
-use Rattle.map_laws.proofs.BlockWorlds.{IsBlockWorld, out_area, sum_some}
+use Rattle.map_laws.proofs.blocks.BlockFacts.{IsBlockArea, block_out, block_starts, count_among, count_append, count_cons, counted_block, same_test, to_same}
+use Rattle.map_laws.proofs.blocks.BlockMoves.{area_holds}
+use Rattle.map_laws.proofs.blocks.BlockPlaces.{IsInChunk, in_one_kind}
+use Rattle.map_laws.proofs.blocks.BlockWorlds.{IsBlockWorld, out_area, sum_some}
 use Rattle.map_laws.proofs.Chosen.{IsIn, one_if_le, holds_from}
-use Rattle.map_laws.proofs.ChunkFacts.{AreGroupsLive, IsChunkAt, start_of}
-use Rattle.map_laws.proofs.ChunkMoves.{number_once}
-use Rattle.map_laws.proofs.ChunkAdded.{IsNumberNext}
-use Rattle.map_laws.proofs.ChunkWorlds.{IsChunkWorld, alone}
+use Rattle.map_laws.proofs.chunks.ChunkFacts.{AreGroupsLive, IsChunkAt, start_of}
+use Rattle.map_laws.proofs.chunks.ChunkMoves.{number_once}
+use Rattle.map_laws.proofs.chunks.ChunkAdded.{IsNumberNext}
+use Rattle.map_laws.proofs.chunks.ChunkWorlds.{IsChunkWorld, alone}
 use Rattle.map_laws.proofs.Frames.{IsFramed, there}
-use Rattle.map_laws.proofs.ObjectFacts.{count_sum, same_place}
+use Rattle.map_laws.proofs.objects.ObjectFacts.{count_sum, same_place}
 use Rattle.map_laws.proofs.MapLaws.{sum_once}
 use Rattle.map_laws.proofs.TraceWorlds.{IsObjectWorld}
 use Rattle.map_laws.specs.Turns.{AreTurnsKept}

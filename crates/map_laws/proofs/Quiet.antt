@@ -15,7 +15,7 @@ use Rattle.vm_model.specs.Carried.{held, flushed}
 use Rattle.vm_model.specs.Laws.{as_free}
 use Rattle.vm_model.proofs.Paint.{slice_get-paint, length-paint_from}
 use Rattle.map_laws.proofs.Chosen.{sum_has, times-cons, covers_times, covers_one}
-use Rattle.map_laws.proofs.AreaFacts.{touch, IsSame, untouched, IsPageFine, IsMapFine, own_uses, area_stays, page_stays, IsUnbearing}
+use Rattle.map_laws.proofs.areas.AreaFacts.{touch, IsSame, untouched, IsPageFine, IsMapFine, own_uses, area_stays, page_stays, IsUnbearing}
 use Rattle.vm_model.specs.Next.{next}
 use Rattle.vm_model.specs.LegalHistory.{Meets}
 use Rattle.map_laws.proofs.PlaceRows.{place_row}
@@ -40,9 +40,6 @@ waits_fine m page h none = record { free = λ e. cc; waiting = λ e. none; flush
 
 pub flushing_fine : (m : PlainMap) (k page : ℕ) → IsMarked m (Flushing k) page → IsUnmapped m page → IsPageFine m page
 flushing_fine m k page h none = record { free = λ e. cc; waiting = λ e. cc; flushing = λ j e. none }
-
-as_free_le : (o : Option Mark) → as_free o ≤ 1
-as_free_le o = grind arith
 
 pub free_one : (m : PlainMap) (page : ℕ) → IsMarked m Free page → as_free (slice_get m.marks page) ≡ 1
 free_one m page h = ap as_free h

@@ -8,7 +8,7 @@ use Rattle.vm_model.specs.Rules.{IsTrace}
 use Rattle.map_laws.specs.Steps.{StepsAreReached}
 use Rattle.map_laws.proofs.MapLaws.{IsRunTo, run_append, after_append, step_led, picked_reached}
 use Rattle.map_laws.proofs.TraceWorlds.{IsTraceWorld, trace_lasts, trace_first, trace_reached}
-use Rattle.map_laws.proofs.ObjectsReady.{trace_legal}
+use Rattle.map_laws.proofs.objects.ObjectsReady.{trace_legal}
 
 -- a run on from a reached world leads to another
 runs_on : (c : Setup) (opening : List Call) (calls : List (List Call)) (w v : World) → IsReached c opening calls w → IsRunTo w v → IsReached c opening calls v

@@ -24,8 +24,8 @@ use Rattle.map_laws.proofs.Chosen.{IsIn, filter_has}
 use Rattle.map_laws.proofs.Fits.{and_both}
 use Rattle.map_laws.proofs.Places.{IsPlainKind, IsProper, AllStand, either_place, answers_call}
 use Rattle.map_laws.proofs.OutMoves.{with_in}
-use Rattle.map_laws.proofs.AreaStarts.{areas_after}
-use Rattle.map_laws.proofs.AreaWorlds.{IsLegalStep}
+use Rattle.map_laws.proofs.areas.AreaStarts.{areas_after}
+use Rattle.map_laws.proofs.areas.AreaWorlds.{IsLegalStep}
 
 -- the serials of areas that live are given
 pub record AreGiven (m : PlainMap) : Type 0 where

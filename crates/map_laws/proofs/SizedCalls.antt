@@ -18,7 +18,7 @@ use Rattle.map_laws.proofs.AskRows.{ask_row}
 use Rattle.map_laws.proofs.Places.{either_place, OnNext, answers_call}
 use Rattle.std.proofs.lemmas.Option.{same_Some}
 use Rattle.map_laws.proofs.Frames.{set_cases, append_cases, not_over, has_call}
-use Rattle.map_laws.proofs.AreaWorlds.{IsLegallyLasting}
+use Rattle.map_laws.proofs.areas.AreaWorlds.{IsLegallyLasting}
 
 abbrev pub flight : Place → Made
 flight (GivingAlloc r made) = made

@@ -11,7 +11,7 @@ use Rattle.vm_model.specs.Next.{Next, Go, Answer, next, after_place, after_spare
 use Rattle.vm_model.specs.Given.{given, placing_new, sparing, filling}
 use Rattle.map_laws.proofs.PlaceRows.{place_row}
 use Rattle.map_laws.proofs.Places.{IsProper, OnNext}
-use Rattle.map_laws.proofs.ChunkFalls.{added, new_chunk_has_room, opens, worth, worth_of, open_in, lower_section, IsFillable, page_fillable, AreSized}
+use Rattle.map_laws.proofs.chunks.ChunkFalls.{added, new_chunk_has_room, opens, worth, worth_of, open_in, lower_section, IsFillable, page_fillable, AreSized}
 use Rattle.vm_model.specs.LegalHistory.{Meets}
 use Rattle.map_laws.proofs.AskRows.{ask_row}
 use Rattle.std.proofs.lemmas.List.Sums.{sum_by-cons}

@@ -12,14 +12,14 @@ use Rattle.vm_model.specs.Places.{Place, ask, SettlingArea, SettlingBlock, Settl
 use Rattle.vm_model.specs.PlainMap.{InHand, PlainMap}
 use Rattle.vm_model.specs.Setup.{Setup}
 use Rattle.vm_model.specs.declared.calls.Call.{Call}
-use Rattle.map_laws.proofs.AreaWorlds.{moved_caller, IsAreaWorld, IsLegalStep, IsLegallyLasting, area_kept, legally_lasts, own_once, AreFramesClean, clean_first, clean_lasts}
-use Rattle.map_laws.proofs.ChunkDispatch.{IsUnchunked, chunk_by}
-use Rattle.map_laws.proofs.ChunkAdded.{IsNumberNext, chunk_number, number_after, number_alloc, same_or_alloc}
-use Rattle.map_laws.proofs.ChunkWorlds.{alone, unchunked_begins, IsChunkWorld, OthersPopulate, chunk_first, chunk_joins, chunk_sided, chunk_step, chunks_here, none_populates}
+use Rattle.map_laws.proofs.areas.AreaWorlds.{moved_caller, IsAreaWorld, IsLegalStep, IsLegallyLasting, area_kept, legally_lasts, own_once, AreFramesClean, clean_first, clean_lasts}
+use Rattle.map_laws.proofs.chunks.ChunkDispatch.{IsUnchunked, chunk_by}
+use Rattle.map_laws.proofs.chunks.ChunkAdded.{IsNumberNext, chunk_number, number_after, number_alloc, same_or_alloc}
+use Rattle.map_laws.proofs.chunks.ChunkWorlds.{alone, unchunked_begins, IsChunkWorld, OthersPopulate, chunk_first, chunk_joins, chunk_sided, chunk_step, chunks_here, none_populates}
 use Rattle.map_laws.proofs.Frames.{append_cases, set_cases, there, SomeOther, Someone, other_or, others_still, someone_joins, IsFramed, has_call, not_over}
-use Rattle.map_laws.proofs.ObjectChanges.{same_fine}
-use Rattle.map_laws.proofs.ObjectFacts.{AreChunksFine, IsBeingPlaced, IsObject, IsObjectAt, next_placed}
-use Rattle.map_laws.proofs.ObjectMoves.{IsObjectMoved, Kills, unhanded_at, object_by}
+use Rattle.map_laws.proofs.objects.ObjectChanges.{same_fine}
+use Rattle.map_laws.proofs.objects.ObjectFacts.{AreChunksFine, IsBeingPlaced, IsObject, IsObjectAt, next_placed}
+use Rattle.map_laws.proofs.objects.ObjectMoves.{IsObjectMoved, Kills, unhanded_at, object_by}
 use Rattle.map_laws.proofs.Places.{HaveBeginnings, AtOver, OnNext, answers_call, begins_with, IsProper}
 use Rattle.map_laws.specs.Turns.{AreTurnsKept}
 use Rattle.std.proofs.lemmas.List.Sums.{sum_by-append, sum_by-cons}
@@ -30,16 +30,16 @@ use Rattle.vm_model.specs.Space.{span, times}
 use Rattle.vm_model.specs.declared.areas.Area.{Area}
 use Rattle.vm_model.specs.declared.areas.AreaKind.{AreaKind}
 use Rattle.vm_model.specs.declared.areas.Span.{Span}
-use Rattle.map_laws.proofs.AreaFacts.{IsHolding, own_uses}
-use Rattle.map_laws.proofs.AreaMoves.{IsOutside}
-use Rattle.map_laws.proofs.AreaStarts.{area_first, area_joins, AreMadeWell, areas_after, asks_settle, made_section, no_settle}
-use Rattle.map_laws.proofs.BlockWorlds.{IsChunkSided, IsRemovedPlain, block_by, IsBlockWorld, block_outside, block_step, unblocky_begins}
-use Rattle.map_laws.proofs.BlockFacts.{IsBlockAt, block_out, block_starts}
-use Rattle.map_laws.proofs.BlockPlaces.{HasParts, IsUnblocky, unblocky_at, unblocky_out}
+use Rattle.map_laws.proofs.areas.AreaFacts.{IsHolding, own_uses}
+use Rattle.map_laws.proofs.areas.AreaMoves.{IsOutside}
+use Rattle.map_laws.proofs.areas.AreaStarts.{area_first, area_joins, AreMadeWell, areas_after, asks_settle, made_section, no_settle}
+use Rattle.map_laws.proofs.blocks.BlockWorlds.{IsChunkSided, IsRemovedPlain, block_by, IsBlockWorld, block_outside, block_step, unblocky_begins}
+use Rattle.map_laws.proofs.blocks.BlockFacts.{IsBlockAt, block_out, block_starts}
+use Rattle.map_laws.proofs.blocks.BlockPlaces.{HasParts, IsUnblocky, unblocky_at, unblocky_out}
 use Rattle.map_laws.proofs.Chosen.{IsIn, sum_has}
-use Rattle.map_laws.proofs.ChunkMoves.{IsChunkMoved}
+use Rattle.map_laws.proofs.chunks.ChunkMoves.{IsChunkMoved}
 use Rattle.map_laws.proofs.SizedCalls.{ruled_named}
-use Rattle.map_laws.proofs.ObjectsMade.{AreObjectsMade, made_first, made_joins, made_step}
+use Rattle.map_laws.proofs.objects.ObjectsMade.{AreObjectsMade, made_first, made_joins, made_step}
 use Rattle.map_laws.proofs.OutMoves.{with_in}
 use Rattle.map_laws.proofs.Serials.{IsPlainWorld, plain_first, plain_joins, plain_step, removed_plain}
 use Rattle.map_laws.proofs.TurnProofs.{AreTurnsProper, turns_first, turns_last}

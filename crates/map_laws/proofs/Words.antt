@@ -7,7 +7,7 @@ use Rattle.vm_model.specs.declared.areas.Span.{Span}
 use Rattle.vm_model.specs.Space.{span, holds, is_among, count_from, pages_of}
 use Rattle.vm_model.proofs.Paint.{slice_get-paint, length-paint_from}
 use Rattle.map_laws.proofs.Chosen.{holds_to, holds_from, filter_has, count_from-below}
-use Rattle.map_laws.proofs.AreaFacts.{unpainted}
+use Rattle.map_laws.proofs.areas.AreaFacts.{unpainted}
 use Rattle.std.proofs.lemmas.List.{length-replicate}
 use Rattle.vm_model.specs.declared.calls.Call.{Call}
 use Rattle.vm_model.specs.Setup.{Setup, pages_in_units}
@@ -15,7 +15,7 @@ use Rattle.vm_model.specs.PlainMap.{PlainMap}
 use Rattle.vm_model.specs.Events.{Section, MapPages, Populate, Fill, Unmap, Depopulate, Zero, AddWord, Event}
 use Rattle.vm_model.specs.Effects.{effect_as}
 use Rattle.vm_model.specs.History.{opening_world}
-use Rattle.map_laws.proofs.AreaWorlds.{still_mapped, replicate-at}
+use Rattle.map_laws.proofs.areas.AreaWorlds.{still_mapped, replicate-at}
 use Rattle.std.proofs.Math.IntN.{+ℤ_assoc, +ℤ_comm, +ℤ_idl, +ℤ_idr}
 use Rattle.vm_model.specs.Laws.{amount_of, added}
 

@@ -36,10 +36,6 @@ block_spent c counts page at blocks h = grind (arith, found_there, both_true, su
 times_from-starts : (c : Setup) (counts : ℕ → Bool) (page : ℕ) (blocks : List Block) → times_from counts page (block_spans c (map (λ (b : Block). b.start) blocks)) ≡ sum_by (of_block c counts page) blocks
 times_from-starts c counts page blocks = grind (arith, sum-map)
 
-left_out : (a b : Bool) → (not (a && b)) ≡ true → (a ≡ true → b ≡ true) → a ≡ false
-left_out true b h f = let e = f refl in absurd cc
-left_out false b h f = refl
-
 pub blocks_leave : (c : Setup) (counts : ℕ → Bool) (page cpu : ℕ) (blocks : List Block)
     → sum_by (of_block c counts page) (filter (λ (b : Block). not ((b.cpu == cpu) && is_among (fragmented c cpu blocks) b.start)) blocks) + times_from counts page (block_spans c (fragmented c cpu blocks))
     ≤ sum_by (of_block c counts page) blocks

@@ -35,9 +35,6 @@ found_free m pages align start page h on =
 moved_on : (b : Bool) (taken : List Bool) (start k : ℕ) → slice_get (b ∷ taken) (suc start + k) ≡ slice_get taken (start + k)
 moved_on b taken start k = let e : suc start + k ≡ suc (start + k) = omega arith in ap (slice_get (b ∷ taken)) e
 
-first_place : (k : ℕ) → 0 + k ≡ k
-first_place k = omega arith
-
 none_below : {A : Type 0} (k n : ℕ) → k < n → n ≡ 0 → A
 none_below k n a b = absurd (omega arith)
 

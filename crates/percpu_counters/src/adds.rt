@@ -1,5 +1,5 @@
 //! What a pass does: it adds, and reads a cell.
-ghost use Rattle.std.specs.Prelude.{◌≡◌, ◌≤◌, ◌<◌, ◌+◌, ◌-◌, [], ◌∷◌, ◌++◌, true, IfOk, length, slice_index, slice_index_or, pos};
+ghost use Rattle.std.specs.Prelude.{◌≡◌, ◌≤◌, ◌<◌, ◌+◌, ◌-◌, [], ◌∷◌, ◌++◌, true, IfOk, slice_index_or, pos};
 ghost use Rattle.percpu_counters.specs.Passes.{shape_of, adds_of, spare_of, is_alone, line_of, cells_after, IsPassOf, IsStarted, HasAdded};
 ghost use Rattle.percpu_counters.specs.Rule.{word_count};
 
@@ -23,7 +23,9 @@ impl Counters {
     ) -> Result<(Counters, CountPass), AllocError>
         requires few { adds ≤ 100000 }
         requires batch { 1 ≤ batch }
-        ensures started { IfOk result (λ made. IsStarted (record { cpus = cpus; counters = counters; batch = batch; adds = adds }) made.0 made.1) }
+        ensures started { IfOk result (λ made.
+            IsStarted (record { cpus = cpus; counters = counters; batch = batch; adds = adds })
+            made.0 made.1) }
     {
         let shape = Shape {
             cpus,
@@ -41,7 +43,8 @@ impl Counters {
     /// batch. It waits for nobody, and takes no memory.
     pub fn add(&self, pass: &mut CountPass, counter: u16, cpu: u16, amount: i32)
         requires pass { IsPassOf self.now pass.old }
-        requires cell { (counter < (shape_of self.now).counters) × (cpu < (shape_of self.now).cpus) }
+        requires cell { (counter < (shape_of self.now).counters)
+            × (cpu < (shape_of self.now).cpus) }
         requires room { 1 ≤ spare_of pass.old }
         ensures pass { IsPassOf self.now pass.new }
         ensures added { adds_of pass.new ≡ adds_of pass.old ++ line_of counter cpu amount ∷ [] }
@@ -62,10 +65,14 @@ impl Counters {
     /// What the cell of a processor has. It takes no memory.
     pub fn read_cell(&self, pass: &mut CountPass, counter: u16, cpu: u16) -> i64
         requires pass { IsPassOf self.now pass.old }
-        requires cell { (counter < (shape_of self.now).counters) × (cpu < (shape_of self.now).cpus) }
+        requires cell { (counter < (shape_of self.now).counters)
+            × (cpu < (shape_of self.now).cpus) }
         ensures pass { IsPassOf self.now pass.new }
-        ensures same { (adds_of pass.new ≡ adds_of pass.old) × (spare_of pass.new ≡ spare_of pass.old) × (is_alone pass.new ≡ is_alone pass.old) }
-        ensures cell { is_alone pass.old ≡ true → result ≡ slice_index_or (cells_after (shape_of self.now) counter (adds_of pass.old)).cells cpu (pos 0) }
+        ensures same { (adds_of pass.new ≡ adds_of pass.old)
+            × (spare_of pass.new ≡ spare_of pass.old) × (is_alone pass.new ≡ is_alone pass.old) }
+        ensures cell { is_alone pass.old ≡ true
+            → result ≡ slice_index_or (cells_after (shape_of self.now) counter
+            (adds_of pass.old)).cells cpu (pos 0) }
     {
         look(
             &self.table.shared,
@@ -89,8 +96,10 @@ impl CountPass {
 
 /// An add, and its fold.
 fn add_line<A: Adding>(words: &Words, place: &mut Place, shape: Shape, line: CountLine)
-    requires line { (A.line ≡ line) × (words.now.key ≡ shape) × (line.counter < shape.counters) × (line.cpu < shape.cpus) }
-    requires table { (place.old.table_id ≡ words.now.table_id) × (words.now.table_id.words ≡ word_count shape) }
+    requires line { (A.line ≡ line) × (words.now.key ≡ shape) × (line.counter < shape.counters)
+        × (line.cpu < shape.cpus) }
+    requires table { (place.old.table_id ≡ words.now.table_id)
+        × (words.now.table_id.words ≡ word_count shape) }
     requires room { 0 < place.old.me.0.room }
     requires empty { place.old.me.0.hand ≡ None }
     ensures table { place.new.table_id ≡ place.old.table_id }

@@ -1,8 +1,8 @@
 //! The rows of the counters, once no pass adds any more.
-ghost use Rattle.std.specs.Prelude.{◌≡◌, ◌<◌, ◌≤◌, ◌+◌, ◌*◌, true, [], map, length, IfOk};
+ghost use Rattle.std.specs.Prelude.{◌≡◌, ◌<◌, ◌+◌, ◌*◌, true, [], map, length, IfOk};
 ghost use Rattle.vm_model.specs.declared.rows.CounterRow.{CounterRow};
 ghost use Rattle.atomic_table.specs.Table.{Final, Seen};
-ghost use Rattle.percpu_counters.specs.Rule.{Kept, row_of, word_count};
+ghost use Rattle.percpu_counters.specs.Rule.{Kept, word_count};
 ghost use Rattle.percpu_counters.specs.Rows.{row_at, rows_in};
 
 use crate::counters::{CountPass, Counters};
@@ -19,7 +19,8 @@ pub(crate) fn closed_words(
 ) -> Result<Vec<u64>, AllocError>
     requires place { place.table_id ≡ table.shared.table_id }
     requires slots { table.shared.table_id.slots ≡ 0 }
-    ensures words { IfOk result (λ words. Final (Seen (Kept table.shared.key) place.id place.me.0) words.items []) }
+    ensures words { IfOk result (λ words.
+        Final (Seen (Kept table.shared.key) place.id place.me.0) words.items []) }
     ensures count { IfOk result (λ words. length words.items ≡ table.shared.table_id.words) }
 {
     let count = table.word_count();
@@ -76,8 +77,10 @@ impl Counters {
     pub fn close(self, alloc: Global, pass: CountPass) -> Result<CounterList, AllocError>
         requires pass { IsPassOf self pass }
         requires all { length (adds_of pass) + spare_of pass ≡ (shape_of self).adds }
-        ensures totals { IfOk result (λ rows. map (λ (r : CounterRow). r.total) rows ≡ totals_of (shape_of self) (adds_of pass)) }
-        ensures alone { is_alone pass ≡ true → IfOk result (λ rows. rows ≡ exact_rows (shape_of self) (adds_of pass)) }
+        ensures totals { IfOk result (λ rows.
+            map (λ (r : CounterRow). r.total) rows ≡ totals_of (shape_of self) (adds_of pass)) }
+        ensures alone { is_alone pass ≡ true
+            → IfOk result (λ rows. rows ≡ exact_rows (shape_of self) (adds_of pass)) }
     {
         let Counters { table, shape } = self;
         let CountPass { place, spare: _ } = pass;

@@ -9,11 +9,17 @@ use vm_model::CountLine;
 
 /// Adds to the cell of a processor. Returns what it had before.
 pub(crate) fn put<A: Adding>(words: &Words, place: &mut Place, shape: Shape, line: CountLine) -> u64
-    requires line { (A.line ≡ line) × (words.now.key ≡ shape) × (line.counter < shape.counters) × (line.cpu < shape.cpus) }
-    requires table { (place.old.table_id ≡ words.now.table_id) × (words.now.table_id.words ≡ word_count shape) }
+    requires line { (A.line ≡ line) × (words.now.key ≡ shape) × (line.counter < shape.counters)
+        × (line.cpu < shape.cpus) }
+    requires table { (place.old.table_id ≡ words.now.table_id)
+        × (words.now.table_id.words ≡ word_count shape) }
     requires room { 0 < place.old.me.0.room }
     ensures table { (place.new.table_id ≡ place.old.table_id) × (place.new.id ≡ place.old.id) }
-    ensures view { place.new.me ≡ (put_at (cell_of shape line.counter line.cpu) result line place.old.me.0, place.old.me.1) }
+    ensures view { place.new.me ≡ (
+      put_at (cell_of shape line.counter line.cpu) result line
+          place.old.me.0,
+      place.old.me.1,
+    ) }
     ensures found { IsFound place.old.me.0 (cell_of shape line.counter line.cpu) result }
 {
     let row = line.counter as usize * (shape.cpus as usize + 1);
@@ -28,12 +34,18 @@ pub(crate) fn lift<A: Adding>(
     shape: Shape,
     line: CountLine,
 ) -> u64
-    requires line { (A.line ≡ line) × (words.now.key ≡ shape) × (line.counter < shape.counters) × (line.cpu < shape.cpus) }
-    requires table { (place.old.table_id ≡ words.now.table_id) × (words.now.table_id.words ≡ word_count shape) }
+    requires line { (A.line ≡ line) × (words.now.key ≡ shape) × (line.counter < shape.counters)
+        × (line.cpu < shape.cpus) }
+    requires table { (place.old.table_id ≡ words.now.table_id)
+        × (words.now.table_id.words ≡ word_count shape) }
     requires added { 0 < length place.old.me.0.adds }
     requires empty { place.old.me.0.hand ≡ None }
     ensures table { (place.new.table_id ≡ place.old.table_id) × (place.new.id ≡ place.old.id) }
-    ensures view { place.new.me ≡ (lifted_at (cell_of shape line.counter line.cpu) result line.counter place.old.me.0, place.old.me.1) }
+    ensures view { place.new.me ≡ (
+      lifted_at (cell_of shape line.counter line.cpu) result
+          line.counter place.old.me.0,
+      place.old.me.1,
+    ) }
     ensures found { IsFound place.old.me.0 (cell_of shape line.counter line.cpu) result }
 {
     let row = line.counter as usize * (shape.cpus as usize + 1);
@@ -50,11 +62,15 @@ pub(crate) fn settle(
     amount: u64,
 ) -> u64
     requires shape { (words.now.key ≡ shape) × (counter < shape.counters) }
-    requires table { (place.old.table_id ≡ words.now.table_id) × (words.now.table_id.words ≡ word_count shape) }
+    requires table { (place.old.table_id ≡ words.now.table_id)
+        × (words.now.table_id.words ≡ word_count shape) }
     requires added { 0 < length place.old.me.0.adds }
     requires hand { place.old.me.0.hand ≡ Some (counter, amount) }
     ensures table { (place.new.table_id ≡ place.old.table_id) × (place.new.id ≡ place.old.id) }
-    ensures view { place.new.me ≡ (settled_at (row_of shape counter) result place.old.me.0, place.old.me.1) }
+    ensures view { place.new.me ≡ (
+      settled_at (row_of shape counter) result place.old.me.0,
+      place.old.me.1,
+    ) }
     ensures found { IsFound place.old.me.0 (row_of shape counter) result }
 {
     let at = counter as usize * (shape.cpus as usize + 1);
@@ -64,8 +80,10 @@ pub(crate) fn settle(
 /// Reads the cell of a processor.
 pub(crate) fn look(words: &Words, place: &mut Place, shape: Shape, counter: u16, cpu: u16) -> u64
     requires cell { (words.now.key ≡ shape) × (counter < shape.counters) × (cpu < shape.cpus) }
-    requires table { (place.old.table_id ≡ words.now.table_id) × (words.now.table_id.words ≡ word_count shape) }
-    ensures table { (place.new.table_id ≡ place.old.table_id) × (place.new.id ≡ place.old.id) × (place.new.me ≡ place.old.me) }
+    requires table { (place.old.table_id ≡ words.now.table_id)
+        × (words.now.table_id.words ≡ word_count shape) }
+    ensures table { (place.new.table_id ≡ place.old.table_id) × (place.new.id ≡ place.old.id)
+        × (place.new.me ≡ place.old.me) }
     ensures found { IsFound place.old.me.0 (cell_of shape counter cpu) result }
 {
     let at = counter as usize * (shape.cpus as usize + 1) + 1 + cpu as usize;
@@ -75,11 +93,14 @@ pub(crate) fn look(words: &Words, place: &mut Place, shape: Shape, counter: u16,
 /// Room of a pass goes to a new one.
 pub(crate) fn cut<C: Cutting>(words: &Words, place: &mut Place, shape: Shape, room: u32) -> Place
     requires shape { (C.room ≡ room) × (words.now.key ≡ shape) }
-    requires table { (place.old.table_id ≡ words.now.table_id) × (words.now.table_id.words ≡ word_count shape) }
+    requires table { (place.old.table_id ≡ words.now.table_id)
+        × (words.now.table_id.words ≡ word_count shape) }
     requires room { room ≤ place.old.me.0.room }
     requires empty { place.old.me.0.hand ≡ None }
-    ensures table { (place.new.table_id ≡ place.old.table_id) × (result.table_id ≡ place.old.table_id) }
-    ensures views { (place.new.me ≡ (with_less room place.old.me.0, place.old.me.1)) × (result.me ≡ (with_room room, [])) }
+    ensures table { (place.new.table_id ≡ place.old.table_id)
+        × (result.table_id ≡ place.old.table_id) }
+    ensures views { (place.new.me ≡ (with_less room place.old.me.0, place.old.me.1))
+        × (result.me ≡ (with_room room, [])) }
 {
     words.split_seat::<Cut<C>>(place)
 }
@@ -87,7 +108,8 @@ pub(crate) fn cut<C: Cutting>(words: &Words, place: &mut Place, shape: Shape, ro
 /// What another pass added, and its room, goes to a pass.
 pub(crate) fn unite(words: &Words, place: &mut Place, other: Place, shape: Shape)
     requires shape { words.now.key ≡ shape }
-    requires table { (place.old.table_id ≡ words.now.table_id) × (other.table_id ≡ words.now.table_id) × (words.now.table_id.words ≡ word_count shape) }
+    requires table { (place.old.table_id ≡ words.now.table_id)
+        × (other.table_id ≡ words.now.table_id) × (words.now.table_id.words ≡ word_count shape) }
     requires empty { (place.old.me.0.hand ≡ None) × (other.me.0.hand ≡ None) × (other.me.1 ≡ []) }
     ensures table { place.new.table_id ≡ place.old.table_id }
     ensures view { place.new.me ≡ (with_both place.old.me.0 other.me.0, place.old.me.1) }

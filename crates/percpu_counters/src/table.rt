@@ -55,7 +55,13 @@ pub trait Adding {
 }
 
 impl Adding for Brand {
-    ghost line = { record { caller = 0; after = 0; counter = 0; cpu = 0; amount = Rattle.std.specs.Prelude.pos 0 } };
+    ghost line = { record {
+      caller = 0;
+      after = 0;
+      counter = 0;
+      cpu = 0;
+      amount = Rattle.std.specs.Prelude.pos 0;
+    } };
 }
 
 /// An add to a cell.
@@ -77,7 +83,8 @@ pub struct Lift<A> {
 impl<A: Adding> Play<(), Tally> for Lift<A> {
     ghost use Rattle.percpu_counters.specs.Rule.{lifted_at, IsFound};
 
-    ghost then = { λ st m n m'. (m' ≡ (lifted_at st.word n A.line.counter m.0, m.1)) × IsFound m.0 st.word n };
+    ghost then = { λ st m n m'. (m' ≡ (lifted_at st.word n A.line.counter m.0, m.1))
+        × IsFound m.0 st.word n };
 }
 
 /// What is in hand goes into the count.

@@ -102,7 +102,8 @@ fn put_chunk_audits(
     plains: &[ChunkAudit],
     hints: &[HintRow],
 ) -> Result<(), AllocError>
-    ensures { OnOk result (text.new.items ≡ text.old.items ++ chunk_audits chunks.now plains.now hints.now) }
+    ensures { OnOk result (text.new.items
+        ≡ text.old.items ++ chunk_audits chunks.now plains.now hints.now) }
 {
     let mut rest = hints;
     for i in 0..chunks.len().min(plains.len()) {
@@ -123,7 +124,8 @@ fn put_cell(text: &mut Vec<u8>, cell: &i64) -> Result<(), AllocError>
 
 /// Writes amounts, a space before each.
 fn put_cells(text: &mut Vec<u8>, cells: &[i64]) -> Result<(), AllocError>
-    ensures { OnOk result (text.new.items ≡ text.old.items ++ fields ([] ∷ map signed_decimal cells.now)) }
+    ensures { OnOk result (text.new.items
+        ≡ text.old.items ++ fields ([] ∷ map signed_decimal cells.now)) }
 {
     for cell in cells {
         put_cell(text, cell)?;
@@ -133,7 +135,9 @@ fn put_cells(text: &mut Vec<u8>, cells: &[i64]) -> Result<(), AllocError>
 
 /// Writes a counter's number and its count, before its cells.
 fn put_count(text: &mut Vec<u8>, number: u64, counter: &CounterRow) -> Result<(), AllocError>
-    ensures { OnOk result (text.new.items ≡ text.old.items ++ fields ([] ∷ codes "counter" ∷ decimal number ∷ codes "count" ∷ signed_decimal counter.now.count ∷ codes "cells" ∷ [])) }
+    ensures { OnOk result (text.new.items
+        ≡ text.old.items ++ fields ([] ∷ codes "counter" ∷ decimal number ∷ codes "count"
+        ∷ signed_decimal counter.now.count ∷ codes "cells" ∷ [])) }
 {
     let words = [
         Word(b"counter"),

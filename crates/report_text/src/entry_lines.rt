@@ -15,7 +15,9 @@ use vm_model::{Entry, Reply};
 
 /// Writes the line of a reply, between the call that it answers and the event at which it came.
 fn put_reply(text: &mut Vec<u8>, call: Field, reply: &Reply, event: Field) -> Result<(), AllocError>
-    ensures { OnOk result (text.new.items ≡ text.old.items ++ line (field_text call.entry ∷ (reply_words reply.now ++ field_text event.entry ∷ []))) }
+    ensures { OnOk result (text.new.items
+        ≡ text.old.items ++ line (field_text call.entry
+        ∷ (reply_words reply.now ++ field_text event.entry ∷ []))) }
 {
     match reply {
         Reply::Address(number) => {

@@ -1,5 +1,5 @@
 //! The lines of the tables.
-ghost use Rattle.std.specs.Prelude.{◌≡◌, ◌++◌, ◌∷◌, [], OnOk, codes};
+ghost use Rattle.std.specs.Prelude.{◌≡◌, ◌++◌, ◌∷◌, [], OnOk};
 ghost use Rattle.std.specs.List.{flat_map};
 ghost use Rattle.text_lines.specs.Fields.{field_text};
 ghost use Rattle.vm_model.specs.Words.{line};
@@ -40,7 +40,8 @@ pub fn put_frames(
 
 /// Writes a word and where a span starts and ends.
 fn put_span(text: &mut Vec<u8>, word: &[u8], span: &Span) -> Result<(), AllocError>
-    ensures { OnOk result (text.new.items ≡ text.old.items ++ line (word.now ∷ range span.now ∷ [])) }
+    ensures { OnOk result (text.new.items
+        ≡ text.old.items ++ line (word.now ∷ range span.now ∷ [])) }
 {
     let end = span.start as u64 + span.pages as u64;
     put_line(text, word, &[Pair(span.start as u64, b"..", end)])
@@ -48,7 +49,8 @@ fn put_span(text: &mut Vec<u8>, word: &[u8], span: &Span) -> Result<(), AllocErr
 
 /// Writes a line for each span, under a word.
 pub fn put_spans(text: &mut Vec<u8>, word: &[u8], spans: &[Span]) -> Result<(), AllocError>
-    ensures { OnOk result (text.new.items ≡ text.old.items ++ flat_map (λ (s : Span). line (word.now ∷ range s ∷ [])) spans.now) }
+    ensures { OnOk result (text.new.items
+        ≡ text.old.items ++ flat_map (λ (s : Span). line (word.now ∷ range s ∷ [])) spans.now) }
 {
     for span in spans {
         put_span(text, word, span)?;

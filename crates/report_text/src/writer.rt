@@ -50,7 +50,8 @@ fn put_numbers(
     counters: &[CounterRow],
     audit: bool,
 ) -> Result<(), AllocError>
-    ensures { OnOk result (text.new.items ≡ text.old.items ++ number_lines tables.now counters.now audit) }
+    ensures { OnOk result (text.new.items
+        ≡ text.old.items ++ number_lines tables.now counters.now audit) }
 {
     put_counters(text, counters)?;
     if audit {

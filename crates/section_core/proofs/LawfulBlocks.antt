@@ -18,8 +18,8 @@ use Rattle.vm_model.specs.Parts.{Region, CpuBlocks, regions_of, cpu_blocks, want
 use Rattle.vm_model.specs.Run.{StandTogether}
 use Rattle.map_parts.specs.Kept.{IsSoundLocal, IsSoundPart, IsSoundPlace}
 use Rattle.map_parts.proofs.Filters.{filter_twice}
-use Rattle.map_laws.proofs.BlockFacts.{IsBlockArea, IsPartFine, IsBlockFine, IsBlockAt, IsPartIn, block_out, block_starts, count_cons, stacked_at, same_test, to_same}
-use Rattle.map_laws.proofs.BlockMoves.{same_start, part_within}
+use Rattle.map_laws.proofs.blocks.BlockFacts.{IsBlockArea, IsPartFine, IsBlockFine, IsBlockAt, IsPartIn, block_out, block_starts, count_cons, stacked_at, same_test, to_same}
+use Rattle.map_laws.proofs.blocks.BlockMoves.{same_start, part_within}
 use Rattle.map_laws.proofs.Chosen.{IsIn, filter_has, filter_in, covers_one, holds_to, covers_append}
 use Rattle.map_laws.proofs.EndProofs.{histories_short}
 use Rattle.map_laws.proofs.Frames.{IsFramed}

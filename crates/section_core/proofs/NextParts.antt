@@ -8,7 +8,7 @@ use Rattle.vm_model.specs.Legal.{IsLegalAs}
 use Rattle.vm_model.specs.Effects.{effect_as}
 use Rattle.vm_model.specs.History.{World}
 use Rattle.vm_model.specs.LegalHistory.{IsReached}
-use Rattle.map_laws.proofs.AreaWorlds.{IsLegallyLasting, legally_lasts}
+use Rattle.map_laws.proofs.areas.AreaWorlds.{IsLegallyLasting, legally_lasts}
 
 -- a number that is written into a list raises none above it
 set_below : (xs : List ℕ) (i j v n : ℕ) → v ≤ n → slice_index xs j ≤ n → slice_index (slice_set xs i v) j ≤ n

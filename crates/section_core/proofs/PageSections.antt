@@ -8,7 +8,7 @@ use Rattle.vm_model.specs.PageSets.{has_page}
 use Rattle.vm_model.specs.PageSets.{pages_in as pages_set}
 use Rattle.vm_model.specs.Carried.{count_of}
 use Rattle.vm_model.proofs.Tabulated.{filter-same}
-use Rattle.map_laws.proofs.BlockFacts.{count_cons, among_count}
+use Rattle.map_laws.proofs.blocks.BlockFacts.{count_cons, among_count}
 use Rattle.map_laws.proofs.PlaceMoves.{given_all, given_still}
 use Rattle.chunk_slots.proofs.PageBits.{inside, from_before}
 use Rattle.vm_model.specs.Setup.{pages_in_units}

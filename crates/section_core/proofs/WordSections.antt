@@ -6,9 +6,9 @@ use Rattle.vm_model.specs.Space.{is_among}
 use Rattle.vm_model.specs.Setup.{Setup, cpus, pages_in_units}
 use Rattle.vm_model.specs.Frames.{cell_of, word_at, sum_words}
 use Rattle.vm_model.specs.Chunks.{ObjectAt, pages_of_object}
-use Rattle.map_laws.proofs.BlockWorlds.{only_one}
-use Rattle.map_laws.proofs.ChunkFacts.{unit_page, page_in_units}
-use Rattle.map_laws.proofs.ChunkMoves.{counted}
+use Rattle.map_laws.proofs.blocks.BlockWorlds.{only_one}
+use Rattle.map_laws.proofs.chunks.ChunkFacts.{unit_page, page_in_units}
+use Rattle.map_laws.proofs.chunks.ChunkMoves.{counted}
 use Rattle.section_laws.specs.Needs.{HasFrame, IsReachable}
 use Rattle.section_laws.specs.Words.{IsWithin, most_amount, most_word}
 use Rattle.section_laws.proofs.WordsSmall.{AreWithin, zero_within, wider, both_within, cell_within}

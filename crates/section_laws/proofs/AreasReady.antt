@@ -18,7 +18,7 @@ use Rattle.map_laws.proofs.EndProofs.{histories_short}
 use Rattle.map_laws.proofs.MapLegal.{IsReady}
 use Rattle.map_laws.proofs.Namings.{starts_once}
 use Rattle.map_laws.proofs.Chosen.{or_right, covers_times, none_covers, holds_from, times-append}
-use Rattle.map_laws.proofs.ChunkFalls.{mapped_at}
+use Rattle.map_laws.proofs.chunks.ChunkFalls.{mapped_at}
 use Rattle.map_laws.proofs.TraceWorlds.{holding_here, once_here}
 use Rattle.section_laws.specs.Lawful.{IsRunning}
 use Rattle.section_laws.specs.Needs.{CanSettle, AreAreasReady, CanWaitThere, AreWaitsReady}

@@ -7,14 +7,14 @@ use Rattle.vm_model.specs.PlainMap.{Life}
 use Rattle.vm_model.specs.Chunks.{ObjectAt, object_pages}
 use Rattle.vm_model.specs.Legal.{OnPages, IsMapped, IsUnmapped}
 use Rattle.vm_model.specs.History.{World, Local}
-use Rattle.map_laws.proofs.AreaWorlds.{legally_lasts}
-use Rattle.map_laws.proofs.ChunkFacts.{IsChunkAt}
+use Rattle.map_laws.proofs.areas.AreaWorlds.{legally_lasts}
+use Rattle.map_laws.proofs.chunks.ChunkFacts.{IsChunkAt}
 use Rattle.map_laws.proofs.Frames.{IsFramed}
 use Rattle.map_laws.proofs.SizedCalls.{IsNow, AreSized, sized_lasts, sized_first}
 use Rattle.map_laws.proofs.MapLegal.{IsReady}
-use Rattle.map_laws.proofs.ObjectFacts.{IsObject, IsObjectAt}
+use Rattle.map_laws.proofs.objects.ObjectFacts.{IsObject, IsObjectAt}
 use Rattle.map_laws.proofs.TraceWorlds.{SomeonePlaces, IsTraceWorld, trace_reached}
-use Rattle.map_laws.proofs.ObjectsReady.{ready_here}
+use Rattle.map_laws.proofs.objects.ObjectsReady.{ready_here}
 use Rattle.section_laws.specs.Lawful.{IsRunning}
 use Rattle.section_laws.specs.Needs.{LiesInUnits, HasObject}
 use Rattle.section_laws.proofs.Memory.{pages_reached}

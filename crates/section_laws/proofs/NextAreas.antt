@@ -14,8 +14,8 @@ use Rattle.vm_model.specs.Effects.{effect_as}
 use Rattle.vm_model.specs.LegalHistory.{IsReached, Meets}
 use Rattle.vm_model.specs.History.{World}
 use Rattle.vm_model.specs.Rules.{IsSetup}
-use Rattle.map_laws.proofs.AreaStarts.{is_settle, asks_settle, no_settle}
-use Rattle.map_laws.proofs.AreaWorlds.{IsLegallyLasting, legally_lasts}
+use Rattle.map_laws.proofs.areas.AreaStarts.{is_settle, asks_settle, no_settle}
+use Rattle.map_laws.proofs.areas.AreaWorlds.{IsLegallyLasting, legally_lasts}
 
 -- how many areas a section settles
 abbrev settled_by : Section → ℕ

@@ -3,10 +3,10 @@ use Rattle.std.proofs.Common.{◌≡◌, ℕ, ◌==◌, List, Some, flat_map, ap
 use Rattle.vm_model.specs.Setup.{Setup}
 use Rattle.vm_model.specs.PlainMap.{Chunk, Object, Life}
 use Rattle.vm_model.specs.Chunks.{ObjectAt, chunks_numbered, find_object}
-use Rattle.map_laws.proofs.BlockFacts.{same_test, to_same}
+use Rattle.map_laws.proofs.blocks.BlockFacts.{same_test, to_same}
 use Rattle.map_laws.proofs.Chosen.{filter_has, filter_in, find_has}
 use Rattle.map_laws.proofs.GivenMeets.{flat_in}
-use Rattle.map_laws.proofs.ObjectFacts.{AreChunksFine, IsObject, object_only}
+use Rattle.map_laws.proofs.objects.ObjectFacts.{AreChunksFine, IsObject, object_only}
 use Rattle.map_laws.proofs.Fits.{find_some, flat_has}
 
 module _ (c : Setup) (placing : ℕ → ℕ → Type 0) (chunks : List Chunk) (fine : AreChunksFine c placing chunks) (at : ObjectAt) (life : Life) (is : IsObject chunks at life) where

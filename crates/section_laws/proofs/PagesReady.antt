@@ -9,15 +9,15 @@ use Rattle.vm_model.specs.Legal.{OnPages, IsBare, IsMapped}
 use Rattle.vm_model.specs.Places.{Place, Populating, Filling, Depopulating, Zeroing, Adding, Summing}
 use Rattle.vm_model.specs.History.{World, Local}
 use Rattle.vm_model.specs.Parts.{Region, Pages}
-use Rattle.map_laws.proofs.BlockWorlds.{only_one}
-use Rattle.map_laws.proofs.BlockFacts.{count_cons}
-use Rattle.map_laws.proofs.ChunkFacts.{IsChunkAt, unit_page, page_in_units}
+use Rattle.map_laws.proofs.blocks.BlockWorlds.{only_one}
+use Rattle.map_laws.proofs.blocks.BlockFacts.{count_cons}
+use Rattle.map_laws.proofs.chunks.ChunkFacts.{IsChunkAt, unit_page, page_in_units}
 use Rattle.map_laws.proofs.SizedCalls.{IsNow}
 use Rattle.map_laws.proofs.MapLegal.{IsReady}
-use Rattle.map_laws.proofs.ObjectFacts.{IsObject, IsObjectAt}
-use Rattle.map_laws.proofs.ObjectsReady.{named_live}
+use Rattle.map_laws.proofs.objects.ObjectFacts.{IsObject, IsObjectAt}
+use Rattle.map_laws.proofs.objects.ObjectsReady.{named_live}
 use Rattle.map_laws.proofs.Chosen.{one_if_le}
-use Rattle.map_laws.proofs.ObjectWords.{add_within, sum_within}
+use Rattle.map_laws.proofs.objects.ObjectWords.{add_within, sum_within}
 use Rattle.section_laws.specs.Lawful.{IsRunning}
 use Rattle.section_laws.specs.Needs.{CanGetFrames, CanLoseFrames, IsReachable, ArePagesReady}
 use Rattle.section_laws.specs.Laws.{PagesAreReady}

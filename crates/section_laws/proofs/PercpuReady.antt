@@ -10,12 +10,12 @@ use Rattle.vm_model.specs.Places.{Place, Choosing, ChoosingAtomic, AddingChunk, 
 use Rattle.vm_model.specs.History.{World, Local, most_events}
 use Rattle.vm_model.specs.LegalHistory.{IsReached}
 use Rattle.vm_model.specs.Parts.{Region, Percpu}
-use Rattle.map_laws.proofs.AreaWorlds.{IsLegallyLasting, legally_lasts}
+use Rattle.map_laws.proofs.areas.AreaWorlds.{IsLegallyLasting, legally_lasts}
 use Rattle.map_laws.proofs.EndProofs.{histories_short}
 use Rattle.map_laws.proofs.MapLegal.{IsReady}
-use Rattle.map_laws.proofs.ObjectFacts.{IsObjectAt}
+use Rattle.map_laws.proofs.objects.ObjectFacts.{IsObjectAt}
 use Rattle.map_laws.proofs.Places.{IsObjectSize, IsProper}
-use Rattle.map_laws.proofs.ChunkFalls.{AreSized, sized_section}
+use Rattle.map_laws.proofs.chunks.ChunkFalls.{AreSized, sized_section}
 use Rattle.map_laws.proofs.TraceWorlds.{proper_here}
 use Rattle.call_laws.specs.Room.{may_place}
 use Rattle.call_laws.proofs.Rooms.{room_counts}

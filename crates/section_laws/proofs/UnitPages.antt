@@ -7,7 +7,7 @@ use Rattle.vm_model.specs.Space.{span, is_among, one_if, count_from}
 use Rattle.vm_model.specs.Setup.{Setup, pages_in_units}
 use Rattle.vm_model.specs.Carried.{count_of}
 use Rattle.vm_model.specs.Rules.{AreUnits}
-use Rattle.map_laws.proofs.BlockFacts.{count_cons, count_append, count_among, same_test, to_same}
+use Rattle.map_laws.proofs.blocks.BlockFacts.{count_cons, count_append, count_among, same_test, to_same}
 use Rattle.map_laws.proofs.MapLaws.{sum_once}
 use Rattle.map_laws.proofs.Chosen.{or_either, holds_from}
 

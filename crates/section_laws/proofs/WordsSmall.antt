@@ -22,7 +22,7 @@ use Rattle.vm_model.specs.History.{World, Local, moved_to, made_by, opening_worl
 use Rattle.vm_model.specs.LegalHistory.{Meets, IsReached}
 use Rattle.vm_model.specs.Parts.{Region, Pages}
 use Rattle.vm_model.proofs.Paint.{slice_get-paint}
-use Rattle.map_laws.proofs.AreaWorlds.{IsLegalStep, legally_lasts, replicate-at}
+use Rattle.map_laws.proofs.areas.AreaWorlds.{IsLegalStep, legally_lasts, replicate-at}
 use Rattle.map_laws.proofs.Deeds.{adds_at}
 use Rattle.map_laws.proofs.Frames.{IsFramed, has_call, not_over, set_cases}
 use Rattle.map_laws.proofs.Places.{answers_call}

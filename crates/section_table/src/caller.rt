@@ -15,7 +15,9 @@ impl<L> Caller<L> {
     pub(crate) fn ready(&mut self) -> Result<bool, AllocError>
         ensures local { self.new.local ≡ self.old.local }
         ensures stamps { self.new.stamps.items ≡ self.old.stamps.items }
-        ensures room { IfOk result (λ b. b ≡ true → (vec_len self.new.stamps < vec_capacity self.new.stamps) × (vec_len self.new.stamps < 2 ^ 58)) }
+        ensures room { IfOk result (λ b. b ≡ true
+            → (vec_len self.new.stamps < vec_capacity self.new.stamps)
+            × (vec_len self.new.stamps < 2 ^ 58)) }
     {
         if self.stamps.len() >= 1 << 58 {
             return Ok(false);

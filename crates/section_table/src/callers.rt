@@ -1,5 +1,5 @@
 //! The callers of a pass, by their numbers.
-ghost use Rattle.std.specs.Prelude.{◌≡◌, ℕ, ◌+◌, ◌-◌, ◌≤◌, ◌<◌, [], IfOk, IfSome, Some, None, map, replicate, length, slice_get, slice_set, vec_len, vec_capacity};
+ghost use Rattle.std.specs.Prelude.{◌≡◌, ◌+◌, ◌-◌, ◌≤◌, ◌<◌, IfOk, IfSome, Some, None, map, replicate, length, slice_get, vec_capacity};
 ghost use Rattle.section_table.specs.Shown.{shown_of};
 ghost use Rattle.section_table.specs.Views.{newcomer, merged, put_at};
 ghost use Rattle.section_table.specs.declared.caller.Caller.{Caller};
@@ -69,7 +69,8 @@ pub(crate) fn merge<L: Drop>(callers: &mut Vec<Option<Caller<L>>>, others: Vec<O
 /// What the caller wants next.
 pub(crate) fn wish_of<P: Parts>(callers: &Vec<Option<Caller<P::Local>>>, caller: u16) -> Option<u16>
     requires { (x : Caller P.Local) × (slice_get callers.now.items caller ≡ Some (Some x)) }
-    ensures { (x : Caller P.Local) → slice_get callers.now.items caller ≡ Some (Some x) → (result ≡ P.meaning.wanted x.local) × IfSome result (λ k. k < P.meaning.reach x.local) }
+    ensures { (x : Caller P.Local) → slice_get callers.now.items caller ≡ Some (Some x)
+        → (result ≡ P.meaning.wanted x.local) × IfSome result (λ k. k < P.meaning.reach x.local) }
 {
     match &callers[caller as usize] {
         Some(mine) => P::wants(&mine.local),

@@ -1,5 +1,5 @@
 //! The end of a table.
-ghost use Rattle.std.specs.Prelude.{◌≡◌, ℕ, ◌≤◌, [], length, map, replicate, vec_capacity, IfOk};
+ghost use Rattle.std.specs.Prelude.{◌≡◌, ◌≤◌, [], length, map, replicate, vec_capacity, IfOk};
 ghost use Rattle.std.specs.Slots.{slots_items, slots_len, IsFull};
 ghost use Rattle.section_table.specs.Places.{AreBelow};
 ghost use Rattle.section_table.specs.Shown.{shown_of};
@@ -47,7 +47,8 @@ fn picks_of<L>(
 ) -> Result<Vec<u16>, AllocError>
     requires few { length callers.now ≤ 32 }
     requires stamps { HasStampsBelow count (map shown_of callers.now) }
-    ensures { IfOk result (λ v. v.items ≡ all_written (replicate count 0) 0 (map shown_of callers.now)) }
+    ensures { IfOk result (λ v. v.items
+        ≡ all_written (replicate count 0) 0 (map shown_of callers.now)) }
 {
     let mut picks = Vec::from_elem(alloc, 0u16, count)?;
     for (caller, kept) in callers.iter().enumerate() {

@@ -1,6 +1,6 @@
 //! One try of a caller: the turn of the region that it wants, the section, the stamp, and the region and turn back.
-ghost use Rattle.std.specs.Prelude.{◌≡◌, ℕ, ◌+◌, ◌^◌, ◌<◌, ◌≤◌, Some, None, [], ◌∷◌, vec_len, vec_capacity};
-ghost use Rattle.section_table.specs.Views.{Has, HasCaller};
+ghost use Rattle.std.specs.Prelude.{◌≡◌, ◌+◌, ◌^◌, ◌<◌, ◌≤◌, Some, None, [], ◌∷◌, vec_len, vec_capacity};
+ghost use Rattle.section_table.specs.Views.{Has};
 ghost use Rattle.section_table.specs.Shown.{held_of};
 ghost use Rattle.section_table.specs.Steps.{Meet};
 ghost use Rattle.section_table.specs.Events.{MakesSection};
@@ -20,13 +20,18 @@ fn section_in<P: Parts, C: Actor>(
     region: u16,
 ) -> Result<Option<u64>, AllocError>
     requires table { (place.old.table_id ≡ top.now.table_id) × (0 < top.now.table_id.words) }
-    requires room { (vec_len mine.old.stamps < vec_capacity mine.old.stamps) × (vec_len mine.old.stamps < 2 ^ 58) }
-    requires wants { (P.meaning.wanted mine.old.local ≡ Some region) × Has place.old.me.0 C.caller (held_of mine.old) }
-    requires hand { (r : P.Region) × (place.old.me.0.hand ≡ Some (region, r)) × (place.old.me.1 ≡ (region, r) ∷ []) × Meet P.meaning place.old.me.0 region r }
+    requires room { (vec_len mine.old.stamps < vec_capacity mine.old.stamps)
+        × (vec_len mine.old.stamps < 2 ^ 58) }
+    requires wants { (P.meaning.wanted mine.old.local ≡ Some region)
+        × Has place.old.me.0 C.caller (held_of mine.old) }
+    requires hand { (r : P.Region) × (place.old.me.0.hand ≡ Some (region, r))
+        × (place.old.me.1 ≡ (region, r) ∷ []) × Meet P.meaning place.old.me.0 region r }
     ensures table { (place.new.table_id ≡ place.old.table_id) × (place.new.id ≡ place.old.id) }
     ensures reach { P.meaning.reach mine.new.local ≤ P.meaning.reach mine.old.local }
-    ensures hand { (r : P.Region) × (place.new.me.0.hand ≡ Some (region, r)) × (place.new.me.1 ≡ (region, r) ∷ []) }
-    ensures made { MakesSection P.meaning C.caller region place.old.me.0 place.new.me.0 (held_of mine.old) (held_of mine.new) result }
+    ensures hand { (r : P.Region) × (place.new.me.0.hand ≡ Some (region, r))
+        × (place.new.me.1 ≡ (region, r) ∷ []) }
+    ensures made { MakesSection P.meaning C.caller region place.old.me.0 place.new.me.0
+        (held_of mine.old) (held_of mine.new) result }
 {
     let slot = place.slot_mut(top, region as usize);
     match P::section(&mut mine.local, slot)? {
@@ -50,14 +55,18 @@ pub(crate) fn attempt<P: Parts, C: Actor, G: Gate>(
     gate: &G,
 ) -> Result<Option<u64>, AllocError>
     requires caller { caller ≡ C.caller }
-    requires table { (place.old.table_id ≡ top.now.table_id) × (region < top.now.table_id.slots) × (top.now.table_id.words ≡ top.now.table_id.slots + 2) }
-    requires room { (vec_len mine.old.stamps < vec_capacity mine.old.stamps) × (vec_len mine.old.stamps < 2 ^ 58) }
-    requires wants { (P.meaning.wanted mine.old.local ≡ Some region) × Has place.old.me.0 C.caller (held_of mine.old) }
+    requires table { (place.old.table_id ≡ top.now.table_id) × (region < top.now.table_id.slots)
+        × (top.now.table_id.words ≡ top.now.table_id.slots + 2) }
+    requires room { (vec_len mine.old.stamps < vec_capacity mine.old.stamps)
+        × (vec_len mine.old.stamps < 2 ^ 58) }
+    requires wants { (P.meaning.wanted mine.old.local ≡ Some region)
+        × Has place.old.me.0 C.caller (held_of mine.old) }
     requires rests { (place.old.me.0.hand ≡ None) × (place.old.me.1 ≡ []) }
     ensures table { (place.new.table_id ≡ place.old.table_id) × (place.new.id ≡ place.old.id) }
     ensures rests { (place.new.me.0.hand ≡ None) × (place.new.me.1 ≡ []) }
     ensures reach { P.meaning.reach mine.new.local ≤ P.meaning.reach mine.old.local }
-    ensures tried { MakesSection P.meaning C.caller region place.old.me.0 place.new.me.0 (held_of mine.old) (held_of mine.new) result }
+    ensures tried { MakesSection P.meaning C.caller region place.old.me.0 place.new.me.0
+        (held_of mine.old) (held_of mine.new) result }
 {
     if !take::<P>(top, place, region) {
         return Ok(None);

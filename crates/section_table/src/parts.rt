@@ -1,5 +1,5 @@
 //! Regions, callers, and the section that a caller makes over a region.
-ghost use Rattle.std.specs.Prelude.{◌≡◌, ℕ, ◌≤◌, ◌<◌, MatchResult, IfSome};
+ghost use Rattle.std.specs.Prelude.{◌≡◌, ◌≤◌, ◌<◌, MatchResult, IfSome};
 ghost use Rattle.vm_model.specs.Run.{StandTogether};
 ghost use Rattle.map_parts.specs.Sections.{KeepsLawful};
 ghost use Rattle.section_table.specs.Meanings.{Meanings};
@@ -32,7 +32,9 @@ pub trait Parts {
     /// Makes the caller's next event over the region that it wants. Room is taken before anything changes.
     fn section(local: &mut Self::Local, region: &mut Self::Region) -> Result<Turned, AllocError>
         requires { StandTogether meaning.wanted meaning.lawful local.old region.old }
-        ensures answer { MatchResult result (Answers meaning local.old region.old local.new region.new) (λ _. (local.new ≡ local.old) × (region.new ≡ region.old)) }
+        ensures answer { MatchResult result
+            (Answers meaning local.old region.old local.new region.new) (λ _.
+            (local.new ≡ local.old) × (region.new ≡ region.old)) }
         ensures reach { meaning.reach local.new ≤ meaning.reach local.old };
 
     /// A section keeps a state lawful.

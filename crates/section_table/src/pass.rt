@@ -1,5 +1,5 @@
 //! Some of the callers, for one thread.
-ghost use Rattle.std.specs.Prelude.{◌≡◌, ℕ, [], None, map};
+ghost use Rattle.std.specs.Prelude.{◌≡◌, [], None, map};
 ghost use Rattle.section_table.specs.Shown.{shown_of};
 ghost use Rattle.section_table.specs.Views.{Has, HasCaller, IsWithin};
 ghost use Rattle.section_table.specs.declared.views.Held.{Held};

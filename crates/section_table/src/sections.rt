@@ -1,6 +1,6 @@
 //! A table of regions behind turns of their own, and its passes.
 ghost use Rattle.std.specs.Prelude.{◌≡◌, ℕ, ◌+◌, ◌≤◌, ◌<◌, length, replicate, slice_get, IfOk, OnOk, OnErr, IfErr, Some};
-ghost use Rattle.section_table.specs.Views.{HasCaller, HasAll, starting, without, alone, both_of};
+ghost use Rattle.section_table.specs.Views.{HasCaller, starting, without, alone, both_of};
 ghost use Rattle.section_table.specs.Acts.{Acts};
 
 use crate::Gate;
@@ -49,11 +49,13 @@ impl<P: Parts> Sections<P> {
     ) -> Result<(Sections<P>, Pass<P>), AllocError>
         requires some { 0 < length locals.items }
         requires few { length locals.items ≤ 32 }
-        requires reach { (k : ℕ) (l : P.Local) → slice_get locals.items k ≡ Some l → P.meaning.reach l ≤ length regions.items }
+        requires reach { (k : ℕ) (l : P.Local) → slice_get locals.items k ≡ Some l
+            → P.meaning.reach l ≤ length regions.items }
         requires lawful { P.meaning.lawful regions.items locals.items }
         ensures table { IfOk result (λ s. s.1.place.table_id ≡ s.0.table.shared.table_id) }
         ensures pass { IfOk result (λ s. s.1.place.me.0 ≡ starting locals.items) }
-        ensures regions { IfOk result (λ s. s.0.table.shared.key.regions.value.items ≡ regions.items) }
+        ensures regions { IfOk result (λ s.
+            s.0.table.shared.key.regions.value.items ≡ regions.items) }
         ensures locals { IfOk result (λ s. s.0.table.shared.key.locals.value.items ≡ locals.items) }
     {
         let Some(count) = regions.len().checked_add(2) else {
@@ -118,7 +120,8 @@ impl<P: Parts> Sections<P> {
         requires table { into.old.place.table_id ≡ self.now.table.shared.table_id }
         requires other { other.place.table_id ≡ self.now.table.shared.table_id }
         ensures table { into.new.place.table_id ≡ into.old.place.table_id }
-        ensures joined { OnOk result (into.new.place.me.0 ≡ both_of into.old.place.me.0 other.place.me.0) }
+        ensures joined { OnOk result (into.new.place.me.0
+            ≡ both_of into.old.place.me.0 other.place.me.0) }
         ensures refused { OnErr result (into.new.place.me.0 ≡ into.old.place.me.0) }
         ensures back { IfErr result (λ e. e.0.place.me.0 ≡ other.place.me.0) }
         ensures back_table { IfErr result (λ e. e.0.place.table_id ≡ other.place.table_id) }

@@ -58,7 +58,8 @@ impl<P: Parts> Play<P::Region, View<P::Region, P::Local>> for Take<P> {
     ghost use Rattle.std.specs.Prelude.{◌≡◌, ℕ, ◌+◌};
     ghost use Rattle.section_table.specs.Steps.{Takes};
 
-    ghost then = { λ step me found me'. (k : ℕ) → step.word ≡ k + 2 → Takes P.meaning k me found me' };
+    ghost then = { λ step me found me'. (k : ℕ) → step.word ≡ k + 2
+        → Takes P.meaning k me found me' };
 }
 
 /// A stamp is drawn.

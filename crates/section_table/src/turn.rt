@@ -1,5 +1,5 @@
 //! One turn of a pass: a halt is read first, and then one try is made.
-ghost use Rattle.std.specs.Prelude.{◌≡◌, ℕ, ◌+◌, ◌<◌, ◌≤◌, Some, slice_get, None, [], map, IfOk, slice_set};
+ghost use Rattle.std.specs.Prelude.{◌≡◌, ◌+◌, ◌<◌, ◌≤◌, Some, slice_get, None, [], map};
 ghost use Rattle.section_table.specs.Views.{HasCaller, Has};
 ghost use Rattle.section_table.specs.Acts.{Tries};
 ghost use Rattle.section_table.specs.Shown.{shown_of, held_of};
@@ -27,13 +27,16 @@ fn try_mine<P: Parts, G: Gate>(
     caller: u16,
     gate: &G,
 ) -> Result<Option<u64>, AllocError>
-    requires table { (place.old.table_id ≡ top.now.table_id) × (region < top.now.table_id.slots) × (top.now.table_id.words ≡ top.now.table_id.slots + 2) }
+    requires table { (place.old.table_id ≡ top.now.table_id) × (region < top.now.table_id.slots)
+        × (top.now.table_id.words ≡ top.now.table_id.slots + 2) }
     requires rests { (place.old.me.0.hand ≡ None) × (place.old.me.1 ≡ []) }
-    requires wants { (P.meaning.wanted mine.old.local ≡ Some region) × Has place.old.me.0 caller (held_of mine.old) }
+    requires wants { (P.meaning.wanted mine.old.local ≡ Some region)
+        × Has place.old.me.0 caller (held_of mine.old) }
     ensures table { (place.new.table_id ≡ place.old.table_id) × (place.new.id ≡ place.old.id) }
     ensures rests { (place.new.me.0.hand ≡ None) × (place.new.me.1 ≡ []) }
     ensures reach { P.meaning.reach mine.new.local ≤ P.meaning.reach mine.old.local }
-    ensures tried { MakesSection P.meaning caller region place.old.me.0 place.new.me.0 (held_of mine.old) (held_of mine.new) result }
+    ensures tried { MakesSection P.meaning caller region place.old.me.0 place.new.me.0
+        (held_of mine.old) (held_of mine.new) result }
 {
     if !mine.ready()? {
         return Ok(None);
@@ -50,10 +53,12 @@ fn try_caller<P: Parts, G: Gate>(
     caller: u16,
     gate: &G,
 ) -> Result<Option<u64>, AllocError>
-    requires table { (place.old.table_id ≡ top.now.table_id) × (region < top.now.table_id.slots) × (top.now.table_id.words ≡ top.now.table_id.slots + 2) }
+    requires table { (place.old.table_id ≡ top.now.table_id) × (region < top.now.table_id.slots)
+        × (top.now.table_id.words ≡ top.now.table_id.slots + 2) }
     requires rests { (place.old.me.0.hand ≡ None) × (place.old.me.1 ≡ []) }
     requires same { place.old.me.0.held ≡ map shown_of callers.old.items }
-    requires wants { (x : Caller P.Local) × (slice_get callers.old.items caller ≡ Some (Some x)) × (P.meaning.wanted x.local ≡ Some region) }
+    requires wants { (x : Caller P.Local) × (slice_get callers.old.items caller ≡ Some (Some x))
+        × (P.meaning.wanted x.local ≡ Some region) }
     ensures table { (place.new.table_id ≡ place.old.table_id) × (place.new.id ≡ place.old.id) }
     ensures rests { (place.new.me.0.hand ≡ None) × (place.new.me.1 ≡ []) }
     ensures same { place.new.me.0.held ≡ map shown_of callers.new.items }
@@ -74,7 +79,8 @@ pub(crate) fn turn<P: Parts, G: Gate>(
     caller: u16,
     gate: &G,
 ) -> Result<Option<Acted>, AllocError>
-    requires table { (pass.old.place.table_id ≡ top.now.table_id) × (top.now.table_id.words ≡ top.now.table_id.slots + 2) }
+    requires table { (pass.old.place.table_id ≡ top.now.table_id)
+        × (top.now.table_id.words ≡ top.now.table_id.slots + 2) }
     requires has { HasCaller caller pass.old.place.me.0 }
     ensures table { pass.new.place.table_id ≡ pass.old.place.table_id }
     ensures tries { Tries P.meaning caller pass.old.place.me.0 pass.new.place.me.0 result }

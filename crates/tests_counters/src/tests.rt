@@ -56,7 +56,8 @@ fn add_often(counters: &Counters, mut pass: CountPass) -> CountPass
     requires cell { (1 ≤ (shape_of counters.now).counters) × (1 ≤ (shape_of counters.now).cpus) }
     requires room { TIMES ≤ spare_of pass }
     ensures pass { IsPassOf counters.now result }
-    ensures all { length (adds_of result) + spare_of result ≡ length (adds_of pass) + spare_of pass }
+    ensures all { length (adds_of result) + spare_of result
+        ≡ length (adds_of pass) + spare_of pass }
 {
     for turn in 0..TIMES {
         counters.add(&mut pass, 0, 0, (turn % 3 + 1) as i32);
@@ -75,7 +76,10 @@ fn add_by_two<R: Threads + Sync>(
     requires cell { (1 ≤ (shape_of counters.now).counters) × (1 ≤ (shape_of counters.now).cpus) }
     requires room { (TIMES ≤ spare_of one) × (TIMES ≤ spare_of other) }
     ensures passes { IsPassOf counters.now result.0 × IsPassOf counters.now result.1 }
-    ensures all { (length (adds_of result.0) + spare_of result.0 ≡ length (adds_of one) + spare_of one) × (length (adds_of result.1) + spare_of result.1 ≡ length (adds_of other) + spare_of other) }
+    ensures all { (length (adds_of result.0) + spare_of result.0
+        ≡ length (adds_of one) + spare_of one)
+        × (length (adds_of result.1) + spare_of result.1
+        ≡ length (adds_of other) + spare_of other) }
 {
     join(
         rt,

@@ -22,7 +22,8 @@ pub fn are_free(side: &FreeSide, span: Span) -> bool
 /// Whether the blocks hold none of these pages.
 pub fn are_taken(side: &FreeSide, span: Span) -> bool
     requires { end_of span ≤ 1048576 }
-    ensures { IsTrue result → (page : ℕ) → holds span page ≡ true → covers side.now.blocks page ≡ false }
+    ensures { IsTrue result → (page : ℕ) → holds span page ≡ true
+        → covers side.now.blocks page ≡ false }
 {
     for page in span.start..span.start + span.pages {
         if side.enclosing(page).is_some() {

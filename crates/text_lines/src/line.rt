@@ -41,7 +41,8 @@ pub fn put_words(text: &mut Vec<u8>, words: &[Field]) -> Result<(), AllocError>
 
 /// Writes a line behind a text, field by field.
 fn put_long_line(text: &mut Vec<u8>, first: Field, rest: &[Field]) -> Result<(), AllocError>
-    ensures { OnOk result (text.new.items ≡ text.old.items ++ line (field_text first.entry ∷ field_texts rest.now)) }
+    ensures { OnOk result (text.new.items
+        ≡ text.old.items ++ line (field_text first.entry ∷ field_texts rest.now)) }
 {
     put_field(text, first)?;
     put_each(text, rest)?;
@@ -50,7 +51,8 @@ fn put_long_line(text: &mut Vec<u8>, first: Field, rest: &[Field]) -> Result<(),
 
 /// Writes a line behind a text: its first field, the fields after it, and its end.
 pub fn put_fields(text: &mut Vec<u8>, first: Field, rest: &[Field]) -> Result<(), AllocError>
-    ensures { OnOk result (text.new.items ≡ text.old.items ++ line (field_text first.entry ∷ field_texts rest.now)) }
+    ensures { OnOk result (text.new.items
+        ≡ text.old.items ++ line (field_text first.entry ∷ field_texts rest.now)) }
 {
     let mut bytes = [0; ROOM];
     match write_line(first, rest, &mut bytes) {
@@ -61,7 +63,8 @@ pub fn put_fields(text: &mut Vec<u8>, first: Field, rest: &[Field]) -> Result<()
 
 /// Writes a line behind a text: its first word, the fields after it, and its end.
 pub fn put_line(text: &mut Vec<u8>, first: &[u8], rest: &[Field]) -> Result<(), AllocError>
-    ensures { OnOk result (text.new.items ≡ text.old.items ++ line (first.now ∷ field_texts rest.now)) }
+    ensures { OnOk result (text.new.items
+        ≡ text.old.items ++ line (first.now ∷ field_texts rest.now)) }
 {
     put_fields(text, Field::Word(first), rest)
 }

@@ -41,7 +41,8 @@ fn write_number(n: u64, bytes: &mut [u8], end: usize) -> Option<usize>
 /// Writes a signed number so.
 fn write_amount(n: i64, bytes: &mut [u8], end: usize) -> Option<usize>
     requires { end ≤ length bytes.old }
-    ensures { IfSome result (λ start. StandsBefore (signed_decimal n) bytes.old end bytes.new start) }
+    ensures { IfSome result (λ start.
+        StandsBefore (signed_decimal n) bytes.old end bytes.new start) }
 {
     let mut buffer = Buffer::new();
     write_word(buffer.format(n).as_bytes(), bytes, end)
@@ -50,7 +51,8 @@ fn write_amount(n: i64, bytes: &mut [u8], end: usize) -> Option<usize>
 /// Writes bytes right before a number.
 fn write_tagged(tag: &[u8], n: u64, bytes: &mut [u8], end: usize) -> Option<usize>
     requires { end ≤ length bytes.old }
-    ensures { IfSome result (λ start. StandsBefore (tag.now ++ decimal n) bytes.old end bytes.new start) }
+    ensures { IfSome result (λ start.
+        StandsBefore (tag.now ++ decimal n) bytes.old end bytes.new start) }
 {
     let Some(number) = write_number(n, bytes, end) else {
         return None;
@@ -61,7 +63,8 @@ fn write_tagged(tag: &[u8], n: u64, bytes: &mut [u8], end: usize) -> Option<usiz
 /// Writes bytes right behind others.
 fn write_joined(front: &[u8], back: &[u8], bytes: &mut [u8], end: usize) -> Option<usize>
     requires { end ≤ length bytes.old }
-    ensures { IfSome result (λ start. StandsBefore (front.now ++ back.now) bytes.old end bytes.new start) }
+    ensures { IfSome result (λ start.
+        StandsBefore (front.now ++ back.now) bytes.old end bytes.new start) }
 {
     let Some(behind) = write_word(back, bytes, end) else {
         return None;
@@ -72,7 +75,8 @@ fn write_joined(front: &[u8], back: &[u8], bytes: &mut [u8], end: usize) -> Opti
 /// Writes two numbers with bytes between them.
 fn write_pair(a: u64, mark: &[u8], b: u64, bytes: &mut [u8], end: usize) -> Option<usize>
     requires { end ≤ length bytes.old }
-    ensures { IfSome result (λ start. StandsBefore (decimal a ++ mark.now ++ decimal b) bytes.old end bytes.new start) }
+    ensures { IfSome result (λ start.
+        StandsBefore (decimal a ++ mark.now ++ decimal b) bytes.old end bytes.new start) }
 {
     let Some(behind) = write_tagged(mark, b, bytes, end) else {
         return None;
@@ -83,7 +87,8 @@ fn write_pair(a: u64, mark: &[u8], b: u64, bytes: &mut [u8], end: usize) -> Opti
 /// Writes a field before the byte at `end`.
 fn write_field(field: Field, bytes: &mut [u8], end: usize) -> Option<usize>
     requires { end ≤ length bytes.old }
-    ensures { IfSome result (λ start. StandsBefore (field_text field.entry) bytes.old end bytes.new start) }
+    ensures { IfSome result (λ start.
+        StandsBefore (field_text field.entry) bytes.old end bytes.new start) }
 {
     match field {
         Field::Word(word) => write_word(word, bytes, end),
@@ -98,7 +103,8 @@ fn write_field(field: Field, bytes: &mut [u8], end: usize) -> Option<usize>
 /// Writes a field, and a space before it.
 fn write_spaced(field: Field, bytes: &mut [u8], end: usize) -> Option<usize>
     requires { end ≤ length bytes.old }
-    ensures { IfSome result (λ start. StandsBefore (32 ∷ field_text field.entry) bytes.old end bytes.new start) }
+    ensures { IfSome result (λ start.
+        StandsBefore (32 ∷ field_text field.entry) bytes.old end bytes.new start) }
 {
     let Some(word) = write_field(field, bytes, end) else {
         return None;
@@ -114,7 +120,8 @@ fn write_spaced(field: Field, bytes: &mut [u8], end: usize) -> Option<usize>
 /// is too little room.
 pub(crate) fn write_words(words: &[Field], bytes: &mut [u8], end: usize) -> Option<usize>
     requires { end ≤ length bytes.old }
-    ensures { IfSome result (λ start. StandsBefore (fields ([] ∷ field_texts words.now)) bytes.old end bytes.new start) }
+    ensures { IfSome result (λ start.
+        StandsBefore (fields ([] ∷ field_texts words.now)) bytes.old end bytes.new start) }
 {
     let mut start = end;
     for i in 0..words.len() {
@@ -130,7 +137,8 @@ pub(crate) fn write_words(words: &[Field], bytes: &mut [u8], end: usize) -> Opti
 pub(crate) fn write_line(first: Field, rest: &[Field], bytes: &mut [u8]) -> Option<usize>
     requires { 0 < length bytes.old }
     ensures within { IfSome result (λ start. start ≤ length bytes.new) }
-    ensures line { IfSome result (λ start. drop start bytes.new ≡ line (field_text first.entry ∷ field_texts rest.now)) }
+    ensures line { IfSome result (λ start.
+        drop start bytes.new ≡ line (field_text first.entry ∷ field_texts rest.now)) }
 {
     let end = bytes.len() - 1;
     bytes[end] = b'\n';

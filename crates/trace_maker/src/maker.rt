@@ -1,7 +1,7 @@
 //! Making a trace.
 ghost use Rattle.std.specs.Prelude.{◌≡◌, ◌<◌, ◌≤◌, ◌*◌, ◌^◌, ◌++◌, ℕ, IfOk, OnOk, length, replicate};
 ghost use Rattle.trace_text.specs.Lines.{text_of};
-ghost use Rattle.trace_maker.specs.Generated.{Section, Making, generated, header_lines, section_lines, sections_from, drawn_picks, order_lines, made, one_more, no_lines, next, drawn};
+ghost use Rattle.trace_maker.specs.Generated.{Section, Making, generated, header_lines, section_lines, sections_from, made, one_more, no_lines};
 ghost use Rattle.trace_maker.specs.Written.{IsWritten, AreMade};
 
 use crate::draws::Draws;
@@ -20,7 +20,8 @@ const HEADER: &[u8] =
 
 /// A section without lines for each caller.
 fn no_sections(alloc: Global) -> [SectionText; 8]
-    ensures { (state : ℕ) → AreMade result state (record { sections = replicate 8 no_lines; state = state }) }
+    ensures { (state : ℕ) → AreMade result state
+        (record { sections = replicate 8 no_lines; state = state }) }
 {
     [
         no_lines(alloc),
@@ -37,7 +38,8 @@ fn no_sections(alloc: Global) -> [SectionText; 8]
 /// Puts one line more into the section of a caller that is drawn.
 fn add_one(sections: &mut [SectionText], draws: &mut Draws, number: u32) -> Result<(), AllocError>
     requires { length sections.old ≡ 8 }
-    ensures { OnOk result ((m : Making) → AreMade sections.old draws.old.state m → AreMade sections.new draws.new.state (one_more number m)) }
+    ensures { OnOk result ((m : Making) → AreMade sections.old draws.old.state m
+        → AreMade sections.new draws.new.state (one_more number m)) }
 {
     let caller = draws.draw_below(CALLERS);
     add_line(&mut sections[caller as usize], draws, number)
@@ -47,7 +49,8 @@ fn add_one(sections: &mut [SectionText], draws: &mut Draws, number: u32) -> Resu
 fn add_lines(sections: &mut [SectionText], draws: &mut Draws, calls: u32) -> Result<(), AllocError>
     requires sections { length sections.old ≡ 8 }
     requires calls { calls ≤ 100000 }
-    ensures { OnOk result ((m : Making) → AreMade sections.old draws.old.state m → AreMade sections.new draws.new.state (made calls 1 m)) }
+    ensures { OnOk result ((m : Making) → AreMade sections.old draws.old.state m
+        → AreMade sections.new draws.new.state (made calls 1 m)) }
 {
     for number in 1..calls + 1 {
         add_one(sections, draws, number)?;
@@ -57,7 +60,8 @@ fn add_lines(sections: &mut [SectionText], draws: &mut Draws, calls: u32) -> Res
 
 /// Writes a caller's section, where it has lines.
 fn put_section(text: &mut Vec<u8>, caller: u64, section: &SectionText) -> Result<(), AllocError>
-    ensures { OnOk result ((s : Section) → IsWritten section.now s → text.new.items ≡ text.old.items ++ text_of (section_lines caller s.lines)) }
+    ensures { OnOk result ((s : Section) → IsWritten section.now s
+        → text.new.items ≡ text.old.items ++ text_of (section_lines caller s.lines)) }
 {
     if section.lines.is_empty() {
         return Ok(());
@@ -68,7 +72,8 @@ fn put_section(text: &mut Vec<u8>, caller: u64, section: &SectionText) -> Result
 
 /// Writes the section of each caller.
 fn put_sections(text: &mut Vec<u8>, sections: &[SectionText]) -> Result<(), AllocError>
-    ensures { OnOk result ((state : ℕ) (m : Making) → AreMade sections.now state m → text.new.items ≡ text.old.items ++ text_of (sections_from 1 m.sections)) }
+    ensures { OnOk result ((state : ℕ) (m : Making) → AreMade sections.now state m
+        → text.new.items ≡ text.old.items ++ text_of (sections_from 1 m.sections)) }
 {
     for (i, section) in sections.iter().enumerate() {
         put_section(text, i as u64 + 1, section)?;

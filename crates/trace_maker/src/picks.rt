@@ -13,7 +13,8 @@ const PICKS: u32 = 32;
 
 /// Writes a line of so many picks.
 fn put_picks(text: &mut Vec<u8>, draws: &mut Draws, count: u32) -> Result<(), AllocError>
-    ensures text { OnOk result (text.new.items ≡ text.old.items ++ text_of_line (Order (drawn_picks count draws.old.state))) }
+    ensures text { OnOk result (text.new.items
+        ≡ text.old.items ++ text_of_line (Order (drawn_picks count draws.old.state))) }
     ensures state { OnOk result (draws.new.state ≡ state_after count draws.old.state) }
 {
     put_field(text, Word(b"order"))?;
@@ -26,7 +27,9 @@ fn put_picks(text: &mut Vec<u8>, draws: &mut Draws, count: u32) -> Result<(), Al
 
 /// Writes so many picks, in lines.
 pub fn put_order(text: &mut Vec<u8>, draws: &mut Draws, picks: u32) -> Result<(), AllocError>
-    ensures { OnOk result ((lines : ℕ) → picks ≤ 32 * lines → text.new.items ≡ text.old.items ++ text_of (order_lines lines (drawn_picks picks draws.old.state))) }
+    ensures { OnOk result ((lines : ℕ) → picks ≤ 32 * lines
+        → text.new.items ≡ text.old.items
+        ++ text_of (order_lines lines (drawn_picks picks draws.old.state))) }
 {
     let mut left = picks;
     while 0 < left {

@@ -11,7 +11,8 @@ use text_lines::put_line;
 
 /// Takes the oldest number out of a queue.
 fn pop_oldest(queue: &mut VecDeque<u32>) -> Option<u32>
-    ensures { MatchOption result ((queue.old.items ≡ []) × (queue.new.items ≡ [])) (λ oldest. queue.old.items ≡ oldest ∷ queue.new.items) }
+    ensures { MatchOption result ((queue.old.items ≡ []) × (queue.new.items ≡ [])) (λ oldest.
+        queue.old.items ≡ oldest ∷ queue.new.items) }
 {
     queue.pop_front()
 }
@@ -39,7 +40,8 @@ pub fn take(
     number: u32,
     numbers: (u32, u32),
 ) -> Result<(), AllocError>
-    ensures { OnOk result (Takes word.now letter.now number numbers.0 numbers.1 lines.old.items lines.new.items queue.old.items queue.new.items) }
+    ensures { OnOk result (Takes word.now letter.now number numbers.0 numbers.1 lines.old.items
+        lines.new.items queue.old.items queue.new.items) }
 {
     let name = Tagged(letter, u64::from(number));
     let first = Number(u64::from(numbers.0));
@@ -56,7 +58,8 @@ pub fn free_oldest(
     word: &[u8],
     letter: &[u8],
 ) -> Result<(), AllocError>
-    ensures { OnOk result (Frees word.now letter.now lines.old.items lines.new.items queue.old.items queue.new.items) }
+    ensures { OnOk result (Frees word.now letter.now lines.old.items lines.new.items queue.old.items
+        queue.new.items) }
 {
     match pop_oldest(queue) {
         Some(oldest) => put_line(lines, word, &[Tagged(letter, u64::from(oldest))]),

@@ -3,7 +3,7 @@ ghost use Rattle.std.specs.Prelude.{◌≡◌, ◌%◌, ◌-ℤ◌, ◌++◌, �
 ghost use Rattle.std.specs.Fmt.{signed_decimal};
 ghost use Rattle.std.specs.List.{last_or};
 ghost use Rattle.vm_model.specs.Words.{line};
-ghost use Rattle.trace_maker.specs.Generated.{Section, no_lines, with_line, next, drawn, takes_area, takes_part, takes_object, frees_area, frees_part, frees_object, adds_to, counts, step_of};
+ghost use Rattle.trace_maker.specs.Generated.{Section, no_lines, next, drawn, takes_area, takes_part, takes_object, frees_area, frees_part, frees_object, adds_to, counts, step_of};
 ghost use Rattle.trace_maker.specs.Written.{IsWritten, IsStep};
 
 use crate::draws::Draws;
@@ -45,7 +45,8 @@ pub fn no_lines(alloc: Global) -> SectionText
 
 /// Takes an area of 1 to 32,768 bytes.
 fn take_area(section: &mut SectionText, draws: &mut Draws, number: u32) -> Result<(), AllocError>
-    ensures { OnOk result ((s : Section) → IsWritten section.old s → IsStep section.new draws.new.state (takes_area draws.old.state number s)) }
+    ensures { OnOk result ((s : Section) → IsWritten section.old s
+        → IsStep section.new draws.new.state (takes_area draws.old.state number s)) }
 {
     let bytes = 1 + draws.draw();
     take(
@@ -60,14 +61,16 @@ fn take_area(section: &mut SectionText, draws: &mut Draws, number: u32) -> Resul
 
 /// Frees the oldest area.
 fn free_area(section: &mut SectionText) -> Result<(), AllocError>
-    ensures { OnOk result ((s : Section) → IsWritten section.old s → IsWritten section.new (frees_area s s.areas)) }
+    ensures { OnOk result ((s : Section) → IsWritten section.old s
+        → IsWritten section.new (frees_area s s.areas)) }
 {
     free_oldest(&mut section.lines, &mut section.areas, b"vfree", b"a")
 }
 
 /// Takes a part of 1 to 16 pages on one of the processors.
 fn take_part(section: &mut SectionText, draws: &mut Draws, number: u32) -> Result<(), AllocError>
-    ensures { OnOk result ((s : Section) → IsWritten section.old s → IsStep section.new draws.new.state (takes_part draws.old.state number s)) }
+    ensures { OnOk result ((s : Section) → IsWritten section.old s
+        → IsStep section.new draws.new.state (takes_part draws.old.state number s)) }
 {
     let cpu = draws.draw_below(CPUS);
     let pages = 1 + draws.draw_below(16);
@@ -83,14 +86,16 @@ fn take_part(section: &mut SectionText, draws: &mut Draws, number: u32) -> Resul
 
 /// Unmaps the oldest part.
 fn free_part(section: &mut SectionText) -> Result<(), AllocError>
-    ensures { OnOk result ((s : Section) → IsWritten section.old s → IsWritten section.new (frees_part s s.parts)) }
+    ensures { OnOk result ((s : Section) → IsWritten section.old s
+        → IsWritten section.new (frees_part s s.parts)) }
 {
     free_oldest(&mut section.lines, &mut section.parts, b"unmap_ram", b"r")
 }
 
 /// Takes an object of 4 to 1,027 bytes.
 fn take_object(section: &mut SectionText, draws: &mut Draws, number: u32) -> Result<(), AllocError>
-    ensures { OnOk result ((s : Section) → IsWritten section.old s → IsStep section.new draws.new.state (takes_object draws.old.state number s)) }
+    ensures { OnOk result ((s : Section) → IsWritten section.old s
+        → IsStep section.new draws.new.state (takes_object draws.old.state number s)) }
 {
     let bytes = 4 + draws.draw_below(1024);
     take(
@@ -105,7 +110,8 @@ fn take_object(section: &mut SectionText, draws: &mut Draws, number: u32) -> Res
 
 /// Frees the oldest object.
 fn free_object(section: &mut SectionText) -> Result<(), AllocError>
-    ensures { OnOk result ((s : Section) → IsWritten section.old s → IsWritten section.new (frees_object s s.objects)) }
+    ensures { OnOk result ((s : Section) → IsWritten section.old s
+        → IsWritten section.new (frees_object s s.objects)) }
 {
     free_oldest(
         &mut section.lines,
@@ -117,7 +123,8 @@ fn free_object(section: &mut SectionText) -> Result<(), AllocError>
 
 /// Adds to the newest object's first word, or asks for a balance where there is none.
 fn add_amount(section: &mut SectionText, draws: &mut Draws) -> Result<(), AllocError>
-    ensures { OnOk result ((s : Section) → IsWritten section.old s → IsStep section.new draws.new.state (adds_to draws.old.state s (last_or None s.objects))) }
+    ensures { OnOk result ((s : Section) → IsWritten section.old s
+        → IsStep section.new draws.new.state (adds_to draws.old.state s (last_or None s.objects))) }
 {
     let Some(object) = newest(&section.objects) else {
         return put_balance(&mut section.lines);
@@ -141,7 +148,9 @@ fn centered(draw: u32) -> i64
 
 /// Writes a line that adds what was drawn to a counter.
 fn put_count(lines: &mut Vec<u8>, counter: u32, cpu: u32, draw: u32) -> Result<(), AllocError>
-    ensures { OnOk result (lines.new.items ≡ lines.old.items ++ line (codes "count" ∷ decimal counter ∷ decimal cpu ∷ signed_decimal (pos draw -ℤ pos 50) ∷ [])) }
+    ensures { OnOk result (lines.new.items
+        ≡ lines.old.items ++ line (codes "count" ∷ decimal counter ∷ decimal cpu
+        ∷ signed_decimal (pos draw -ℤ pos 50) ∷ [])) }
 {
     let counter = Number(u64::from(counter));
     let cpu = Number(u64::from(cpu));
@@ -151,7 +160,8 @@ fn put_count(lines: &mut Vec<u8>, counter: u32, cpu: u32, draw: u32) -> Result<(
 
 /// Adds an amount of -50 to 50 to a counter.
 fn count(section: &mut SectionText, draws: &mut Draws) -> Result<(), AllocError>
-    ensures { OnOk result ((s : Section) → IsWritten section.old s → IsStep section.new draws.new.state (counts draws.old.state s)) }
+    ensures { OnOk result ((s : Section) → IsWritten section.old s
+        → IsStep section.new draws.new.state (counts draws.old.state s)) }
 {
     let counter = draws.draw_below(COUNTERS);
     let cpu = draws.draw_below(CPUS);
@@ -161,7 +171,9 @@ fn count(section: &mut SectionText, draws: &mut Draws) -> Result<(), AllocError>
 
 /// Puts the line of this number behind the others: its kind is drawn, and then its fields.
 pub fn add_line(section: &mut SectionText, draws: &mut Draws, number: u32) -> Result<(), AllocError>
-    ensures { OnOk result ((s : Section) → IsWritten section.old s → IsStep section.new draws.new.state (let kind = next draws.old.state in step_of (drawn kind % 16) kind number s)) }
+    ensures { OnOk result ((s : Section) → IsWritten section.old s
+        → IsStep section.new draws.new.state
+        (let kind = next draws.old.state in step_of (drawn kind % 16) kind number s)) }
 {
     let kind = draws.draw_below(16);
     if kind < 3 {

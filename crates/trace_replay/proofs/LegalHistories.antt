@@ -1,6 +1,6 @@
 -- The history of a trace is one legal history, and keeps the laws, in whatever order its callers are picked.
 use Rattle.std.proofs.Common.{ℕ, List}
-use Rattle.map_laws.proofs.ObjectsReady.{histories_legal}
+use Rattle.map_laws.proofs.objects.ObjectsReady.{histories_legal}
 use Rattle.call_laws.proofs.Keeping.{reached_keep, history_keeps, all_answered}
 use Rattle.trace_text.specs.Reading.{Reading}
 use Rattle.trace_rules.specs.RuledTraces.{IsRuledTrace}

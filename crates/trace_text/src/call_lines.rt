@@ -26,7 +26,8 @@ pub fn has_place(progress: &Progress) -> bool
 /// Puts a call behind those of the open section.
 pub fn add_call(progress: &mut Progress, call: Call) -> Result<(), AllocError>
     requires { progress.old.lines < most_lines }
-    ensures { OnOk result ((r : Reading) → IsHeld progress.old r → IsHeld progress.new (record (with_call r call) { rank = 10 })) }
+    ensures { OnOk result ((r : Reading) → IsHeld progress.old r
+        → IsHeld progress.new (record (with_call r call) { rank = 10 })) }
 {
     progress.calls.push(call)?;
     progress.lines += 1;
@@ -39,8 +40,11 @@ pub fn add_named_call(progress: &mut Progress, name: &[u8], call: Call) -> Resul
     requires room { progress.old.lines < most_lines }
     requires name { IsTrue (is_name name.now) }
     requires size { IsTrue (has_size call) }
-    ensures new { IfOk result (λ added. (r : Reading) → IsHeld progress.old r → added ≡ is_new r name.now) }
-    ensures added { IfOk result (λ added. (r : Reading) → IsHeld progress.old r → is_new r name.now ≡ true → IsHeld progress.new (record (with_name r name.now call) { rank = 10 })) }
+    ensures new { IfOk result (λ added. (r : Reading) → IsHeld progress.old r
+        → added ≡ is_new r name.now) }
+    ensures added { IfOk result (λ added. (r : Reading) → IsHeld progress.old r
+        → is_new r name.now ≡ true → IsHeld progress.new
+        (record (with_name r name.now call) { rank = 10 })) }
 {
     let place = progress.calls.len();
     if !progress.names.insert(name, place)? {
@@ -54,7 +58,8 @@ pub fn add_named_call(progress: &mut Progress, name: &[u8], call: Call) -> Resul
 
 /// Reads `vmalloc NAME BYTES ALIGN`, after its word.
 pub fn read_vmalloc(progress: &mut Progress, text: &[u8]) -> Result<bool, AllocError>
-    ensures { IfOk result (λ stood. (r : Reading) → IsHeld progress.old r → Steps r (codes "vmalloc " ++ text.now) stood progress.new) }
+    ensures { IfOk result (λ stood. (r : Reading) → IsHeld progress.old r
+        → Steps r (codes "vmalloc " ++ text.now) stood progress.new) }
 {
     let Some((name, bytes, align)) = named_pair(text) else {
         return Ok(false);
@@ -70,7 +75,8 @@ pub fn read_vmalloc(progress: &mut Progress, text: &[u8]) -> Result<bool, AllocE
 
 /// Reads `map_ram NAME CPU PAGES`, after its word.
 pub fn read_map_ram(progress: &mut Progress, text: &[u8]) -> Result<bool, AllocError>
-    ensures { IfOk result (λ stood. (r : Reading) → IsHeld progress.old r → Steps r (codes "map_ram " ++ text.now) stood progress.new) }
+    ensures { IfOk result (λ stood. (r : Reading) → IsHeld progress.old r
+        → Steps r (codes "map_ram " ++ text.now) stood progress.new) }
 {
     let Some((name, cpu, pages)) = named_pair(text) else {
         return Ok(false);
@@ -94,7 +100,8 @@ pub fn read_map_ram(progress: &mut Progress, text: &[u8]) -> Result<bool, AllocE
 /// The call that a target names, with its number in its section. In the opening no call has the name `0.NAME`.
 fn target_call(progress: &Progress, opening: bool, name: &[u8]) -> Option<(usize, Call)>
     requires { IsTrue (is_name name.now) }
-    ensures { (r : Reading) → IsHeld progress.now r → result ≡ target_call r (record { opening = opening; name = name.now }) }
+    ensures { (r : Reading) → IsHeld progress.now r
+        → result ≡ target_call r (record { opening = opening; name = name.now }) }
 {
     if !opening {
         return named_call(&progress.names, progress.calls.as_slice(), name);
@@ -109,7 +116,8 @@ fn target_call(progress: &Progress, opening: bool, name: &[u8]) -> Option<(usize
 pub fn aimed_at(progress: &Progress, text: &[u8]) -> Option<(Target, Call)>
     requires held { (r : Reading) × IsHeld progress.now r }
     requires room { progress.now.lines < most_lines }
-    ensures some { IfSome result (λ found. (r : Reading) → IsHeld progress.now r → NamesCall r text.now found.0 found.1) }
+    ensures some { IfSome result (λ found. (r : Reading) → IsHeld progress.now r
+        → NamesCall r text.now found.0 found.1) }
     ensures none { IfNone result ((r : Reading) → IsHeld progress.now r → NamesNone r text.now) }
 {
     let (opening, name) = target(text)?;
@@ -136,7 +144,8 @@ fn is_map_ram(call: Call) -> bool
 /// Reads `vfree TARGET`, after its word.
 pub fn read_vfree(progress: &mut Progress, text: &[u8]) -> Result<bool, AllocError>
     requires held { (r : Reading) × IsHeld progress.old r }
-    ensures { IfOk result (λ stood. (r : Reading) → IsHeld progress.old r → Steps r (codes "vfree " ++ text.now) stood progress.new) }
+    ensures { IfOk result (λ stood. (r : Reading) → IsHeld progress.old r
+        → Steps r (codes "vfree " ++ text.now) stood progress.new) }
 {
     if !has_place(progress) {
         return Ok(false);
@@ -154,7 +163,8 @@ pub fn read_vfree(progress: &mut Progress, text: &[u8]) -> Result<bool, AllocErr
 /// Reads `unmap_ram TARGET`, after its word.
 pub fn read_unmap_ram(progress: &mut Progress, text: &[u8]) -> Result<bool, AllocError>
     requires held { (r : Reading) × IsHeld progress.old r }
-    ensures { IfOk result (λ stood. (r : Reading) → IsHeld progress.old r → Steps r (codes "unmap_ram " ++ text.now) stood progress.new) }
+    ensures { IfOk result (λ stood. (r : Reading) → IsHeld progress.old r
+        → Steps r (codes "unmap_ram " ++ text.now) stood progress.new) }
 {
     if !has_place(progress) {
         return Ok(false);
@@ -171,7 +181,8 @@ pub fn read_unmap_ram(progress: &mut Progress, text: &[u8]) -> Result<bool, Allo
 
 /// Reads `unmap_aliases`.
 pub fn read_unmap_aliases(progress: &mut Progress) -> Result<bool, AllocError>
-    ensures { IfOk result (λ stood. (r : Reading) → IsHeld progress.old r → Steps r (codes "unmap_aliases") stood progress.new) }
+    ensures { IfOk result (λ stood. (r : Reading) → IsHeld progress.old r
+        → Steps r (codes "unmap_aliases") stood progress.new) }
 {
     if !has_place(progress) {
         return Ok(false);

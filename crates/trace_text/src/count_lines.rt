@@ -1,5 +1,5 @@
 //! The count lines, as they are read.
-ghost use Rattle.std.specs.Prelude.{◌≡◌, ◌++◌, IfOk, codes};
+ghost use Rattle.std.specs.Prelude.{◌++◌, IfOk, codes};
 ghost use Rattle.trace_text.specs.Reading.{Reading};
 ghost use Rattle.trace_text.specs.Held.{IsHeld, Steps};
 
@@ -13,7 +13,8 @@ use vm_model::CountLine;
 /// Reads `count K CPU AMOUNT`, after its word. It stands behind the calls of its section that came before it.
 pub fn read_count(progress: &mut Progress, text: &[u8]) -> Result<bool, AllocError>
     requires held { (r : Reading) × IsHeld progress.old r }
-    ensures { IfOk result (λ stood. (r : Reading) → IsHeld progress.old r → Steps r (codes "count " ++ text.now) stood progress.new) }
+    ensures { IfOk result (λ stood. (r : Reading) → IsHeld progress.old r
+        → Steps r (codes "count " ++ text.now) stood progress.new) }
 {
     if !has_place(progress) {
         return Ok(false);

@@ -27,7 +27,8 @@ pub fn cpu_count(progress: &Progress) -> u16
 /// Whether a group of so many processors, from an offset on, may be named behind the groups before it.
 fn may_follow(progress: &Progress, cpus: u64, offset: u64) -> bool
     requires number { IsTrue (is_number cpus) }
-    ensures rule { (r : Reading) → IsHeld progress.now r → result ≡ is_allowed r (GroupOf cpus offset) }
+    ensures rule { (r : Reading) → IsHeld progress.now r
+        → result ≡ is_allowed r (GroupOf cpus offset) }
     ensures few { IsTrue result → progress.now.cpus + cpus ≤ 64 }
 {
     u64::from(progress.cpus) + cpus <= MOST_CPUS
@@ -37,7 +38,8 @@ fn may_follow(progress: &Progress, cpus: u64, offset: u64) -> bool
 
 /// Reads `group N O`, after its word.
 pub fn read_group(progress: &mut Progress, text: &[u8]) -> Result<bool, AllocError>
-    ensures { IfOk result (λ stood. (r : Reading) → IsHeld progress.old r → Steps r (codes "group " ++ text.now) stood progress.new) }
+    ensures { IfOk result (λ stood. (r : Reading) → IsHeld progress.old r
+        → Steps r (codes "group " ++ text.now) stood progress.new) }
 {
     let Some((cpus, offset)) = pair(text) else {
         return Ok(false);

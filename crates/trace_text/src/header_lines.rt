@@ -41,7 +41,8 @@ const MOST_BATCH: u64 = 1_000_000;
 
 /// Reads `vmtrace 1`.
 fn read_version(progress: &mut Progress) -> bool
-    ensures { (r : Reading) → IsHeld progress.old r → Steps r (codes "vmtrace 1") result progress.new }
+    ensures { (r : Reading) → IsHeld progress.old r
+        → Steps r (codes "vmtrace 1") result progress.new }
 {
     if progress.rank != 0 {
         return false;
@@ -52,7 +53,8 @@ fn read_version(progress: &mut Progress) -> bool
 
 /// Reads `space P`, after its word.
 fn read_space(progress: &mut Progress, field: &[u8]) -> bool
-    ensures { (r : Reading) → IsHeld progress.old r → Steps r (codes "space " ++ field.now) result progress.new }
+    ensures { (r : Reading) → IsHeld progress.old r
+        → Steps r (codes "space " ++ field.now) result progress.new }
 {
     let Some(pages) = number(field) else {
         return false;
@@ -67,7 +69,8 @@ fn read_space(progress: &mut Progress, field: &[u8]) -> bool
 
 /// Reads `frames N`, after its word.
 fn read_frames(progress: &mut Progress, field: &[u8]) -> bool
-    ensures { (r : Reading) → IsHeld progress.old r → Steps r (codes "frames " ++ field.now) result progress.new }
+    ensures { (r : Reading) → IsHeld progress.old r
+        → Steps r (codes "frames " ++ field.now) result progress.new }
 {
     let Some(frames) = number(field) else {
         return false;
@@ -82,7 +85,8 @@ fn read_frames(progress: &mut Progress, field: &[u8]) -> bool
 
 /// Reads `lazy L`, after its word.
 fn read_lazy(progress: &mut Progress, field: &[u8]) -> bool
-    ensures { (r : Reading) → IsHeld progress.old r → Steps r (codes "lazy " ++ field.now) result progress.new }
+    ensures { (r : Reading) → IsHeld progress.old r
+        → Steps r (codes "lazy " ++ field.now) result progress.new }
 {
     let Some(pages) = number(field) else {
         return false;
@@ -109,7 +113,8 @@ fn are_block_sizes(pages: u64, part_limit: u64) -> bool
 
 /// Reads `block B M`, after its word.
 fn read_block(progress: &mut Progress, text: &[u8]) -> bool
-    ensures { (r : Reading) → IsHeld progress.old r → Steps r (codes "block " ++ text.now) result progress.new }
+    ensures { (r : Reading) → IsHeld progress.old r
+        → Steps r (codes "block " ++ text.now) result progress.new }
 {
     let Some((pages, part_limit)) = pair(text) else {
         return false;
@@ -139,7 +144,8 @@ fn are_unit_sizes(pages: u64, atom: u64) -> bool
 
 /// Reads `unit U A`, after its word.
 fn read_unit(progress: &mut Progress, text: &[u8]) -> bool
-    ensures { (r : Reading) → IsHeld progress.old r → Steps r (codes "unit " ++ text.now) result progress.new }
+    ensures { (r : Reading) → IsHeld progress.old r
+        → Steps r (codes "unit " ++ text.now) result progress.new }
 {
     let Some((pages, atom)) = pair(text) else {
         return false;
@@ -158,7 +164,8 @@ fn read_unit(progress: &mut Progress, text: &[u8]) -> bool
 
 /// Reads `callers N`, after its word.
 fn read_callers(progress: &mut Progress, field: &[u8]) -> bool
-    ensures { (r : Reading) → IsHeld progress.old r → Steps r (codes "callers " ++ field.now) result progress.new }
+    ensures { (r : Reading) → IsHeld progress.old r
+        → Steps r (codes "callers " ++ field.now) result progress.new }
 {
     let Some(callers) = number(field) else {
         return false;
@@ -173,7 +180,8 @@ fn read_callers(progress: &mut Progress, field: &[u8]) -> bool
 
 /// Reads `counters K T`, after its word.
 fn read_counters(progress: &mut Progress, text: &[u8]) -> bool
-    ensures { (r : Reading) → IsHeld progress.old r → Steps r (codes "counters " ++ text.now) result progress.new }
+    ensures { (r : Reading) → IsHeld progress.old r
+        → Steps r (codes "counters " ++ text.now) result progress.new }
 {
     let Some((counters, batch)) = pair(text) else {
         return false;
@@ -192,7 +200,8 @@ fn read_counters(progress: &mut Progress, text: &[u8]) -> bool
 
 /// Reads a line of the header other than that of a group, where one with this text stands.
 pub fn read_header_line(progress: &mut Progress, line: &[u8]) -> bool
-    ensures { (r : Reading) → IsHeld progress.old r → StepsIn (one_of words_of_header) r line.now result progress.new }
+    ensures { (r : Reading) → IsHeld progress.old r
+        → StepsIn (one_of words_of_header) r line.now result progress.new }
 {
     if let Some(field) = line.strip_prefix(b"callers ") {
         return read_callers(progress, field);

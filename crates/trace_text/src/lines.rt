@@ -26,8 +26,10 @@ use std::mem;
 /// for twice an even share of the names.
 fn close_names(alloc: Global, progress: &mut Progress)
     ensures none { (name : List ℕ) → place_of progress.new.names name ≡ None }
-    ensures kept { progress.new.opening_names ≡ (if progress.old.caller == 0 then progress.old.names else progress.old.opening_names) }
-    ensures same { progress.new ≡ record progress.old { names = progress.new.names; opening_names = progress.new.opening_names } }
+    ensures kept { progress.new.opening_names
+        ≡ (if progress.old.caller == 0 then progress.old.names else progress.old.opening_names) }
+    ensures same { progress.new ≡ record progress.old
+        { names = progress.new.names; opening_names = progress.new.opening_names } }
 {
     if progress.caller == 0 {
         let slots = progress.names.wanted() / (progress.callers as usize / 2).max(1);
@@ -40,7 +42,8 @@ fn close_names(alloc: Global, progress: &mut Progress)
 
 /// Reads `caller N`, after its word: the open section ends, and that of the caller begins.
 fn read_caller(alloc: Global, progress: &mut Progress, field: &[u8]) -> Result<bool, AllocError>
-    ensures { IfOk result (λ stood. (r : Reading) → IsHeld progress.old r → Steps r (codes "caller " ++ field.now) stood progress.new) }
+    ensures { IfOk result (λ stood. (r : Reading) → IsHeld progress.old r
+        → Steps r (codes "caller " ++ field.now) stood progress.new) }
 {
     let Some(caller) = number(field) else {
         return Ok(false);
@@ -62,7 +65,8 @@ fn read_caller(alloc: Global, progress: &mut Progress, field: &[u8]) -> Result<b
 
 /// Reads `order C C C`, after its word.
 fn read_order(progress: &mut Progress, text: &[u8]) -> Result<bool, AllocError>
-    ensures { IfOk result (λ stood. (r : Reading) → IsHeld progress.old r → Steps r (codes "order " ++ text.now) stood progress.new) }
+    ensures { IfOk result (λ stood. (r : Reading) → IsHeld progress.old r
+        → Steps r (codes "order " ++ text.now) stood progress.new) }
 {
     if progress.rank < SPACE || ORDER < progress.rank {
         return Ok(false);
@@ -88,7 +92,8 @@ fn read_end(progress: &mut Progress) -> bool
 /// Reads a line of per-CPU objects or counters, or one of the header, where one with this text stands.
 fn read_percpu_line(progress: &mut Progress, line: &[u8]) -> Result<bool, AllocError>
     requires held { (r : Reading) × IsHeld progress.old r }
-    ensures { IfOk result (λ stood. (r : Reading) → IsHeld progress.old r → StepsIn is_percpu_or_header r line.now stood progress.new) }
+    ensures { IfOk result (λ stood. (r : Reading) → IsHeld progress.old r
+        → StepsIn is_percpu_or_header r line.now stood progress.new) }
 {
     if let Some(text) = line.strip_prefix(b"alloc_percpu ") {
         return read_alloc_percpu(progress, text);
@@ -117,7 +122,8 @@ fn read_percpu_line(progress: &mut Progress, line: &[u8]) -> Result<bool, AllocE
 /// Reads a line, where one with this text stands.
 pub fn read_line(alloc: Global, progress: &mut Progress, line: &[u8]) -> Result<bool, AllocError>
     requires held { (r : Reading) × IsHeld progress.old r }
-    ensures { IfOk result (λ stood. (r : Reading) → IsHeld progress.old r → Steps r line.now stood progress.new) }
+    ensures { IfOk result (λ stood. (r : Reading) → IsHeld progress.old r
+        → Steps r line.now stood progress.new) }
 {
     if let Some(text) = line.strip_prefix(b"order ") {
         return read_order(progress, text);

@@ -104,7 +104,8 @@ impl Names {
     /// Makes the slots, where there are none.
     fn make_slots(&mut self) -> Result<(), AllocError>
         ensures some { OnOk result (1 ≤ length self.new.slots) }
-        ensures same { OnOk result ((name : List ℕ) → place_of self.new name ≡ place_of self.old name) }
+        ensures same { OnOk result ((name : List ℕ)
+            → place_of self.new name ≡ place_of self.old name) }
     {
         if self.slots.is_empty() {
             self.slots = vec![in self.alloc; None; self.wanted.max(1)]?;
@@ -129,7 +130,9 @@ impl Names {
     pub fn insert(&mut self, name: &[u8], place: usize) -> Result<bool, AllocError>
         requires { IsTrue (is_name name.now) }
         ensures new { IfOk result (λ new. new ≡ not (is_some (place_of self.old name.now))) }
-        ensures put { IfOk result (λ new. IsTrue new → (other : List ℕ) → place_of self.new other ≡ (if bytes_eq name.now other then Some place else place_of self.old other)) }
+        ensures put { IfOk result (λ new. IsTrue new → (other : List ℕ)
+            → place_of self.new other ≡ (if bytes_eq name.now other then Some place
+            else place_of self.old other)) }
     {
         self.make_slots()?;
         let number = number_of(name);

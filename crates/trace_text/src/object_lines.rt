@@ -16,7 +16,8 @@ const WORD_BYTES: u64 = 4;
 
 /// Reads `alloc_percpu NAME BYTES ALIGN`, after its word.
 pub fn read_alloc_percpu(progress: &mut Progress, text: &[u8]) -> Result<bool, AllocError>
-    ensures { IfOk result (λ stood. (r : Reading) → IsHeld progress.old r → Steps r (codes "alloc_percpu " ++ text.now) stood progress.new) }
+    ensures { IfOk result (λ stood. (r : Reading) → IsHeld progress.old r
+        → Steps r (codes "alloc_percpu " ++ text.now) stood progress.new) }
 {
     let Some((name, bytes, align)) = named_pair(text) else {
         return Ok(false);
@@ -32,7 +33,8 @@ pub fn read_alloc_percpu(progress: &mut Progress, text: &[u8]) -> Result<bool, A
 
 /// Reads `alloc_atomic NAME BYTES ALIGN`, after its word.
 pub fn read_alloc_atomic(progress: &mut Progress, text: &[u8]) -> Result<bool, AllocError>
-    ensures { IfOk result (λ stood. (r : Reading) → IsHeld progress.old r → Steps r (codes "alloc_atomic " ++ text.now) stood progress.new) }
+    ensures { IfOk result (λ stood. (r : Reading) → IsHeld progress.old r
+        → Steps r (codes "alloc_atomic " ++ text.now) stood progress.new) }
 {
     let Some((name, bytes, align)) = named_pair(text) else {
         return Ok(false);
@@ -67,7 +69,8 @@ fn has_word(call: Call, index: u64) -> bool
 /// Reads `free_percpu TARGET`, after its word. The target's line stands in the same section.
 pub fn read_free_percpu(progress: &mut Progress, text: &[u8]) -> Result<bool, AllocError>
     requires held { (r : Reading) × IsHeld progress.old r }
-    ensures { IfOk result (λ stood. (r : Reading) → IsHeld progress.old r → Steps r (codes "free_percpu " ++ text.now) stood progress.new) }
+    ensures { IfOk result (λ stood. (r : Reading) → IsHeld progress.old r
+        → Steps r (codes "free_percpu " ++ text.now) stood progress.new) }
 {
     if !has_place(progress) {
         return Ok(false);
@@ -88,7 +91,8 @@ pub fn read_free_percpu(progress: &mut Progress, text: &[u8]) -> Result<bool, Al
 /// Reads `add TARGET CPU INDEX AMOUNT`, after its word.
 pub fn read_add(progress: &mut Progress, text: &[u8]) -> Result<bool, AllocError>
     requires held { (r : Reading) × IsHeld progress.old r }
-    ensures { IfOk result (λ stood. (r : Reading) → IsHeld progress.old r → Steps r (codes "add " ++ text.now) stood progress.new) }
+    ensures { IfOk result (λ stood. (r : Reading) → IsHeld progress.old r
+        → Steps r (codes "add " ++ text.now) stood progress.new) }
 {
     if !has_place(progress) {
         return Ok(false);
@@ -118,7 +122,8 @@ pub fn read_add(progress: &mut Progress, text: &[u8]) -> Result<bool, AllocError
 /// Reads `sum TARGET INDEX`, after its word.
 pub fn read_sum(progress: &mut Progress, text: &[u8]) -> Result<bool, AllocError>
     requires held { (r : Reading) × IsHeld progress.old r }
-    ensures { IfOk result (λ stood. (r : Reading) → IsHeld progress.old r → Steps r (codes "sum " ++ text.now) stood progress.new) }
+    ensures { IfOk result (λ stood. (r : Reading) → IsHeld progress.old r
+        → Steps r (codes "sum " ++ text.now) stood progress.new) }
 {
     if !has_place(progress) {
         return Ok(false);
@@ -139,7 +144,8 @@ pub fn read_sum(progress: &mut Progress, text: &[u8]) -> Result<bool, AllocError
 
 /// Reads `balance`.
 pub fn read_balance(progress: &mut Progress) -> Result<bool, AllocError>
-    ensures { IfOk result (λ stood. (r : Reading) → IsHeld progress.old r → Steps r (codes "balance") stood progress.new) }
+    ensures { IfOk result (λ stood. (r : Reading) → IsHeld progress.old r
+        → Steps r (codes "balance") stood progress.new) }
 {
     if !has_place(progress) {
         return Ok(false);

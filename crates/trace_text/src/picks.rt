@@ -11,8 +11,10 @@ const MOST_PICKS: usize = 64;
 
 /// The caller that a field picks.
 fn pick(field: &[u8], callers: u16) -> Option<u16>
-    ensures some { IfSome result (λ caller. IsTrue (within 1 callers caller) × (field.now ≡ decimal caller)) }
-    ensures none { IfNone result ((caller : ℕ) → IsTrue (within 1 callers caller) → field.now ≢ decimal caller) }
+    ensures some { IfSome result (λ caller.
+        IsTrue (within 1 callers caller) × (field.now ≡ decimal caller)) }
+    ensures none { IfNone result ((caller : ℕ) → IsTrue (within 1 callers caller)
+        → field.now ≢ decimal caller) }
 {
     let Some(caller) = number(field) else {
         return None;
@@ -25,7 +27,8 @@ fn pick(field: &[u8], callers: u16) -> Option<u16>
 
 /// The caller that so many bytes pick, where a space is behind them, and the text behind that space.
 fn pick_before(text: &[u8], callers: u16, width: usize) -> Option<(u16, &[u8])>
-    ensures { IfSome result (λ found. IsTrue (within 1 callers found.0) × (text.now ≡ decimal found.0 ++ 32 ∷ found.1.now)) }
+    ensures { IfSome result (λ found.
+        IsTrue (within 1 callers found.0) × (text.now ≡ decimal found.0 ++ 32 ∷ found.1.now)) }
 {
     if text.len() <= width || text[width] != b' ' {
         return None;
@@ -38,7 +41,8 @@ fn pick_before(text: &[u8], callers: u16, width: usize) -> Option<(u16, &[u8])>
 
 /// The caller that one digit picks.
 fn digit_pick(digit: u8, callers: u16) -> Option<u16>
-    ensures { IfSome result (λ caller. IsTrue (within 1 callers caller) × (digit ∷ [] ≡ decimal caller)) }
+    ensures { IfSome result (λ caller.
+        IsTrue (within 1 callers caller) × (digit ∷ [] ≡ decimal caller)) }
 {
     if digit < b'1' || b'9' < digit {
         return None;
@@ -52,7 +56,8 @@ fn digit_pick(digit: u8, callers: u16) -> Option<u16>
 
 /// The caller that one digit picks, where a space is behind it, and the text behind that space.
 fn digit_before(text: &[u8], callers: u16) -> Option<(u16, &[u8])>
-    ensures { IfSome result (λ found. IsTrue (within 1 callers found.0) × (text.now ≡ decimal found.0 ++ 32 ∷ found.1.now)) }
+    ensures { IfSome result (λ found.
+        IsTrue (within 1 callers found.0) × (text.now ≡ decimal found.0 ++ 32 ∷ found.1.now)) }
 {
     if text.len() < 2 || text[1] != b' ' {
         return None;
@@ -65,7 +70,8 @@ fn digit_before(text: &[u8], callers: u16) -> Option<(u16, &[u8])>
 
 /// The caller that a text of one digit picks.
 fn last_digit(text: &[u8], callers: u16) -> Option<u16>
-    ensures { IfSome result (λ caller. IsTrue (within 1 callers caller) × (text.now ≡ decimal caller)) }
+    ensures { IfSome result (λ caller.
+        IsTrue (within 1 callers caller) × (text.now ≡ decimal caller)) }
 {
     if text.len() != 1 {
         return None;
@@ -75,7 +81,8 @@ fn last_digit(text: &[u8], callers: u16) -> Option<u16>
 
 /// The caller that one or two digits pick, where a space is behind them, and the text behind that space: no trace has more than 16 callers.
 fn short_pick(text: &[u8], callers: u16) -> Option<(u16, &[u8])>
-    ensures { IfSome result (λ found. IsTrue (within 1 callers found.0) × (text.now ≡ decimal found.0 ++ 32 ∷ found.1.now)) }
+    ensures { IfSome result (λ found.
+        IsTrue (within 1 callers found.0) × (text.now ≡ decimal found.0 ++ 32 ∷ found.1.now)) }
 {
     match digit_before(text, callers) {
         Some(found) => Some(found),
@@ -85,7 +92,8 @@ fn short_pick(text: &[u8], callers: u16) -> Option<(u16, &[u8])>
 
 /// Puts the picks that a text is behind those of earlier lines. A text of no picks, or of more than 64, may leave some.
 pub fn read_picks(picks: &mut Vec<u16>, callers: u16, text: &[u8]) -> Result<bool, AllocError>
-    ensures { IfOk result (λ stood. AddsPicks callers text.now stood picks.old.items picks.new.items) }
+    ensures { IfOk result (λ stood.
+        AddsPicks callers text.now stood picks.old.items picks.new.items) }
 {
     let mut rest = text;
     for _count in 0..MOST_PICKS {

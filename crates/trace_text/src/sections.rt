@@ -13,7 +13,8 @@ pub fn close_section(
     caller: u16,
     last: u16,
 ) -> Result<(), AllocError>
-    ensures { OnOk result (sections.new.items ≡ sections.old.items ++ calls.items ∷ replicate (last - caller) []) }
+    ensures { OnOk result (sections.new.items
+        ≡ sections.old.items ++ calls.items ∷ replicate (last - caller) []) }
 {
     sections.push(CallerCalls::of(calls))?;
     for _later in caller..last {

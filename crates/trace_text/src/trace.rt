@@ -37,9 +37,11 @@ pub struct Trace {
 /// The layout of the groups that lines named.
 fn layout(alloc: Global, unit: u32, atom: u32, named: Vec<GroupSpec>) -> Result<Layout, BuildError>
     requires { IsInRange (asked_layout unit atom named.items) }
-    ensures layout { IfOk result (λ layout. layout ≡ layout_of (asked_layout unit atom named.items)) }
+    ensures layout { IfOk result (λ layout.
+        layout ≡ layout_of (asked_layout unit atom named.items)) }
     ensures stands { OnOk result (refusal (asked_layout unit atom named.items) ≡ None) }
-    ensures refused { (error : LayoutError) → result ≡ Err (BuildError.Layout error) → refusal (asked_layout unit atom named.items) ≡ Some error }
+    ensures refused { (error : LayoutError) → result ≡ Err (BuildError.Layout error)
+        → refusal (asked_layout unit atom named.items) ≡ Some error }
 {
     let groups = groups_of(named)?;
     Layout::build(alloc, &LayoutSpec { unit, atom, groups })
@@ -64,7 +66,8 @@ pub fn trace_of(alloc: Global, mut progress: Progress) -> Result<Trace, BuildErr
     requires { IsInRange (layout_spec (header_of progress)) }
     ensures trace { IfOk result (λ trace. (r : Reading) → IsHeld progress r → Tells trace r) }
     ensures stands { OnOk result (refusal (layout_spec (header_of progress)) ≡ None) }
-    ensures layout { (error : LayoutError) → result ≡ Err (BuildError.Layout error) → refusal (layout_spec (header_of progress)) ≡ Some error }
+    ensures layout { (error : LayoutError) → result ≡ Err (BuildError.Layout error)
+        → refusal (layout_spec (header_of progress)) ≡ Some error }
 {
     let groups = mem::replace(&mut progress.groups, Vec::new(alloc));
     let layout = layout(alloc, progress.unit_pages, progress.atom, groups)?;

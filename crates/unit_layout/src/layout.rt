@@ -85,7 +85,12 @@ impl Model for Layout {
 
     ghost Value = { Numbers };
 
-    ghost view = { λ l. record { unit_pages = l.unit_pages; atom = l.atom; groups = l.groups.items; units = l.units.items } };
+    ghost view = { λ l. record {
+      unit_pages = l.unit_pages;
+      atom = l.atom;
+      groups = l.groups.items;
+      units = l.units.items;
+    } };
 
     ghost invariant = { λ l. length l.units.items ≤ 64 };
 }
@@ -97,7 +102,8 @@ impl Layout {
         requires { IsInRange spec.now }
         ensures layout { IfOk result (λ layout. layout ≡ rule.layout_of spec.now) }
         ensures stands { OnOk result (refused.refusal spec.now ≡ None) }
-        ensures refused { (error : LayoutError) → result ≡ Err (BuildError.Layout error) → refused.refusal spec.now ≡ Some error }
+        ensures refused { (error : LayoutError) → result ≡ Err (BuildError.Layout error)
+            → refused.refusal spec.now ≡ Some error }
     {
         let groups = spec.groups.as_slice();
         let division = division_of(spec);

@@ -58,7 +58,9 @@ fn overlapped(division: Division, groups: &[GroupSpec], one: GroupSpec, from: us
     requires few { length groups.now ≤ 64 }
     requires one { IsGroupInRange one }
     requires from { from ≤ length groups.now }
-    ensures { result ≡ rule.first_place (λ other. rule.share_a_page (span_of division one) (span_of division other)) from (drop from groups.now) }
+    ensures { result ≡ rule.first_place (λ other.
+        rule.share_a_page (span_of division one) (span_of division other)) from
+        (drop from groups.now) }
 {
     for second in from..groups.len() {
         if share_a_page(division, one, groups[second]) {

@@ -11,7 +11,8 @@ impl PageSet {
     pub fn pages_from(first: u32, count: u32) -> PageSet
         requires some { 1 ≤ count }
         requires within { first + count ≤ 64 }
-        ensures { (page : ℕ) → page < 64 → has_page result page ≡ (nat_le first page && nat_lt page (first + count)) }
+        ensures { (page : ℕ) → page < 64
+            → has_page result page ≡ (nat_le first page && nat_lt page (first + count)) }
     {
         PageSet {
             mask: u64::MAX >> (64 - count) << first,
@@ -28,7 +29,8 @@ impl PageSet {
 
     /// The pages of either set.
     pub fn with(self, other: PageSet) -> PageSet
-        ensures { (page : ℕ) → page < 64 → has_page result page ≡ (has_page self page || has_page other page) }
+        ensures { (page : ℕ) → page < 64
+            → has_page result page ≡ (has_page self page || has_page other page) }
     {
         PageSet {
             mask: self.mask | other.mask,
@@ -37,7 +39,8 @@ impl PageSet {
 
     /// The pages of this set that are not in the other.
     pub fn without(self, other: PageSet) -> PageSet
-        ensures { (page : ℕ) → page < 64 → has_page result page ≡ (has_page self page && not (has_page other page)) }
+        ensures { (page : ℕ) → page < 64
+            → has_page result page ≡ (has_page self page && not (has_page other page)) }
     {
         PageSet {
             mask: mask_without(self.mask, other.mask),
@@ -61,7 +64,8 @@ impl PageSet {
     /// The lowest of so many first pages that is not in the set.
     pub fn lowest_missing(self, pages: u32) -> Option<u32>
         requires { pages ≤ 64 }
-        ensures { result ≡ slice_get (filter (λ page. not (has_page self page)) (count_from pages 0)) 0 }
+        ensures { result ≡ slice_get
+            (filter (λ page. not (has_page self page)) (count_from pages 0)) 0 }
     {
         for page in 0..pages {
             if !self.contains(page) {
@@ -74,7 +78,8 @@ impl PageSet {
 
 /// The bits of a mask that are not in another.
 fn mask_without(one: u64, other: u64) -> u64
-    ensures { (place : ℕ) → place < 64 → (bit_at result place == 1) ≡ ((bit_at one place == 1) && not (bit_at other place == 1)) }
+    ensures { (place : ℕ) → place < 64
+        → (bit_at result place == 1) ≡ ((bit_at one place == 1) && not (bit_at other place == 1)) }
 {
     one & !other
 }

@@ -1,9 +1,9 @@
 use Rattle.map_laws.proofs.MapLaws.{areas_apart, guard_unmapped, free_clean, parts_disjoint, objects_mapped}
 use Rattle.map_laws.proofs.CarriedKept.{carried_kept}
-use Rattle.map_laws.proofs.ObjectsReady.{histories_legal}
+use Rattle.map_laws.proofs.objects.ObjectsReady.{histories_legal}
 use Rattle.map_laws.proofs.ReachedSteps.{steps_reached}
 use Rattle.map_laws.proofs.SumLaws.{sums_are_the_adds}
-use Rattle.map_laws.proofs.WaitReached.{pages_wait, freed_pages_waited}
+use Rattle.map_laws.proofs.waits.WaitReached.{pages_wait, freed_pages_waited}
 use Rattle.map_laws.proofs.every_trace.Goals as goal
 
 pub returns : goal.returns

@@ -1,0 +1,4 @@
+pub mod AreaFacts
+pub mod AreaMoves
+pub mod AreaWorlds
+pub mod AreaStarts

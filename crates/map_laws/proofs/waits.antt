@@ -1,0 +1,4 @@
+pub mod WaitStories
+pub mod WaitNext
+pub mod WaitWorlds
+pub mod WaitReached
