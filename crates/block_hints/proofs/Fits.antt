@@ -158,7 +158,7 @@ block_alike bits other low high b alike is =
     let within = is.hint.run.within in
     record {
       hint = hint_alike bits other low high b.hint alike is.hint;
-      scan = longest_alike bits other low (low + b.hint.run_start) (span (low + b.scan_start) b.scan) (λ place a c. alike place a (omega arith)) is.scan;
+      scan = λ start pages after end some are. is.scan start pages after end some (λ place a c. sym (alike place (omega arith) (omega arith)) ∙ are place a c);
     }
 
 -- How far a search has come: what fits begins at a place or later, where the free places before the next block begin, and does not end before that block.
@@ -297,7 +297,7 @@ before_run bits low high s is some h =
 
 too_early : (bits : List Bool) (n k low start : ℕ) (b : Block) → 1 ≤ n → IsBlockIn bits low (low + 1024) b → b.scan < n → n ≤ b.hint.run → low ≤ start → start < low + b.hint.run_start → (start + n ≤ low + b.hint.run_start) ⊎ (low + b.hint.run_start < start + n) → fits bits n k start ≡ false
 too_early bits n k low start b some is short long from before (inl within) =
-    not_true (fits bits n k start) (λ e. (let are = (free_of_fits bits n k start some e).1 in let most = (is.scan.longest start n from within some are).0 in absurd (omega arith)))
+    not_true (fits bits n k start) (λ e. (let are = (free_of_fits bits n k start some e).1 in let most = is.scan start n from within some are in absurd (omega arith)))
 too_early bits n k low start b some is short long from before (inr over) =
     fits_taken bits n k start (low + b.hint.run_start - 1) some (omega arith) (omega arith) (before_run bits low (low + 1024) (span (low + b.hint.run_start) b.hint.run) is.hint.run (omega arith) (omega arith))
 

@@ -9,7 +9,7 @@ use Rattle.vm_model.proofs.Paint.{slice_get-paint}
 use Rattle.vm_model.proofs.Scans.{free_read, taken_read}
 use Rattle.vm_model.proofs.FreePlaces.{are_free}
 use Rattle.chunk_bitmaps.specs.Bitmap.{IsNextBit}
-use Rattle.block_hints.specs.Kept.{hint_around}
+use Rattle.block_hints.specs.Kept.{hint_around, IsBoundIn}
 use Rattle.block_hints.proofs.Borders.{IsLeft, IsRight, IsFirst, choose}
 use Rattle.block_hints.proofs.Kepts.{alike_apart}
 
@@ -54,78 +54,87 @@ still_taken old now at count place are taken = by_cases (cases_lt place at) (cas
     by_cases (inr from) (inl to) = are.are_taken place from to
     by_cases (inr from) (inr past) = are.behind place past ∙ taken
 
-run_stays : (old now : List Bool) (bits at count start pages : ℕ) → AreTakenNow old now at count → (start + pages ≤ at) ⊎ (at + count ≤ start) → IsLongestIn old 0 bits (span start pages) → IsLongestIn now 0 bits (span start pages)
-run_stays old now bits at count start pages are apart is = record {
+run_stays : (old now : List Bool) (low high at count start pages : ℕ) → AreTakenNow old now at count → (start + pages ≤ at) ⊎ (at + count ≤ start) → IsLongestIn old low high (span start pages) → IsLongestIn now low high (span start pages)
+run_stays old now low high at count start pages are apart is = record {
   free = λ place a b. free_by place a b apart;
   after = is.after;
   within = is.within;
-  longest = λ from many low inside some free. is.longest from many low inside some (λ place a b. still_free old now at count place are (free place a b));
+  longest = λ from many under inside some free. is.longest from many under inside some (λ place a b. still_free old now at count place are (free place a b));
   none = is.none;
 }
   where
     free_by : (place : ℕ) → start ≤ place → place < start + pages → (start + pages ≤ at) ⊎ (at + count ≤ start) → is_free_at now place ≡ true
-    free_by place a b (inl low) = are.before place (omega arith) ∙ is.free place a b
+    free_by place a b (inl before) = are.before place (omega arith) ∙ is.free place a b
     free_by place a b (inr past) = are.behind place (omega arith) ∙ is.free place a b
 
-left_stays : (old now : List Bool) (bits at count : ℕ) (h : Hint) → AreTakenNow old now at count → at + count ≤ bits → IsHintIn old 0 bits h → IsLeft now 0 bits (if nat_lt at h.left then at else h.left)
-left_stays old now bits at count h are inside is =
-    let some = are.some in let left = is.left_within in
-    choose (IsLeft now 0 bits) at h.left at h.left
+-- free spans are no longer than before
+pub bound_stays : (old now : List Bool) (low high at count most : ℕ) → AreTakenNow old now at count → IsBoundIn old low high most → IsBoundIn now low high most
+bound_stays old now low high at count most are is start pages after inside some free = is start pages after inside some (λ place a b. still_free old now at count place are (free place a b))
+
+-- some places between two others
+pub record IsPlaced (low high at count : ℕ) : Type 0 where
+  pub after : low ≤ at
+  pub within : at + count ≤ high
+
+left_stays : (old now : List Bool) (low high at count : ℕ) (h : Hint) → AreTakenNow old now at count → IsPlaced low high at count → IsHintIn old low high h → IsLeft now low high (if nat_lt (at - low) h.left then at - low else h.left)
+left_stays old now low high at count h are placed is =
+    let some = are.some in let left = is.left_within in let after = placed.after in let within = placed.within in
+    choose (IsLeft now low high) (at - low) h.left (at - low) h.left
     (λ l. record {
       within = omega arith;
       free = λ place a b. are.before place (omega arith) ∙ is.left_free place a (omega arith);
-      end = λ more. let e : 0 + at ≡ at = omega arith in ap (is_free_at now) e ∙ are.are_taken at (omega arith) (omega arith);
+      end = λ more. let e : low + (at - low) ≡ at = omega arith in ap (is_free_at now) e ∙ are.are_taken at (omega arith) (omega arith);
     })
     (λ g. record {
       within = is.left_within;
       free = λ place a b. are.before place (omega arith) ∙ is.left_free place a b;
-      end = λ more. still_taken old now at count (0 + h.left) are (is.left_end more);
+      end = λ more. still_taken old now at count (low + h.left) are (is.left_end more);
     })
 
-right_stays : (old now : List Bool) (bits at count : ℕ) (h : Hint) → AreTakenNow old now at count → at + count ≤ bits → IsHintIn old 0 bits h
-    → IsRight now 0 bits (if nat_lt (bits - (at + count)) h.right then bits - (at + count) else h.right)
-right_stays old now bits at count h are inside is =
-    let some = are.some in let right = is.right_within in
-    choose (IsRight now 0 bits) (bits - (at + count)) h.right (bits - (at + count)) h.right
+right_stays : (old now : List Bool) (low high at count n : ℕ) (h : Hint) → AreTakenNow old now at count → IsPlaced low high at count → IsHintIn old low high h → n ≡ high - (at + count) → IsRight now low high (if nat_lt n h.right then n else h.right)
+right_stays old now low high at count n h are placed is e =
+    let some = are.some in let right = is.right_within in let after = placed.after in let within = placed.within in
+    choose (IsRight now low high) n h.right n h.right
     (λ l. record {
       within = omega arith;
       free = λ place a b. are.behind place (omega arith) ∙ is.right_free place (omega arith) (omega arith);
-      end = λ more. are.are_taken (bits - suc (bits - (at + count))) (omega arith) (omega arith);
+      end = λ more. are.are_taken (high - suc n) (omega arith) (omega arith);
     })
     (λ g. record {
       within = is.right_within;
       free = λ place a b. are.behind place (omega arith) ∙ is.right_free place a b;
-      end = λ more. still_taken old now at count (bits - suc h.right) are (is.right_end more);
+      end = λ more. still_taken old now at count (high - suc h.right) are (is.right_end more);
     })
 
 -- the first free place, by a search where the one before is taken
-pub first_behind : (old now : List Bool) (bits at count first : ℕ) (h : Hint) → AreTakenNow old now at count → at + count ≤ bits → IsHintIn old 0 bits h → at ≡ h.first → IsNextBit old false (at + count) bits first → IsFirst now 0 bits first
-first_behind old now bits at count first h are inside is same next =
-    let after = next.after in
+pub first_behind : (old now : List Bool) (low high at count first : ℕ) (h : Hint) → AreTakenNow old now at count → IsPlaced low high at count → IsHintIn old low high h → at ≡ low + h.first → IsNextBit old false (at + count) high first
+    → IsFirst now low high (first - low)
+first_behind old now low high at count first h are placed is same next =
+    let after = next.after in let from = placed.after in
     record {
       within = omega (arith, next.within);
-      taken = λ place a b. taken_by place (omega arith) (cases_lt place at) (cases_lt place (at + count));
-      end = λ more. let e : 0 + first ≡ first = omega arith in ap (is_free_at now) e ∙ are.behind first after ∙ free_read old first (next.here (omega arith));
+      taken = λ place a b. taken_by place a (omega arith) (cases_lt place at) (cases_lt place (at + count));
+      end = λ more. let e : low + (first - low) ≡ first = omega arith in ap (is_free_at now) e ∙ are.behind first after ∙ free_read old first (next.here (omega arith));
     }
   where
-    taken_by : (place : ℕ) → place < first → (place < at) ⊎ (at ≤ place) → (place < at + count) ⊎ (at + count ≤ place) → is_free_at now place ≡ false
-    taken_by place b (inl low) end = still_taken old now at count place are (is.first_taken place (omega arith) (omega arith))
-    taken_by place b (inr from) (inl to) = are.are_taken place from to
-    taken_by place b (inr from) (inr past) = are.behind place past ∙ taken_read old place (next.others place past b)
+    taken_by : (place : ℕ) → low ≤ place → place < first → (place < at) ⊎ (at ≤ place) → (place < at + count) ⊎ (at + count ≤ place) → is_free_at now place ≡ false
+    taken_by place a b (inl before) end = still_taken old now at count place are (is.first_taken place a (omega arith))
+    taken_by place a b (inr from) (inl to) = are.are_taken place from to
+    taken_by place a b (inr from) (inr past) = are.behind place past ∙ taken_read old place (next.others place past b)
 
-pub first_stays : (old now : List Bool) (bits at count : ℕ) (h : Hint) → AreTakenNow old now at count → IsHintIn old 0 bits h → at ≢ h.first → IsFirst now 0 bits h.first
-first_stays old now bits at count h are is apart = record {
+pub first_stays : (old now : List Bool) (low high at count : ℕ) (h : Hint) → AreTakenNow old now at count → IsPlaced low high at count → IsHintIn old low high h → at ≢ low + h.first → IsFirst now low high h.first
+first_stays old now low high at count h are placed is apart = record {
   within = is.first_within;
   taken = λ place a b. still_taken old now at count place are (is.first_taken place a b);
-  end = λ more. are.before (0 + h.first) (omega (arith, before (cases_lt h.first at))) ∙ is.first_free more;
+  end = λ more. are.before (low + h.first) (omega (arith, before (cases_lt (low + h.first) at))) ∙ is.first_free more;
 }
   where
-    before : (h.first < at) ⊎ (at ≤ h.first) → h.first < at
-    before (inl low) = low
+    before : (low + h.first < at) ⊎ (at ≤ low + h.first) → low + h.first < at
+    before (inl under) = under
     before (inr from) =
         let some = are.some in
         let free = are.were_free at (omega arith) (omega arith) in
-        let taken = is.first_taken at (omega arith) (omega arith) in
+        let taken = is.first_taken at placed.after (omega arith) in
         cc
 
 -- the bits between two places, or the longest run, are before the others
@@ -137,13 +146,14 @@ not_cut at end start run_end h = by_cases (cases_lt at run_end) (cases_lt start 
     by_cases (inl one) (inr past) = inr past
     by_cases (inl one) (inl two) = let both : (nat_lt at run_end && nat_lt start end) ≡ true = grind (arith, nat_tests) in cc
 
-pub around_taken : (old now : List Bool) (bits at count first : ℕ) (h : Hint) → AreTakenNow old now at count → at + count ≤ bits → (h.run_start + h.run ≤ at) ⊎ (at + count ≤ h.run_start) → IsHintIn old 0 bits h → IsFirst now 0 bits first
-    → IsHintIn now 0 bits (hint_around bits at (at + count) first h)
-around_taken old now bits at count first h are inside apart is begins =
-    let left = left_stays old now bits at count h are inside is in
-    let right = right_stays old now bits at count h are inside is in
+pub around_taken : (old now : List Bool) (low high at count first : ℕ) (h : Hint) → AreTakenNow old now at count → IsPlaced low high at count → (low + h.run_start + h.run ≤ at) ⊎ (at + count ≤ low + h.run_start) → IsHintIn old low high h → IsFirst now low high first
+    → IsHintIn now low high (hint_around (high - low) (at - low) (at + count - low) first h)
+around_taken old now low high at count first h are placed apart is begins =
+    let after = placed.after in let within = placed.within in
+    let left = left_stays old now low high at count h are placed is in
+    let right = right_stays old now low high at count (high - low - (at + count - low)) h are placed is (omega arith) in
     record {
-      run = run_stays old now bits at count (0 + h.run_start) h.run are (from_zero apart) is.run;
+      run = run_stays old now low high at count (low + h.run_start) h.run are apart is.run;
       left_within = left.within;
       left_free = left.free;
       left_end = left.end;
@@ -154,7 +164,3 @@ around_taken old now bits at count first h are inside apart is begins =
       first_taken = begins.taken;
       first_free = begins.end;
     }
-  where
-    from_zero : (h.run_start + h.run ≤ at) ⊎ (at + count ≤ h.run_start) → (0 + h.run_start + h.run ≤ at) ⊎ (at + count ≤ 0 + h.run_start)
-    from_zero (inl low) = inl (omega arith)
-    from_zero (inr past) = inr (omega arith)

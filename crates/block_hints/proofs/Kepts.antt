@@ -8,16 +8,16 @@ use Rattle.vm_model.specs.declared.areas.PageSet.{PageSet}
 use Rattle.vm_model.specs.declared.rows.Hint.{Hint}
 use Rattle.vm_model.specs.Space.{span, holds, covers, paint, count_from, is_free_at, is_open, begins_free, fits, lowest, taken_by}
 use Rattle.vm_model.specs.Bits.{hint_of, block_bits}
-use Rattle.vm_model.specs.Hints.{IsLongestIn, IsHintIn}
+use Rattle.vm_model.specs.Hints.{IsHintIn}
 use Rattle.vm_model.proofs.Paint.{slice_get-paint}
 use Rattle.vm_model.proofs.PaintRuns.{lowest_is_free}
-use Rattle.vm_model.proofs.Scans.{free_read, longest_at_first}
+use Rattle.vm_model.proofs.Scans.{free_read}
 use Rattle.vm_model.proofs.HintProofs.{the_hint_is_the_only_one}
 use Rattle.chunk_bitmaps.specs.ChunkMap.{ChunkMap, empty_chunk, taken_bits}
 use Rattle.vm_model.proofs.FreePlaces.{free_test}
 use Rattle.chunk_bitmaps.proofs.FirstFits.{before_all}
 use Rattle.block_hints.specs.declared.block_scan.Block.{Block}
-use Rattle.block_hints.specs.Kept.{AreKept, AreHints, IsApart, IsBlockIn}
+use Rattle.block_hints.specs.Kept.{AreKept, AreHints, AreOthersKept, IsApart, IsBlockIn}
 use Rattle.vm_model.specs.PageSets.{has_page}
 use Rattle.block_hints.specs.Populated.{missing_bits, blocked_bits}
 use Rattle.block_hints.proofs.Blocked.{is_free-taken_by, covers-append, length-blocked, length-taken}
@@ -38,8 +38,7 @@ pub alike_apart : (bits now : List Bool) (at count low high : ℕ) (x : Bool) �
 alike_apart bits now at count low high x is apart place a b =
     ap (λ bs. is_free_at bs place) is ∙ ap is_open (slice_get-paint (holds (span at count)) x bits place ∙ unpainted (holds (span at count) place) x (slice_get bits place) (apart_test at count low high place apart a b))
 
-pub others_kept : (bits now : List Bool) (blocks : List Block) (at count : ℕ) (x : Bool) → now ≡ paint (holds (span at count)) x bits → AreHints bits blocks → (block : ℕ) (h : Block) → slice_get blocks block ≡ Some h
-    → IsApart at count (1024 * block) (1024 * block + 1024) → IsBlockIn now (1024 * block) (1024 * block + 1024) h
+pub others_kept : (bits now : List Bool) (blocks : List Block) (at count : ℕ) (x : Bool) → now ≡ paint (holds (span at count)) x bits → AreHints bits blocks → AreOthersKept now blocks at count
 others_kept bits now blocks at count x is are block h e apart =
     block_alike bits now (1024 * block) (1024 * block + 1024) h (alike_apart bits now at count (1024 * block) (1024 * block + 1024) x is apart) (are block h e)
 
@@ -121,7 +120,7 @@ abbrev free_hint : Hint
 free_hint = record { run_start = 0; run = 1024; left = 1024; right = 1024; first = 0 }
 
 abbrev pub free_block : Block
-free_block = record { hint = free_hint; scan_start = 0; scan = 0 }
+free_block = record { hint = free_hint; scan = 0 }
 
 all_free_hint : (bits : List Bool) (low : ℕ) → ((place : ℕ) → low ≤ place → place < low + 1024 → is_free_at bits place ≡ true) → IsHintIn bits low (low + 1024) free_hint
 all_free_hint bits low free = record {
@@ -152,11 +151,10 @@ pub free_hints : (pages : ℕ) → AreHints (taken_bits (empty_chunk (1024 * pag
 free_hints pages block h e =
     let r = replicated pages block h free_block e in
     let inside = r.1 in
-    let low : 1024 * block ≡ 1024 * block + 0 = omega arith in
     let bits = taken_bits (empty_chunk (1024 * pages)) in
     subst (IsBlockIn bits (1024 * block) (1024 * block + 1024)) r.0 (record {
       hint = all_free_hint bits (1024 * block) (λ place a b. is_free-taken_by [] (1024 * pages) place (omega arith));
-      scan = subst (λ n. IsLongestIn bits (1024 * block) n (span n 0)) low (longest_at_first bits (1024 * block));
+      scan = λ start pages after within some are. absurd (omega arith);
     })
 
 -- A list that was lent as a slice.

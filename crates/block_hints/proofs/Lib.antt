@@ -5,3 +5,4 @@ pub mod Fits
 pub mod Blocked
 pub mod Kepts
 pub mod HintsAround
+pub mod HintsFreed

@@ -1,8 +1,7 @@
 //! The hint of a block by a scan of its bits, run by run: `pcpu_block_refresh_hint`.
-ghost use Rattle.std.specs.Prelude.{◌≡◌, ◌+◌, ◌*◌, ◌≤◌, ℕ, Some, length, slice_get};
+ghost use Rattle.std.specs.Prelude.{◌+◌, ◌*◌, ◌≤◌};
 ghost use Rattle.chunk_bitmaps.specs.ChunkMap.{taken_bits};
-ghost use Rattle.block_hints.specs.declared.block_scan.Block.{Block};
-ghost use Rattle.block_hints.specs.Kept.{AreHints, IsApart, IsBlockIn};
+ghost use Rattle.block_hints.specs.Kept.{IsBlockIn};
 
 use chunk_bitmaps::{BLOCK_BITS, ChunkBits};
 use vm_model::Hint;
@@ -12,9 +11,7 @@ use vm_model::Hint;
 pub(crate) struct Block {
     /// The longest run, and what is free and taken at the ends.
     pub(crate) hint: Hint,
-    /// Where the longest of the runs before that one begins: `scan_hint_start`.
-    pub(crate) scan_start: u32,
-    /// The bits of that run, 0 where there is none: `scan_hint`. A longer object fits at the longest run at the earliest.
+    /// How many bits a run before that one has at most: `scan_hint`. A longer object fits at the longest run at the earliest.
     pub(crate) scan: u32,
 }
 
@@ -28,7 +25,6 @@ pub(crate) fn scan_block(bits: &ChunkBits, block: u32) -> Block
     let high = low + BLOCK_BITS;
     let mut run_start = low;
     let mut run = 0;
-    let mut scan_start = low;
     let mut scan = 0;
     let mut right = 0;
     let first = bits.find_next(false, low, high);
@@ -37,7 +33,6 @@ pub(crate) fn scan_block(bits: &ChunkBits, block: u32) -> Block
         let start = bits.find_next(false, place, high);
         let end = bits.find_next(true, start, high);
         if end - start > run {
-            scan_start = run_start;
             scan = run;
             run_start = start;
             run = end - start;
@@ -52,26 +47,5 @@ pub(crate) fn scan_block(bits: &ChunkBits, block: u32) -> Block
         right,
         first: first - low,
     };
-    Block {
-        hint,
-        scan_start: scan_start - low,
-        scan,
-    }
-}
-
-/// Scans the blocks anew in which an object lies.
-pub(crate) fn refresh(bits: &ChunkBits, blocks: &mut [Block], at: u32, count: u32)
-    requires some { 1 ≤ count }
-    requires inside { at + count ≤ bits.now.bits }
-    requires size { bits.now.bits ≡ 1024 * length blocks.old }
-    requires others { (block : ℕ) (b : Block) → slice_get blocks.old block ≡ Some b
-        → IsApart at count (1024 * block) (1024 * block + 1024)
-        → IsBlockIn (taken_bits bits.now) (1024 * block) (1024 * block + 1024) b }
-    ensures blocks { AreHints (taken_bits bits.now) blocks.new }
-    ensures size { length blocks.new ≡ length blocks.old }
-{
-    let _few = bits.len();
-    for block in at / BLOCK_BITS..(at + count).div_ceil(BLOCK_BITS) {
-        blocks[block as usize] = scan_block(bits, block);
-    }
+    Block { hint, scan }
 }

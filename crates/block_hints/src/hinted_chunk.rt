@@ -5,10 +5,12 @@ ghost use Rattle.vm_model.specs.Bits.{hint_of, block_bits};
 ghost use Rattle.chunk_bitmaps.specs.ChunkMap.{ChunkMap, empty_chunk, taken_bits, with_object_at, without_object_at, object_bits_at};
 ghost use Rattle.block_hints.specs.Populated.{blocked_bits};
 
-use crate::block_scan::{Block, refresh};
+use crate::block_scan::Block;
+use crate::frees::mended_by_freeing;
 use crate::joins::joined_all;
-use crate::mends::hint_with_taken;
+use crate::mends::keep;
 use crate::search::lowest_fit;
+use crate::takes::mended_by_taking;
 use chunk_bitmaps::{BLOCK_BITS, ChunkBits};
 use std::alloc::{AllocError, Global};
 use std::marker::Model;
@@ -51,11 +53,7 @@ impl HintedChunk {
             right: BLOCK_BITS,
             first: 0,
         };
-        let free = Block {
-            hint,
-            scan_start: 0,
-            scan: 0,
-        };
+        let free = Block { hint, scan: 0 };
         let blocks = vec![in alloc; free; pages as usize]?;
         let chunk = joined_all(&bits, &blocks);
         Ok(HintedChunk {
@@ -90,13 +88,9 @@ impl HintedChunk {
             return None;
         }
         let at = lowest_fit(&self.bits, &self.blocks, bits, align, populated)?;
-        let mended = hint_with_taken(&self.bits, self.chunk, at, bits);
+        let mended = mended_by_taking(&self.bits, &self.blocks, self.chunk, at, bits);
         self.bits.mark(at, bits);
-        refresh(&self.bits, &mut self.blocks, at, bits);
-        self.chunk = match mended {
-            Some(hint) => hint,
-            None => joined_all(&self.bits, &self.blocks),
-        };
+        self.chunk = keep(&self.bits, &mut self.blocks, at, bits, mended);
         Some(at)
     }
 
@@ -109,8 +103,8 @@ impl HintedChunk {
         ensures none { IfNone result (self.new ≡ self.old) }
     {
         let bits = self.bits.clear(at)?;
-        refresh(&self.bits, &mut self.blocks, at, bits);
-        self.chunk = joined_all(&self.bits, &self.blocks);
+        let mended = mended_by_freeing(&self.bits, &self.blocks, self.chunk, at, bits);
+        self.chunk = keep(&self.bits, &mut self.blocks, at, bits, mended);
         Some(bits)
     }
 

@@ -12,9 +12,11 @@
 #![tactic(auto)]
 
 mod block_scan;
+mod frees;
 mod hinted_chunk;
 mod joins;
 mod mends;
 mod search;
+mod takes;
 
 pub use hinted_chunk::HintedChunk;

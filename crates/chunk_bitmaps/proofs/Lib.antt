@@ -1,5 +1,6 @@
 pub mod Words
 pub mod NextBits
+pub mod LastBits
 pub mod Fills
 pub mod FirstFits
 pub mod TakenBits

@@ -8,13 +8,13 @@ use Rattle.chunk_bitmaps.specs.Bitmap.{IsNextBit}
 use Rattle.vm_model.specs.Bits.{value_at}
 use Rattle.vm_model.proofs.Tabulated.{get-value_at}
 
-is_other : (value b : Bool) → one_if (if value then b else not b) ≡ 0 → b ≡ not value
+pub is_other : (value b : Bool) → one_if (if value then b else not b) ≡ 0 → b ≡ not value
 is_other true true e = cc
 is_other true false e = refl
 is_other false true e = refl
 is_other false false e = cc
 
-is_value : (value b : Bool) → one_if (if value then b else not b) ≡ 1 → b ≡ value
+pub is_value : (value b : Bool) → one_if (if value then b else not b) ≡ 1 → b ≡ value
 is_value true true e = refl
 is_value true false e = cc
 is_value false true e = cc

@@ -1,9 +1,9 @@
 -- Bits of words: a word with bits set or cleared, the rest of a word, and a word that is put in the place of another.
-use Rattle.std.proofs.Common.{◌≡◌, ℕ, zero, suc, ◌+◌, ◌-◌, ◌/◌, ◌%◌, ◌^◌, ◌<◌, ◌≤◌, Bool, true, false, not, ◌==◌, List, length, get_or, refl, ap, sym, ◌∙◌, arith}
+use Rattle.std.proofs.Common.{◌≡◌, ℕ, zero, suc, ◌+◌, ◌-◌, ◌/◌, ◌%◌, ◌^◌, ◌<◌, ◌≤◌, Bool, true, false, not, ◌==◌, if◌then◌else◌, List, length, get_or, refl, ap, sym, ◌∙◌, arith}
 use Rattle.std.specs.Int.{bit_at, w64}
 use Rattle.std.specs.Int.RustNames.{bit_and, bit_or}
 use Rattle.std.proofs.lemmas.Nat.{shr-shr}
-use Rattle.std.proofs.lemmas.Nat.Bits.{bit_at_or, bit_at_and, bit_at_not, bit_at-lt, bit_at_above}
+use Rattle.std.proofs.lemmas.Nat.Bits.{bit_at_or, bit_at_and, bit_at_not, bit_at-lt, bit_at_above, bit_at_mask_inside, bit_at_mask_above}
 use Rattle.vm_model.specs.Space.{one_if}
 use Rattle.chunk_bitmaps.specs.Bitmap.{bit_of, bits_of, HasRoom}
 use Rattle.vm_model.specs.Bits.{value_at}
@@ -73,3 +73,39 @@ few_bits words bits now is room =
     let long : length now ≡ bits = ap length (sym is) ∙ length-tabulated (bit_of words) bits 0 in
     let small = room.small in
     (long, omega arith)
+
+-- the place is one of the bits, and its word is there
+pub in_words : (words : List ℕ) (bits place : ℕ) (now : List Bool) → bits_of words bits ≡ now → HasRoom words bits → place < length now → (place < bits) × (place / 64 < length words)
+in_words words bits place now is room h =
+    let long : length now ≡ bits = ap length (sym is) ∙ length-tabulated (bit_of words) bits 0 in
+    let most = room.room in
+    (omega arith, omega arith)
+
+pub bit_is : (words : List ℕ) (bits place : ℕ) (now : List Bool) → bits_of words bits ≡ now → place < length now → bit_of words place ≡ value_at now place
+bit_is words bits place now is h =
+    let long : length now ≡ bits = ap length (sym is) ∙ length-tabulated (bit_of words) bits 0 in
+    sym (value_at-bits_of words bits place (omega arith)) ∙ ap (λ bs. value_at bs place) is
+
+pub chosen_true : (value : Bool) (b : Bool) → value ≡ true → one_if b ≡ one_if (if value then b else not b)
+chosen_true true b e = λ _. one_if b
+chosen_true false b e = cc
+
+pub chosen_false : (value : Bool) (b : Bool) → value ≡ false → one_if (not b) ≡ one_if (if value then b else not b)
+chosen_false true b e = cc
+chosen_false false b e = λ _. one_if (not b)
+
+-- A bit of a word that has the value, by its place.
+
+pub word_bit : (words : List ℕ) (place other : ℕ) → other / 64 ≡ place / 64 → bit_at (get_or words (place / 64) 0) (other % 64) ≡ one_if (bit_of words other)
+word_bit words place other same = one_if-bit (get_or words (place / 64) 0) (other % 64) ∙ ap (λ k. one_if (bit_at (get_or words k 0) (other % 64) == 1)) (sym same)
+
+pub word_bit_clear : (words : List ℕ) (place other : ℕ) → get_or words (place / 64) 0 < 2 ^ 64 → other / 64 ≡ place / 64
+    → bit_at (18446744073709551615 - get_or words (place / 64) 0) (other % 64) ≡ one_if (not (bit_of words other))
+word_bit_clear words place other fits same =
+    bit_at_not w64 (get_or words (place / 64) 0) (other % 64) fits (omega arith) ∙ ap (λ n. 1 - n) (word_bit words place other same) ∙ one_if-not (bit_of words other)
+
+pub masked_inside : (word count i : ℕ) → i < count → bit_at (bit_and word (2 ^ (0 + count) - 2 ^ 0)) i ≡ bit_at word i
+masked_inside word count i h = omega (arith, bit_at_and word (2 ^ (0 + count) - 2 ^ 0) i, bit_at_mask_inside 0 (0 + count) i (omega arith) (omega arith), bit_at-lt word i)
+
+pub masked_above : (word count i : ℕ) → count ≤ i → bit_at (bit_and word (2 ^ (0 + count) - 2 ^ 0)) i ≡ 0
+masked_above word count i h = omega (arith, bit_at_and word (2 ^ (0 + count) - 2 ^ 0) i, bit_at_mask_above 0 (0 + count) i (omega arith))

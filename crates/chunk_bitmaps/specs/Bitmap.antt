@@ -1,7 +1,8 @@
 -- Bits in words, and the next bit with a value.
-use Rattle.std.specs.Prelude.{◌≡◌, ℕ, ◌*◌, ◌/◌, ◌%◌, ◌^◌, ◌<◌, ◌≤◌, Bool, not, ◌==◌, List, length, map, slice_get, slice_index, Some}
+use Rattle.std.specs.Prelude.{◌≡◌, ℕ, ◌-◌, ◌*◌, ◌/◌, ◌%◌, ◌^◌, ◌<◌, ◌≤◌, Bool, if◌then◌else◌, not, ◌==◌, List, length, map, slice_get, slice_index, Some}
 use Rattle.std.specs.Int.{bit_at}
-use Rattle.vm_model.specs.Space.{count_from}
+use Rattle.vm_model.specs.Space.{count_from, one_if}
+use Rattle.vm_model.specs.Bits.{value_at}
 
 -- the bit at a place of words of 64 bits
 abbrev pub bit_of : List ℕ → ℕ → Bool
@@ -21,3 +22,15 @@ pub record IsNextBit (bits : List Bool) (value : Bool) (from end place : ℕ) : 
   pub within : place ≤ end
   pub others : (other : ℕ) → from ≤ other → other < place → slice_get bits other ≡ Some (not value)
   pub here : place < end → slice_get bits place ≡ Some value
+
+-- the place is behind the last one with the value before the end, or the first one where none has it
+pub record IsLastBit (bits : List Bool) (value : Bool) (from end place : ℕ) : Type 0 where
+  pub after : from ≤ place
+  pub within : place ≤ end
+  pub others : (other : ℕ) → place ≤ other → other < end → slice_get bits other ≡ Some (not value)
+  pub here : from < place → slice_get bits (place - 1) ≡ Some value
+
+-- the set bits of a word are those with the value in the word of a place, up to the place
+pub record IsWordUpTo (bits : List Bool) (place : ℕ) (value : Bool) (word : ℕ) : Type 0 where
+  pub rest : (other : ℕ) → other / 64 ≡ place / 64 → other ≤ place → bit_at word (other % 64) ≡ one_if (if value then value_at bits other else not (value_at bits other))
+  pub above : (i : ℕ) → place % 64 < i → bit_at word i ≡ 0

@@ -2,7 +2,7 @@
 ghost use Rattle.std.specs.Prelude.{◌≡◌, ◌+◌, ◌-◌, ◌*◌, ◌/◌, ◌%◌, ◌^◌, ◌<◌, ◌≤◌, ℕ, Bool, false, IfOk, if◌then◌else◌, ◌==◌, not, length, replicate};
 ghost use Rattle.std.specs.Int.{bit_at};
 ghost use Rattle.vm_model.specs.Space.{span, holds, paint, one_if};
-ghost use Rattle.chunk_bitmaps.specs.Bitmap.{IsNextBit};
+ghost use Rattle.chunk_bitmaps.specs.Bitmap.{IsNextBit, IsLastBit, IsWordUpTo};
 ghost use Rattle.vm_model.specs.Bits.{value_at};
 
 use std::alloc::{AllocError, Global};
@@ -101,6 +101,34 @@ impl Bitmap {
             place += WORD - place % WORD;
         }
         end
+    }
+
+    /// A word whose set bits are those that have the value, from the start of a place's word to the place.
+    fn word_up_to(&self, place: u32, value: bool) -> u64
+        requires { place < length self.now }
+        ensures { IsWordUpTo self.now place value result }
+    {
+        let word = self.words[(place / WORD) as usize];
+        (if value { word } else { !word }) & mask_of(0, place % WORD + 1)
+    }
+
+    /// The place behind the last bit with the value from a place on and before the end, or that place: `find_last_bit`.
+    pub fn find_last(&self, value: bool, from: u32, end: u32) -> u32
+        requires order { from ≤ end }
+        requires within { end ≤ length self.now }
+        ensures { IsLastBit self.now value from end result }
+    {
+        let _ = &self.bits;
+        let mut place = end;
+        while from < place {
+            let start = (place - 1) / WORD * WORD;
+            let word = self.word_up_to(place - 1, value);
+            if word != 0 {
+                return from.max(start + WORD - word.leading_zeros());
+            }
+            place = start;
+        }
+        from
     }
 
     /// Sets or clears one bit: `__set_bit` and `__clear_bit`.

@@ -3,7 +3,7 @@
 ghost use Rattle.std.specs.Prelude.{◌≡◌, true, false, ◌+◌, ◌-◌, ◌*◌, ◌<◌, ◌≤◌, Option, Some, IfOk, IfSome, IfNone, MatchOption, length, take, drop, [], ◌∷◌};
 ghost use Rattle.vm_model.specs.Space.{span, holds, paint, begins_free};
 ghost use Rattle.vm_model.specs.Bits.{leading_free};
-ghost use Rattle.chunk_bitmaps.specs.Bitmap.{IsNextBit};
+ghost use Rattle.chunk_bitmaps.specs.Bitmap.{IsNextBit, IsLastBit};
 ghost use Rattle.chunk_bitmaps.specs.ChunkMap.{ChunkMap, empty_chunk, taken_bits, with_object_at, without_object_at, object_bits_at, objects_from, first_fit, begins};
 
 use crate::bitmap::Bitmap;
@@ -70,6 +70,16 @@ impl ChunkBits {
         ensures { IsNextBit (taken_bits self.now) taken from end result }
     {
         self.taken.find_next(taken, from, end)
+    }
+
+    /// The place behind the last bit from a place on and before the end that is taken, or free, or that place where there
+    /// is none. It takes no memory.
+    pub fn find_last(&self, taken: bool, from: u32, end: u32) -> u32
+        requires order { from ≤ end }
+        requires within { end ≤ self.now.bits }
+        ensures { IsLastBit (taken_bits self.now) taken from end result }
+    {
+        self.taken.find_last(taken, from, end)
     }
 
     /// Whether so many bits from a place on are free. It takes no memory.

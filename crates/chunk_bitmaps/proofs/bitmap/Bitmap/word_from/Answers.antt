@@ -1,33 +1,10 @@
-use Rattle.std.proofs.Common.{◌≡◌, ℕ, ◌+◌, ◌<◌, ◌^◌, ◌-◌, ◌%◌, ◌/◌, Bool, true, false, not, if◌then◌else◌, List, length, get_or, ap, ◌∙◌, sym, arith}
+use Rattle.std.proofs.Common.{◌≡◌, ◌+◌, ◌<◌, ◌^◌, ◌-◌, ◌%◌, ◌/◌, not, get_or, ap, ◌∙◌, arith}
 use Rattle.std.proofs.lemmas.List.{get_or_read}
 use Rattle.std.specs.Int.{bit_at}
 use Rattle.vm_model.specs.Space.{one_if}
-use Rattle.chunk_bitmaps.specs.Bitmap.{bit_of, bits_of, HasRoom}
-use Rattle.vm_model.specs.Bits.{value_at}
-use Rattle.vm_model.proofs.Tabulated.{length-tabulated}
-use Rattle.chunk_bitmaps.proofs.Words.{value_at-bits_of, rest_set, rest_clear, rest_above}
+use Rattle.chunk_bitmaps.proofs.Words.{in_words, bit_is, chosen_true, chosen_false, rest_set, rest_clear, rest_above}
 use Rattle.chunk_bitmaps.proofs.bitmap.Bitmap.word_from.Goals as goal
 use Rattle.chunk_bitmaps.proofs.bitmap.Bitmap.word_from.Goals.{then-value, else-value}
-
--- the place is one of the bits, and its word is there
-in_words : (words : List ℕ) (bits place : ℕ) (now : List Bool) → bits_of words bits ≡ now → HasRoom words bits → place < length now → (place < bits) × (place / 64 < length words)
-in_words words bits place now is room h =
-    let long : length now ≡ bits = ap length (sym is) ∙ length-tabulated (bit_of words) bits 0 in
-    let most = room.room in
-    (omega arith, omega arith)
-
-bit_is : (words : List ℕ) (bits place : ℕ) (now : List Bool) → bits_of words bits ≡ now → place < length now → bit_of words place ≡ value_at now place
-bit_is words bits place now is h =
-    let long : length now ≡ bits = ap length (sym is) ∙ length-tabulated (bit_of words) bits 0 in
-    sym (value_at-bits_of words bits place (omega arith)) ∙ ap (λ bs. value_at bs place) is
-
-chosen_true : (value : Bool) (b : Bool) → value ≡ true → one_if b ≡ one_if (if value then b else not b)
-chosen_true true b e = λ _. one_if b
-chosen_true false b e = cc
-
-chosen_false : (value : Bool) (b : Bool) → value ≡ false → one_if (not b) ≡ one_if (if value then b else not b)
-chosen_false true b e = cc
-chosen_false false b e = λ _. one_if (not b)
 
 pub index-word-requires : goal.index-word-requires
 index-word-requires c =
