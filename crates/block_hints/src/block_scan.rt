@@ -2,7 +2,7 @@
 ghost use Rattle.std.specs.Prelude.{◌≡◌, ◌+◌, ◌*◌, ◌≤◌, ℕ, Some, length, slice_get};
 ghost use Rattle.chunk_bitmaps.specs.ChunkMap.{taken_bits};
 ghost use Rattle.block_hints.specs.declared.block_scan.Block.{Block};
-ghost use Rattle.block_hints.specs.Kept.{AreHints, IsApart, IsBlockIn};
+ghost use Rattle.block_hints.specs.KeptHints.{AreHints, IsApart, IsBlockIn};
 
 use chunk_bitmaps::{BLOCK_BITS, ChunkBits};
 use vm_model::Hint;

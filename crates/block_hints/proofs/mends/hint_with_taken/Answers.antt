@@ -3,7 +3,7 @@ use Rattle.vm_model.specs.Space.{span, holds, paint}
 use Rattle.vm_model.specs.Hints.{IsHintIn}
 use Rattle.chunk_bitmaps.specs.Bitmap.{IsNextBit}
 use Rattle.chunk_bitmaps.specs.ChunkMap.{taken_bits}
-use Rattle.block_hints.specs.Kept.{hint_around}
+use Rattle.block_hints.specs.KeptHints.{hint_around}
 use Rattle.block_hints.proofs.Borders.{IsFirst}
 use Rattle.block_hints.proofs.HintsAround.{AreTakenNow, painted_taken, not_cut, first_behind, first_stays, around_taken}
 use Rattle.block_hints.proofs.mends.hint_with_taken.Goals as goal

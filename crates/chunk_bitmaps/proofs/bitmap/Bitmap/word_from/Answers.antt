@@ -5,7 +5,7 @@ use Rattle.vm_model.specs.Space.{one_if}
 use Rattle.chunk_bitmaps.specs.Bitmap.{bit_of, bits_of, HasRoom}
 use Rattle.vm_model.specs.Bits.{value_at}
 use Rattle.vm_model.proofs.Tabulated.{length-tabulated}
-use Rattle.chunk_bitmaps.proofs.Words.{value_at-bits_of, rest_set, rest_clear, rest_above}
+use Rattle.chunk_bitmaps.proofs.WordBits.{value_at-bits_of, rest_set, rest_clear, rest_above}
 use Rattle.chunk_bitmaps.proofs.bitmap.Bitmap.word_from.Goals as goal
 use Rattle.chunk_bitmaps.proofs.bitmap.Bitmap.word_from.Goals.{then-value, else-value}
 
