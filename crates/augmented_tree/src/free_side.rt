@@ -4,7 +4,7 @@ ghost use Rattle.std.specs.Prelude.{◌≡◌, ◌≤◌, ◌<◌, ◌+◌, ◌&
 ghost use Rattle.vm_model.specs.Space.{span, holds, covers, times, end_of, lowest, longest_of, AreSeparateFrom};
 ghost use Rattle.vm_model.specs.declared.areas.Span.{Span};
 ghost use Rattle.vm_model.specs.Setup.{last_of};
-ghost use Rattle.augmented_tree.specs.Blocks.{AreBlocks};
+ghost use Rattle.augmented_tree.specs.BlockLists.{AreBlocks};
 ghost use Rattle.augmented_tree.specs.FreeBlocks.{FreeBlocks, AreFreeRuns, IsFree, IsLowestFit, LeavesRunsWithout, GivesRunsWith};
 
 use crate::blocks::{cut_out, put_back_all};
@@ -26,7 +26,7 @@ pub struct FreeSide {
 impl Model for FreeSide {
     ghost use Rattle.std.specs.Prelude.{◌≤◌};
     ghost use Rattle.augmented_tree.specs.FreeBlocks.{FreeBlocks};
-    ghost use Rattle.augmented_tree.specs.Blocks.{AreBlocks};
+    ghost use Rattle.augmented_tree.specs.BlockLists.{AreBlocks};
 
     ghost Value = { FreeBlocks };
 

@@ -9,7 +9,7 @@ use Rattle.vm_model.proofs.Tabulated.{slice_get-tabulated, length-tabulated}
 use Rattle.chunk_bitmaps.proofs.ObjectLists.{covers-from, covers-to}
 use Rattle.vm_model.specs.PageSets.{has_page}
 use Rattle.block_hints.specs.Populated.{missing_bits, blocked_bits}
-use Rattle.block_hints.proofs.Fits.{AreAlikeIn}
+use Rattle.block_hints.proofs.LowestFit.{AreAlikeIn}
 
 pub is_free-taken_by : (spans : List Span) (n place : ℕ) → place < n → is_free_at (taken_by spans n) place ≡ not (covers spans place)
 is_free-taken_by spans n place h = ap is_open (slice_get-tabulated (covers spans) n place h)

@@ -9,9 +9,9 @@ use Rattle.vm_model.proofs.Paint.{slice_get-paint}
 use Rattle.vm_model.proofs.Scans.{free_read, taken_read}
 use Rattle.vm_model.proofs.FreePlaces.{are_free}
 use Rattle.chunk_bitmaps.specs.Bitmap.{IsNextBit}
-use Rattle.block_hints.specs.Kept.{hint_around, IsBoundIn}
+use Rattle.block_hints.specs.KeptHints.{hint_around, IsBoundIn}
 use Rattle.block_hints.proofs.Borders.{IsLeft, IsRight, IsFirst, choose}
-use Rattle.block_hints.proofs.Kepts.{alike_apart}
+use Rattle.block_hints.proofs.KeptHintProofs.{alike_apart}
 
 -- so many places were free and are taken now, and the others are as they were
 pub record AreTakenNow (old now : List Bool) (at count : ℕ) : Type 0 where

@@ -9,10 +9,10 @@ use Rattle.vm_model.specs.Hints.{IsFreeSpan, IsLongestIn, IsHintIn}
 use Rattle.vm_model.proofs.Paint.{slice_get-paint}
 use Rattle.vm_model.proofs.Scans.{free_read}
 use Rattle.block_hints.specs.declared.block_scan.Block.{Block}
-use Rattle.block_hints.specs.Kept.{IsBoundIn, IsBlockIn}
+use Rattle.block_hints.specs.KeptHints.{IsBoundIn, IsBlockIn}
 use Rattle.block_hints.specs.Freed.{IsRunAround, is_longer, hint_with_run, scan_with_run}
 use Rattle.block_hints.proofs.Borders.{IsLeft, IsRight, IsFirst, choose}
-use Rattle.block_hints.proofs.Kepts.{alike_apart}
+use Rattle.block_hints.proofs.KeptHintProofs.{alike_apart}
 
 -- so many places are free now, and the others are as they were
 pub record AreFreeNow (old now : List Bool) (at count : ℕ) : Type 0 where

@@ -1,8 +1,8 @@
 pub mod Borders
-pub mod Blocks
+pub mod BlockHints
 pub mod BlockScans
-pub mod Fits
+pub mod LowestFit
 pub mod Blocked
-pub mod Kepts
+pub mod KeptHintProofs
 pub mod HintsAround
 pub mod HintsFreed

@@ -4,7 +4,7 @@ use Rattle.vm_model.specs.declared.rows.Hint.{Hint}
 use Rattle.vm_model.specs.Space.{span, holds, paint, is_free_at}
 use Rattle.vm_model.specs.Hints.{IsHintIn}
 use Rattle.block_hints.specs.declared.block_scan.Block.{Block}
-use Rattle.block_hints.specs.Kept.{AreHints}
+use Rattle.block_hints.specs.KeptHints.{AreHints}
 
 -- the free run between two places in which some places lie: it ends where a place is taken
 pub record IsRunAround (bits : List Bool) (low high at end start stop : ℕ) : Type 0 where

@@ -1,7 +1,7 @@
 //! The hint of a block by a scan of its bits, run by run: `pcpu_block_refresh_hint`.
 ghost use Rattle.std.specs.Prelude.{◌+◌, ◌*◌, ◌≤◌};
 ghost use Rattle.chunk_bitmaps.specs.ChunkMap.{taken_bits};
-ghost use Rattle.block_hints.specs.Kept.{IsBlockIn};
+ghost use Rattle.block_hints.specs.KeptHints.{IsBlockIn};
 
 use chunk_bitmaps::{BLOCK_BITS, ChunkBits};
 use vm_model::Hint;

@@ -4,7 +4,7 @@ ghost use Rattle.std.specs.Prelude.{◌≡◌, ◌+◌, ◌-◌, ◌*◌, ◌≤
 ghost use Rattle.vm_model.specs.Space.{is_free_at};
 ghost use Rattle.vm_model.specs.Hints.{IsHintIn};
 ghost use Rattle.chunk_bitmaps.specs.ChunkMap.{taken_bits};
-ghost use Rattle.block_hints.specs.Kept.{IsBlockOf};
+ghost use Rattle.block_hints.specs.KeptHints.{IsBlockOf};
 ghost use Rattle.block_hints.specs.Freed.{is_longer, hint_with_run, scan_with_run, IsRunAround, AreHintsBefore};
 
 use crate::block_scan::Block;

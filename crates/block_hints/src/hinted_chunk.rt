@@ -29,7 +29,7 @@ pub struct HintedChunk {
 
 impl Model for HintedChunk {
     ghost use Rattle.chunk_bitmaps.specs.ChunkMap.{ChunkMap};
-    ghost use Rattle.block_hints.specs.Kept.{AreKept};
+    ghost use Rattle.block_hints.specs.KeptHints.{AreKept};
 
     ghost Value = { ChunkMap };
 

@@ -3,7 +3,7 @@
 ghost use Rattle.std.specs.Prelude.{◌≡◌, ◌+◌, ◌*◌, ◌≤◌, IfSome, length};
 ghost use Rattle.vm_model.specs.Hints.{IsHintIn};
 ghost use Rattle.chunk_bitmaps.specs.ChunkMap.{taken_bits};
-ghost use Rattle.block_hints.specs.Kept.{AreHints, AreOthersKept, IsBlockOf};
+ghost use Rattle.block_hints.specs.KeptHints.{AreHints, AreOthersKept, IsBlockOf};
 
 use crate::block_scan::{Block, scan_block};
 use crate::joins::joined_all;

@@ -3,9 +3,9 @@
 ghost use Rattle.std.specs.Prelude.{◌≡◌, nat_le, max, if◌then◌else◌, ◌+◌, ◌-◌, ◌*◌, ◌<◌, ◌≤◌, length};
 ghost use Rattle.vm_model.specs.Space.{lowest};
 ghost use Rattle.chunk_bitmaps.specs.ChunkMap.{taken_bits};
-ghost use Rattle.block_hints.specs.Kept.{AreHints};
+ghost use Rattle.block_hints.specs.KeptHints.{AreHints};
 ghost use Rattle.block_hints.specs.Populated.{blocked_bits};
-ghost use Rattle.block_hints.specs.Search.{IsFirstMultiple};
+ghost use Rattle.block_hints.specs.FirstMultiples.{IsFirstMultiple};
 
 use crate::block_scan::Block;
 use chunk_bitmaps::{BLOCK_BITS, ChunkBits};

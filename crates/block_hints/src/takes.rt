@@ -4,7 +4,7 @@ ghost use Rattle.std.specs.Prelude.{◌≡◌, ◌+◌, ◌*◌, ◌≤◌, ◌<
 ghost use Rattle.vm_model.specs.Space.{span, holds, paint, begins_free};
 ghost use Rattle.vm_model.specs.Hints.{IsHintIn};
 ghost use Rattle.chunk_bitmaps.specs.ChunkMap.{taken_bits};
-ghost use Rattle.block_hints.specs.Kept.{hint_around, AreHints, IsBlockOf};
+ghost use Rattle.block_hints.specs.KeptHints.{hint_around, AreHints, IsBlockOf};
 
 use crate::block_scan::Block;
 use crate::mends::Mended;

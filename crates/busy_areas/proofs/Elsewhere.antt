@@ -7,9 +7,9 @@ use Rattle.std.specs.Map.{values_of}
 use Rattle.vm_model.specs.declared.areas.Area.{Area}
 use Rattle.vm_model.specs.Space.{end_of, is_among}
 use Rattle.vm_model.specs.Areas.{areas_elsewhere}
-use Rattle.busy_areas.specs.Kept.{AreApartFrom}
-use Rattle.busy_areas.proofs.Apart.{AreApartFrom-weaken}
-use Rattle.busy_areas.proofs.Named.{starts_at, without, without-here, without-there, own_key, other_key}
+use Rattle.busy_areas.specs.KeptAreas.{AreApartFrom}
+use Rattle.busy_areas.proofs.AreaInserted.{AreApartFrom-weaken}
+use Rattle.busy_areas.proofs.NamedAreas.{starts_at, without, without-here, without-there, own_key, other_key}
 
 -- the areas that don't start there
 abbrev pub differs : ℕ → Area → Bool

@@ -8,7 +8,7 @@ use Rattle.std.specs.Map.{values_of}
 use Rattle.std.specs.BTreeMap.Range.{range_contains, entries_between}
 use Rattle.vm_model.specs.declared.areas.Area.{Area}
 use Rattle.vm_model.specs.Space.{end_of, holds}
-use Rattle.busy_areas.specs.Kept.{AreApartFrom}
+use Rattle.busy_areas.specs.KeptAreas.{AreApartFrom}
 
 -- the entries whose keys are at most a page
 abbrev pub up_to : ℕ → List (ℕ × Area) → List (ℕ × Area)

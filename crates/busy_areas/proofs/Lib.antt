@@ -1,6 +1,6 @@
-pub mod Apart
-pub mod Named
+pub mod AreaInserted
+pub mod NamedAreas
 pub mod Last
-pub mod Looks
+pub mod PagesLookedUp
 pub mod Elsewhere
-pub mod Joined
+pub mod JoinedAreas

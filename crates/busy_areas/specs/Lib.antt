@@ -1,2 +1,2 @@
-pub mod LiveRows
-pub mod Kept
+pub mod LiveAreaRows
+pub mod KeptAreas

@@ -6,8 +6,8 @@ ghost use Rattle.vm_model.specs.declared.areas.Span.{Span};
 ghost use Rattle.vm_model.specs.declared.areas.Area.{Area};
 ghost use Rattle.vm_model.specs.Space.{holds, covers, times};
 ghost use Rattle.vm_model.specs.Areas.{named_areas, without_area, areas_elsewhere, spans_of};
-ghost use Rattle.busy_areas.specs.LiveRows.{with_new};
-ghost use Rattle.busy_areas.specs.Kept.{AreApartFrom, AreJoined, CanJoin, IsUnused, asked_spans, asked_starts};
+ghost use Rattle.busy_areas.specs.LiveAreaRows.{with_new};
+ghost use Rattle.busy_areas.specs.KeptAreas.{AreApartFrom, AreJoined, CanJoin, IsUnused, asked_spans, asked_starts};
 
 use std::alloc::{AllocError, Global};
 use std::collections::BTreeMap;
@@ -25,8 +25,8 @@ pub struct BusySide {
 
 impl Model for BusySide {
     ghost use Rattle.std.specs.BTreeMap.{values};
-    ghost use Rattle.busy_areas.specs.LiveRows.{LiveRows};
-    ghost use Rattle.busy_areas.specs.Kept.{AreKept};
+    ghost use Rattle.busy_areas.specs.LiveAreaRows.{LiveRows};
+    ghost use Rattle.busy_areas.specs.KeptAreas.{AreKept};
 
     ghost Value = { LiveRows };
 

@@ -16,9 +16,9 @@ use Rattle.vm_model.specs.Rules.{IsTrace}
 use Rattle.vm_model.specs.Laws.{object_at, word_of, is_word, grown_if}
 use Rattle.map_laws.proofs.areas.AreaWorlds.{IsLegalStep, event_legal, legally_lasts}
 use Rattle.map_laws.proofs.blocks.BlockFacts.{to_same}
-use Rattle.map_laws.proofs.Words.{HaveCells, have_cells_section, have_cells_first, AreCells, HasFrame, added_other}
+use Rattle.map_laws.proofs.FrameWords.{HaveCells, have_cells_section, have_cells_first, AreCells, HasFrame, added_other}
 use Rattle.map_laws.proofs.Deeds.{adds_at}
-use Rattle.map_laws.proofs.Frames.{IsFramed, there}
+use Rattle.map_laws.proofs.KeptThroughSteps.{IsFramed, there}
 use Rattle.map_laws.proofs.SizedCalls.{IsNow, AreSized, sized_lasts, sized_first}
 use Rattle.map_laws.proofs.objects.ObjectFacts.{IsObject, object_only}
 use Rattle.map_laws.proofs.MapLaws.{objects_mapped}

@@ -11,8 +11,8 @@ use Rattle.vm_model.specs.Calls.{Answered, begin, begin_call}
 use Rattle.vm_model.specs.History.{Local, started, answered, moved_to}
 use Rattle.vm_model.specs.LegalHistory.{Meets, Makes}
 use Rattle.vm_model.proofs.CallShapes.{calls_have_shapes}
-use Rattle.map_laws.proofs.Frames.{append_cases}
-use Rattle.map_laws.proofs.Places.{answers_call}
+use Rattle.map_laws.proofs.KeptThroughSteps.{append_cases}
+use Rattle.map_laws.proofs.ProperPlaces.{answers_call}
 use Rattle.call_laws.specs.Histories.{OwnSection, sections, events_at, sections_for, sections_since, Leads, IsAnswerOf}
 use Rattle.call_laws.proofs.Owns.{more_own, for-more, since-more, for-last, since-none, events_at-more}
 use Rattle.call_laws.proofs.Led.{led_on, led_makes}

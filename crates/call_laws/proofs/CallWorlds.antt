@@ -10,7 +10,7 @@ use Rattle.vm_model.specs.Calls.{Answered, begin, begin_call}
 use Rattle.vm_model.specs.History.{World, Local, started, moved_to, made_by, opening_world, opening_answers, callers_from, with_callers}
 use Rattle.vm_model.specs.LegalHistory.{Meets, IsReached, AllOver}
 use Rattle.vm_model.specs.Rules.{IsTrace}
-use Rattle.map_laws.proofs.Frames.{same_or, set_cases, set_other, append_cases, append_first, IsFramed, not_over, has_call}
+use Rattle.map_laws.proofs.KeptThroughSteps.{same_or, set_cases, set_other, append_cases, append_first, IsFramed, not_over, has_call}
 use Rattle.map_laws.proofs.areas.AreaWorlds.{IsLegalStep, legally_lasts}
 use Rattle.call_laws.proofs.Dues.{IsDue, due_led, call_due}
 use Rattle.call_laws.specs.Histories.{OwnSection, own_sections, sections, sections_since, Leads, answers_before, HistoriesHaveTheShapesOfCalls}

@@ -12,7 +12,7 @@ use Rattle.vm_model.specs.Calls.{Answered}
 use Rattle.vm_model.specs.ObjectShapes.{HasShape}
 use Rattle.call_laws.specs.Causes.{is_bad_size, is_bad_align, WasUnbound}
 use Rattle.call_laws.proofs.Unusable.{IsUnusable}
-use Rattle.call_laws.specs.Exact.{decides, is_gone, is_no_hole, is_no_frames, is_no_atomic, IsDecided, IsUseOfFreed, ComesExactly}
+use Rattle.call_laws.specs.ExactReplies.{decides, is_gone, is_no_hole, is_no_frames, is_no_atomic, IsDecided, IsUseOfFreed, ComesExactly}
 use Rattle.call_laws.proofs.Deciding.{deciding, decided}
 
 -- what is among the sections is among the deciding ones

@@ -23,10 +23,10 @@ use Rattle.vm_model.specs.Rules.{IsSetup, IsTrace}
 use Rattle.map_laws.proofs.areas.AreaFacts.{IsHolding, guard_part, unpainted, painted_still}
 use Rattle.map_laws.proofs.areas.AreaStarts.{asks_settle, no_settle, areas_after}
 use Rattle.map_laws.proofs.areas.AreaWorlds.{IsLegalStep, IsLegallyLasting}
-use Rattle.map_laws.proofs.Chosen.{IsIn, filter_has, covers_one, holds_from}
-use Rattle.map_laws.proofs.Frames.{IsFramed, has_call, not_over, set_cases, append_cases}
+use Rattle.map_laws.proofs.TestsAndFilters.{IsIn, filter_has, covers_one, holds_from}
+use Rattle.map_laws.proofs.KeptThroughSteps.{IsFramed, has_call, not_over, set_cases, append_cases}
 use Rattle.map_laws.proofs.OutMoves.{with_in}
-use Rattle.map_laws.proofs.Places.{IsPlainKind, IsProper, OnNext, HaveBeginnings, AtOver, begins_with, answers_call}
+use Rattle.map_laws.proofs.ProperPlaces.{IsPlainKind, IsProper, OnNext, HaveBeginnings, AtOver, begins_with, answers_call}
 use Rattle.map_laws.proofs.PlaceRows.{PlaceRow, Mapped, Removed, place_row}
 use Rattle.map_laws.proofs.TraceWorlds.{IsTraceWorld, trace_first, trace_lasts, holding_here, proper_here}
 use Rattle.call_laws.specs.Guards.{OnGuard, OnGuardInHand}

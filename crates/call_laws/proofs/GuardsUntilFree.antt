@@ -18,16 +18,16 @@ use Rattle.vm_model.specs.History.{World, Local, moved_to, made_by, opening_answ
 use Rattle.vm_model.specs.LegalHistory.{Meets, IsReached}
 use Rattle.vm_model.specs.Rules.{IsSetup, IsTrace}
 use Rattle.vm_model.specs.Laws.{IsEvent, IsTakenFrom}
-use Rattle.map_laws.specs.Waits.{IsWaitOf}
+use Rattle.map_laws.specs.WaitingPages.{IsWaitOf}
 use Rattle.map_laws.proofs.areas.AreaWorlds.{IsLegalStep, IsLegallyLasting, legally_lasts}
 use Rattle.map_laws.proofs.blocks.BlockFacts.{IsBlockArea, IsBlockAt}
 use Rattle.map_laws.proofs.blocks.BlockPlaces.{with_keeps}
 use Rattle.map_laws.proofs.blocks.BlockWorlds.{only_one}
-use Rattle.map_laws.proofs.Chosen.{IsIn, filter_in, covers_one, holds_from}
+use Rattle.map_laws.proofs.TestsAndFilters.{IsIn, filter_in, covers_one, holds_from}
 use Rattle.map_laws.proofs.chunks.ChunkFacts.{IsChunkAt, start_of}
 use Rattle.map_laws.proofs.chunks.ChunkNoted.{with_new}
 use Rattle.map_laws.proofs.Deeds.{removes_at, UnlinksAt, OfPurge, OfBlock, OfGroups, unlinks_at}
-use Rattle.map_laws.proofs.Frames.{IsFramed, same_or, set_same, set_other, append_first}
+use Rattle.map_laws.proofs.KeptThroughSteps.{IsFramed, same_or, set_same, set_other, append_first}
 use Rattle.map_laws.proofs.OutMoves.{same_area}
 use Rattle.map_laws.proofs.waits.WaitStories.{more_events, event_first, event_last, WhichEvent, Before, Last, which_event, behind_flushed, taken_before}
 use Rattle.map_laws.proofs.TraceWorlds.{areas_once, holding_here}

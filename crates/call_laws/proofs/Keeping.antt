@@ -13,7 +13,7 @@ use Rattle.map_laws.proofs.MapLaws.{areas_apart, guard_unmapped, free_clean, par
 use Rattle.map_laws.proofs.CarriedKept.{carried_kept}
 use Rattle.map_laws.proofs.SumLaws.{sums_are_the_adds}
 use Rattle.map_laws.proofs.waits.WaitReached.{pages_wait, freed_pages_waited}
-use Rattle.call_laws.specs.Kept.{KeepsTheLaws, ReachedWorldsKeepTheLaws}
+use Rattle.call_laws.specs.WorldLaws.{KeepsTheLaws, ReachedWorldsKeepTheLaws}
 use Rattle.call_laws.proofs.Openings.{the_opening_first}
 use Rattle.call_laws.proofs.CallWorlds.{histories_have_shapes}
 use Rattle.call_laws.proofs.LegalEvents.{each_event_legal}

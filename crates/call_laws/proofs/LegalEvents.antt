@@ -11,7 +11,7 @@ use Rattle.vm_model.specs.Effects.{effect_as}
 use Rattle.vm_model.specs.History.{World, Local, made_by, placing_calls}
 use Rattle.vm_model.specs.LegalHistory.{IsReached}
 use Rattle.vm_model.specs.Laws.{map_after, map_at}
-use Rattle.map_laws.proofs.Frames.{append_cases, IsFramed}
+use Rattle.map_laws.proofs.KeptThroughSteps.{append_cases, IsFramed}
 use Rattle.map_laws.proofs.areas.AreaWorlds.{IsLegalStep, legally_lasts}
 use Rattle.map_laws.proofs.waits.WaitStories.{map_after-append, map_at-before, map_at-last}
 use Rattle.call_laws.specs.Histories.{OwnSection, own_if, own_from, own_sections}

@@ -6,10 +6,10 @@ use Rattle.vm_model.specs.Events.{Event}
 use Rattle.vm_model.specs.Tables.{numbers_of}
 use Rattle.vm_model.specs.History.{World, Local}
 use Rattle.vm_model.specs.Calls.{Answered}
-use Rattle.map_laws.proofs.Frames.{there}
+use Rattle.map_laws.proofs.KeptThroughSteps.{there}
 use Rattle.map_laws.proofs.TurnProofs.{turns_proper}
 use Rattle.call_laws.specs.Histories.{OwnSection, own_from, own_sections, events_at}
-use Rattle.call_laws.specs.Numbers.{IsNumbered, ReportsTellLastEvents}
+use Rattle.call_laws.specs.ReplyNumbers.{IsNumbered, ReportsTellLastEvents}
 use Rattle.call_laws.proofs.CallWorlds.{histories_have_shapes}
 
 numbers_are : (k before : ℕ) (events : List Event) → numbers_of k (suc before) events ≡ map (λ (o : OwnSection). suc o.before) (own_from k before events)

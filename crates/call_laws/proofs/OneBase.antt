@@ -20,14 +20,14 @@ use Rattle.vm_model.specs.Laws.{IsAligned}
 use Rattle.vm_model.specs.Rules.{IsTrace}
 use Rattle.map_laws.proofs.areas.AreaStarts.{asks_settle, no_settle, areas_after}
 use Rattle.map_laws.proofs.areas.AreaWorlds.{IsLegalStep, legally_lasts}
-use Rattle.map_laws.proofs.Chosen.{IsIn}
+use Rattle.map_laws.proofs.TestsAndFilters.{IsIn}
 use Rattle.map_laws.proofs.chunks.ChunkAdded.{chunk_number}
 use Rattle.map_laws.proofs.chunks.ChunkWorlds.{alone}
-use Rattle.map_laws.proofs.Frames.{IsFramed, there, same_or, set_same, set_other, append_first}
+use Rattle.map_laws.proofs.KeptThroughSteps.{IsFramed, there, same_or, set_same, set_other, append_first}
 use Rattle.map_laws.proofs.OutMoves.{with_in}
-use Rattle.map_laws.proofs.Places.{IsPlainKind, IsProper}
+use Rattle.map_laws.proofs.ProperPlaces.{IsPlainKind, IsProper}
 use Rattle.map_laws.proofs.TraceWorlds.{IsTraceWorld, trace_first, trace_lasts, proper_here}
-use Rattle.call_laws.specs.MapLaws.{IsGroupAt, ChunksHaveOneBase, UnitsBeyondProcessorsAreUnmapped}
+use Rattle.call_laws.specs.ChunkAreas.{IsGroupAt, ChunksHaveOneBase, UnitsBeyondProcessorsAreUnmapped}
 use Rattle.vm_model.specs.declared.areas.AreaKind.TheVariants as kind
 
 -- the chunk whose areas are live and that is to be added

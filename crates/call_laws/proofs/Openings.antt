@@ -7,7 +7,7 @@ use Rattle.vm_model.specs.Events.{Section, Event}
 use Rattle.vm_model.specs.Places.{Over}
 use Rattle.vm_model.specs.Next.{next}
 use Rattle.vm_model.specs.History.{World, Local, moved_to, made_by, opening_answers, callers_from}
-use Rattle.map_laws.proofs.Frames.{there, append_cases, append_first, IsFramed, not_over}
+use Rattle.map_laws.proofs.KeptThroughSteps.{there, append_cases, append_first, IsFramed, not_over}
 use Rattle.map_laws.proofs.areas.AreaWorlds.{IsLegalStep, legally_lasts}
 use Rattle.call_laws.specs.Opening.{TheOpeningComesFirst}
 use Rattle.call_laws.proofs.CallWorlds.{IsOpenedBy, IsShapedWorld, shaped_step, shaped_joins, shaped_first, histories_have_shapes}

@@ -5,7 +5,7 @@ use Rattle.vm_model.specs.PlainMap.{at_first}
 use Rattle.vm_model.specs.History.{placing_calls}
 use Rattle.call_laws.specs.Histories.{own_sections, sections, sections_for, IsNoAddress}
 use Rattle.call_laws.specs.Causes.{RepliesHaveTheirCauses}
-use Rattle.call_laws.specs.Exact.{CausesBringReplies}
+use Rattle.call_laws.specs.ExactReplies.{CausesBringReplies}
 use Rattle.call_laws.proofs.Unusable.{unusable_target}
 use Rattle.call_laws.proofs.CallWorlds.{histories_have_shapes}
 use Rattle.call_laws.proofs.Causing.{HasCause, its_cause, replies_caused}

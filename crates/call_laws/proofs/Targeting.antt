@@ -16,10 +16,10 @@ use Rattle.vm_model.specs.LegalHistory.{IsReached}
 use Rattle.vm_model.specs.Rules.{IsTrace, IsRuled, AreRuled, IsVmallocCall, IsMapRamCall, IsAllocCall, named_call}
 use Rattle.vm_model.specs.Shapes.{IsRefused}
 use Rattle.vm_model.specs.ObjectShapes.{HasShape}
-use Rattle.map_laws.proofs.Frames.{there}
+use Rattle.map_laws.proofs.KeptThroughSteps.{there}
 use Rattle.call_laws.specs.Histories.{OwnSection, own_sections, sections, sections_for, IsNoAddress, IsSettled, IsAnswerOf, HasShapesOfCalls}
 use Rattle.call_laws.proofs.Unusable.{IsNoObject, IsUnusable}
-use Rattle.call_laws.specs.Targets.{target_in, CanMake, Names, IsTargeted, TargetsAreWhatTheirCallsGot}
+use Rattle.call_laws.specs.CallTargets.{target_in, CanMake, Names, IsTargeted, TargetsAreWhatTheirCallsGot}
 use Rattle.call_laws.proofs.CallWorlds.{IsOpenedBy, shaped_reached, histories_have_shapes}
 use Rattle.call_laws.proofs.Causing.{HasCause, replies_caused}
 use Rattle.call_laws.proofs.Exactly.{unusable_comes}

@@ -5,7 +5,7 @@ use Rattle.vm_model.specs.declared.calls.Call.{Call}
 use Rattle.vm_model.specs.declared.calls.Call.TheVariants.{Vfree, UnmapRam, FreePercpu, Add, Sum}
 use Rattle.vm_model.specs.Places.{Made, MadeArea, MadePart, MadeObject}
 use Rattle.vm_model.specs.Calls.{Answered, target_of}
-use Rattle.call_laws.specs.Targets.{target_in}
+use Rattle.call_laws.specs.CallTargets.{target_in}
 
 abbrev pub IsNoArea : Made → Type 0
 IsNoArea (MadeArea start serial) = ⊥

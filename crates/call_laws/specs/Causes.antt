@@ -19,7 +19,7 @@ use Rattle.vm_model.specs.History.{Local}
 use Rattle.vm_model.specs.Shapes.{IsPurge, IsRefused}
 use Rattle.vm_model.specs.Laws.{Always, map_at}
 use Rattle.call_laws.specs.Histories.{OwnSection, own_sections, sections, sections_for, IsNoAddress}
-use Rattle.call_laws.specs.Targets.{target_in}
+use Rattle.call_laws.specs.CallTargets.{target_in}
 
 -- each event of a history is legal in the map that the events before it leave
 abbrev pub WereLegal : Setup → PlainMap → List Event → Type 0

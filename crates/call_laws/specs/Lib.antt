@@ -1,11 +1,11 @@
 pub mod Histories
 pub mod Opening
-pub mod Targets
+pub mod CallTargets
 pub mod Causes
-pub mod Exact
-pub mod Numbers
+pub mod ExactReplies
+pub mod ReplyNumbers
 pub mod Room
-pub mod Kept
-pub mod MapLaws
+pub mod WorldLaws
+pub mod ChunkAreas
 pub mod Guards
 pub mod Adds

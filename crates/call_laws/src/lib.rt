@@ -20,13 +20,13 @@ ghost use Rattle.call_laws.specs.Histories.{HistoriesHaveTheShapesOfCalls};
 ghost use Rattle.call_laws.specs.Opening.{TheOpeningComesFirst};
 ghost use Rattle.call_laws.specs.Causes.{EachEventIsLegal, RepliesHaveTheirCauses};
 ghost use Rattle.call_laws.specs.Room.{RoomCountsPlacingCalls};
-ghost use Rattle.call_laws.specs.Exact.{CausesBringReplies};
-ghost use Rattle.call_laws.specs.Targets.{TargetsAreWhatTheirCallsGot};
-ghost use Rattle.call_laws.specs.Numbers.{ReportsTellLastEvents};
+ghost use Rattle.call_laws.specs.ExactReplies.{CausesBringReplies};
+ghost use Rattle.call_laws.specs.CallTargets.{TargetsAreWhatTheirCallsGot};
+ghost use Rattle.call_laws.specs.ReplyNumbers.{ReportsTellLastEvents};
 ghost use Rattle.call_laws.specs.Adds.{AddsChangeOneWord};
 ghost use Rattle.call_laws.specs.Guards.{GuardsStayBare};
-ghost use Rattle.call_laws.specs.MapLaws.{ChunksHaveOneBase, UnitsBeyondProcessorsAreUnmapped};
-ghost use Rattle.call_laws.specs.Kept.{ReachedWorldsKeepTheLaws};
+ghost use Rattle.call_laws.specs.ChunkAreas.{ChunksHaveOneBase, UnitsBeyondProcessorsAreUnmapped};
+ghost use Rattle.call_laws.specs.WorldLaws.{ReachedWorldsKeepTheLaws};
 
 /// The opening's events come first. Each caller's answers are those of the first calls of its list, in order, and its own
 /// events have the shapes of these calls. What a call names by its target is what the target's call settled.

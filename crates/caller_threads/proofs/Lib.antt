@@ -1,4 +1,4 @@
-pub mod Callers
-pub mod Numbered
+pub mod CallersLeft
+pub mod NumberedWorkers
 pub mod RunsEnded
-pub mod Sent
+pub mod WorkersSent

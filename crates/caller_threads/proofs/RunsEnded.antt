@@ -11,11 +11,11 @@ use Rattle.vm_model.specs.LegalHistory.{AllOver}
 use Rattle.vm_model.specs.Parts.{Region, regions_of, state_of, wants, moves, after}
 use Rattle.vm_model.specs.Run.{section_by, section_wanted, section_over, put, state_after}
 use Rattle.section_laws.specs.Lawful.{IsRunning, IsLawful}
-use Rattle.section_laws.specs.Turns.{reach, all_move, AllMove}
+use Rattle.section_laws.specs.MovesInTurn.{reach, all_move, AllMove}
 use Rattle.section_laws.proofs.KeptLawful.{next_running, reach_is, turns_are_picks}
 use Rattle.kernel_steps.specs.Kernels.{KernelState, IsStanding, IsSomewhere, start_of, opening_of, callers_of}
-use Rattle.kernel_steps.specs.Runs.{HasEnded}
-use Rattle.kernel_steps.proofs.Callers.{few_callers}
+use Rattle.kernel_steps.specs.KernelRuns.{HasEnded}
+use Rattle.kernel_steps.proofs.WorldCallers.{few_callers}
 use Rattle.kernel_steps.proofs.CallersThere.{all_there}
 use Rattle.kernel_steps.proofs.Moves.{movers_picked}
 use Rattle.kernel_steps.proofs.SectionsMade.{asks_nothing}
@@ -24,7 +24,7 @@ use Rattle.count_lines.specs.Shares.{caller_of}
 use Rattle.section_table.specs.declared.closed.Closed.{Closed}
 use Rattle.section_table.specs.declared.table.Key.{Key}
 use Rattle.section_table.specs.declared.views.View.{View}
-use Rattle.section_table.specs.Views.{HasAll}
+use Rattle.section_table.specs.PassViews.{HasAll}
 use Rattle.section_table.specs.Closes.{IsClosed, state_of_key}
 use Rattle.caller_threads.specs.Core.{core}
 use Rattle.caller_threads.specs.Workers.{AllEnded, AreNumbered}

@@ -2,7 +2,7 @@
 use Rattle.vm_model.specs.History.{Local}
 use Rattle.vm_model.specs.Parts.{Region, wants, moves, after}
 use Rattle.section_laws.specs.Lawful.{IsLawful}
-use Rattle.section_laws.specs.Turns.{reach}
+use Rattle.section_laws.specs.MovesInTurn.{reach}
 use Rattle.section_table.specs.Meanings.{Meanings}
 
 abbrev pub core : Meanings Region Local

@@ -1,3 +1,3 @@
 pub mod Core
-pub mod Kept
+pub mod SectionsKeepLawful
 pub mod Workers

@@ -9,7 +9,7 @@ use Rattle.count_lines.specs.declared.share.Share.{Share}
 use Rattle.count_lines.specs.Shares.{caller_of, IsShareOf, HasSameLines, IsFinished}
 use Rattle.section_table.specs.declared.views.Held.{Held}
 use Rattle.section_table.specs.declared.views.View.{View}
-use Rattle.section_table.specs.Views.{Has, HasCaller}
+use Rattle.section_table.specs.PassViews.{Has, HasCaller}
 use Rattle.caller_threads.specs.declared.worker.Worker.{Worker}
 
 -- the pass has this caller and no other

@@ -1,6 +1,6 @@
 //! All callers of a table, each on a thread of its own.
 ghost use Rattle.std.specs.Prelude.{◌≡◌, ◌+◌, ◌<◌, ◌≤◌, ℕ, All, IfOk, length, map};
-ghost use Rattle.section_table.specs.Views.{HasAll, HasCaller};
+ghost use Rattle.section_table.specs.PassViews.{HasAll, HasCaller};
 ghost use Rattle.count_lines.specs.Shares.{IsShareOf, HaveFinished};
 ghost use Rattle.caller_threads.specs.Workers.{AllEnded, IsWorkerOf, HasWorked, share_of, AreNumbered, IsDone};
 

@@ -4,7 +4,7 @@ ghost use Rattle.std.specs.List.{range_with_len};
 ghost use Rattle.unit_layout.specs.Config.{setup_of};
 ghost use Rattle.kernel_steps.specs.Kernels.{CanStart, callers_of};
 ghost use Rattle.count_lines.specs.Shares.{caller_of, IsShareOf, HaveFinished};
-ghost use Rattle.kernel_steps.specs.Runs.{HasEnded};
+ghost use Rattle.kernel_steps.specs.KernelRuns.{HasEnded};
 
 use crate::driving::drive;
 use crate::parts::CoreParts;

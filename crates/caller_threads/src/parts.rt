@@ -9,7 +9,7 @@ pub struct CoreParts;
 
 impl Parts for CoreParts {
     ghost use Rattle.caller_threads.specs.Core.{core};
-    ghost use Rattle.caller_threads.specs.Kept.{sections_keep};
+    ghost use Rattle.caller_threads.specs.SectionsKeepLawful.{sections_keep};
 
     type Region = Region;
 

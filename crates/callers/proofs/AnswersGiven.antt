@@ -12,7 +12,7 @@ use Rattle.callers.specs.CallerParts.{answer_of}
 use Rattle.unit_layout.specs.declared.config.Config.{Config}
 use Rattle.vm_model.specs.History.{started, Local, answered_of, moved_to}
 use Rattle.history_book.specs.BookRows.{BookRows}
-use Rattle.history_book.specs.Entries.{note_of}
+use Rattle.history_book.specs.BookEntries.{note_of}
 use Rattle.vm_model.specs.declared.calls.Call.{Call}
 use Rattle.vm_model.specs.declared.calls.Reply.{Reply}
 use Rattle.vm_model.specs.declared.areas.Span.{Span}

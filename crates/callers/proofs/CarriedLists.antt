@@ -7,7 +7,7 @@ use Rattle.vm_model.specs.declared.calls.Reply.TheVariants as reply
 use Rattle.vm_model.specs.Space.{span, hull}
 use Rattle.vm_model.specs.Setup.{Setup, cpus, groups_at}
 use Rattle.vm_model.specs.Rules.{IsSetup}
-use Rattle.lazy_purge.specs.Waits.{HasPage}
+use Rattle.lazy_purge.specs.WaitingSet.{HasPage}
 use Rattle.vm_model.specs.Places as model
 use Rattle.vm_model.specs.Places.{Then, ReplyWith}
 use Rattle.vm_model.specs.Next.{Go, after_fragments}

@@ -6,7 +6,7 @@ use Rattle.vm_model.specs.Setup.{Setup, cpus, groups_at}
 use Rattle.vm_model.specs.Chunks.{ObjectAt}
 use Rattle.vm_model.specs.PageSets.{pages_in}
 use Rattle.chunk_slots.specs.ChunkRegion as region
-use Rattle.lazy_purge.specs.Waits.{HasPage}
+use Rattle.lazy_purge.specs.WaitingSet.{HasPage}
 use Rattle.vm_model.specs.Events.{ForPages, ForGroups}
 use Rattle.vm_model.specs.Places as model
 use Rattle.vm_model.specs.Places.{ForArea, ForBlock, ForChunk, SearchAgain, ReplyWith, SpareAgain}

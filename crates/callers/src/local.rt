@@ -9,7 +9,7 @@ ghost use Rattle.vm_model.specs.History.{started, moved_to, callers_from};
 ghost use Rattle.vm_model.specs.declared.calls.Call.{Call};
 ghost use Rattle.vm_model.specs.Parts.{wants};
 ghost use Rattle.history_book.specs.declared.noted.Noted.{Noted};
-ghost use Rattle.history_book.specs.Entries.{note_of};
+ghost use Rattle.history_book.specs.BookEntries.{note_of};
 ghost use Rattle.vm_model.specs.Places as model;
 ghost use Rattle.vm_model.specs.Places.{SpareAgain};
 ghost use Rattle.callers.specs.CarriedPlaces.{place_of, nothing, then_of, made_of, filled_by, IsSized, IsWhole, IsSizedAfter, IsEmptyHanded};

@@ -1,4 +1,4 @@
-pub mod Words
+pub mod WordBits
 pub mod NextBits
 pub mod LastBits
 pub mod Fills

@@ -6,7 +6,7 @@ use Rattle.std.proofs.lemmas.List.Elements.{All-head, All-tail}
 use Rattle.vm_model.specs.Space.{least_by, smaller_by, sort_by, put_by}
 use Rattle.chunk_slots.specs.Rising.{IsRisingFrom}
 use Rattle.chunk_slots.specs.KeptChunks.{KeptRow, slot_in}
-use Rattle.chunk_slots.specs.Slots.{slot_key, key_of_slot, in_slot_of, slots_of}
+use Rattle.chunk_slots.specs.ChunksBySlot.{slot_key, key_of_slot, in_slot_of, slots_of}
 use Rattle.chunk_slots.specs.SlotOrder.{key_of_row, TheFirstInOrderIsChosen}
 
 module _ {X : Type 0} (key : X → ℕ) where

@@ -14,11 +14,11 @@ use Rattle.chunk_bitmaps.specs.ChunkMap.{ChunkMap, taken_bits}
 use Rattle.chunk_slots.specs.declared.holders.Holder.{Holder}
 use Rattle.chunk_slots.specs.KeptObjects.{objects_by}
 use Rattle.chunk_slots.specs.KeptChunks.{KeptRow}
-use Rattle.chunk_slots.specs.KeptSides.{chunk_in, chunks_in, Each, IsKeptSpan, IsKeptRow}
+use Rattle.chunk_slots.specs.KeptChunkSides.{chunk_in, chunks_in, Each, IsKeptSpan, IsKeptRow}
 use Rattle.chunk_slots.specs.ChunkRegion.{unit_of}
 use Rattle.chunk_slots.proofs.FreeBits.{length-taken, equals, differs}
-use Rattle.chunk_slots.proofs.SlotFits.{slots_grow}
-use Rattle.chunk_slots.proofs.Views.{held_at, or_left, slot_in_view}
+use Rattle.chunk_slots.proofs.SlotFitProofs.{slots_grow}
+use Rattle.chunk_slots.proofs.ChunkViews.{held_at, or_left, slot_in_view}
 
 all_free_slot : (bits : List Bool) → 0 < length bits → free_count bits ≡ length bits → slot_of bits ≡ slot_for (4 * length bits) + 2
 all_free_slot bits some all =

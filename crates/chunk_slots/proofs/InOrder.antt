@@ -2,7 +2,7 @@
 use Rattle.std.proofs.Common.{◌≡◌, ℕ, zero, suc, ◌+◌, Bool, true, false, cond, ◌==◌, List, [], ◌∷◌, filter, find, drop, slice_get, Some, refl, ap, ◌∙◌, subst, arith}
 use Rattle.vm_model.specs.Space.{sort_by}
 use Rattle.chunk_slots.specs.Rising.{IsRisingFrom, IsRising}
-use Rattle.chunk_slots.specs.KeptSides.{Each}
+use Rattle.chunk_slots.specs.KeptChunkSides.{Each}
 use Rattle.chunk_slots.proofs.ObjectViews.{each_map, each_put, each_filter}
 use Rattle.chunk_slots.proofs.RisingLists.{found_from, find_this, find_later}
 

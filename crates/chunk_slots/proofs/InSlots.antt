@@ -10,13 +10,13 @@ use Rattle.chunk_slots.specs.declared.holders.Holder.{Holder}
 use Rattle.chunk_slots.specs.declared.slots.InSlot.{InSlot}
 use Rattle.chunk_slots.specs.Rising.{IsRisingFrom, IsRising, rank_by}
 use Rattle.chunk_slots.specs.KeptChunks.{KeptRow, slot_in}
-use Rattle.chunk_slots.specs.KeptSides.{number_of, chunk_in, chunks_in, Each, IsKeptRow}
-use Rattle.chunk_slots.specs.Slots.{slot_key, key_of_slot, in_slot_of, slots_of}
+use Rattle.chunk_slots.specs.KeptChunkSides.{number_of, chunk_in, chunks_in, Each, IsKeptRow}
+use Rattle.chunk_slots.specs.ChunksBySlot.{slot_key, key_of_slot, in_slot_of, slots_of}
 use Rattle.chunk_slots.specs.ChunkRegion.{unit_of}
 use Rattle.chunk_slots.proofs.Choosing.{sort_sorted, map_sorted}
 use Rattle.chunk_slots.proofs.SlotLists.{AreLow, before, drop_one, keep_one, put_passing, put_failing}
 use Rattle.chunk_slots.proofs.ObjectViews.{each_map, each_put, each_filter, length_put}
-use Rattle.chunk_slots.proofs.Views.{slot_in_view}
+use Rattle.chunk_slots.proofs.ChunkViews.{slot_in_view}
 use Rattle.chunk_slots.proofs.RowLists.{filter_in_view, IsSeen}
 
 abbrev in_it : ℕ → InSlot → Bool

@@ -1,24 +1,24 @@
 pub mod RisingLists
-pub mod PageBits
+pub mod PagesInRow
 pub mod FreeBits
 pub mod Choosing
 pub mod InOrder
 pub mod CountedBits
-pub mod SlotFits
+pub mod SlotFitProofs
 pub mod TakenFits
 pub mod SlotRows
 pub mod SlotLists
-pub mod Views
+pub mod ChunkViews
 pub mod ObjectViews
 pub mod RowLists
-pub mod Kept
+pub mod SideStaysKept
 pub mod FreeSlots
-pub mod Sides
+pub mod SideCalls
 pub mod Placing
-pub mod Checks
+pub mod ObjectConditions
 pub mod InSlots
 pub mod NewChunks
-pub mod LiveRows
-pub mod UnitPages
+pub mod LiveObjects
+pub mod ChunkPages
 mod PlainScans
 mod TableViews

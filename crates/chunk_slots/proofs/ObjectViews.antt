@@ -14,8 +14,8 @@ use Rattle.block_hints.proofs.Blocked.{covers-append}
 use Rattle.chunk_slots.specs.declared.holders.Holder.{Holder}
 use Rattle.chunk_slots.specs.KeptObjects.{object_key, object_by, objects_by, caller_by, life_by}
 use Rattle.chunk_slots.specs.KeptChunks.{KeptRow, unpopulated_in}
-use Rattle.chunk_slots.specs.KeptSides.{Each, IsKeptSpan}
-use Rattle.chunk_slots.specs.Slots.{fit_in}
+use Rattle.chunk_slots.specs.KeptChunkSides.{Each, IsKeptSpan}
+use Rattle.chunk_slots.specs.ChunksBySlot.{fit_in}
 use Rattle.chunk_slots.proofs.SlotLists.{drop_one, keep_one, before, behind}
 
 abbrev pub start_of : Span → ℕ

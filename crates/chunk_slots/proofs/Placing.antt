@@ -9,14 +9,14 @@ use Rattle.chunk_slots.specs.declared.holders.Holder.{Holder}
 use Rattle.chunk_slots.specs.Rising.{IsRising, index_by}
 use Rattle.chunk_slots.specs.KeptObjects.{object_key, object_by, objects_by, life_by}
 use Rattle.chunk_slots.specs.KeptChunks.{KeptRow, slot_in}
-use Rattle.chunk_slots.specs.KeptSides.{number_of, chunk_in, chunks_in, Each, IsKeptRow}
-use Rattle.chunk_slots.specs.Slots.{fit_in}
+use Rattle.chunk_slots.specs.KeptChunkSides.{number_of, chunk_in, chunks_in, Each, IsKeptRow}
+use Rattle.chunk_slots.specs.ChunksBySlot.{fit_in}
 use Rattle.chunk_slots.specs.Choices.{chosen_row}
 use Rattle.chunk_slots.specs.ChunkRegion.{ChunkRegion, unit_of, place_for, live_bytes}
-use Rattle.chunk_slots.proofs.Views.{slot_in_view, fit_in_view}
+use Rattle.chunk_slots.proofs.ChunkViews.{slot_in_view, fit_in_view}
 use Rattle.chunk_slots.proofs.ObjectViews.{each_map}
 use Rattle.chunk_slots.proofs.RowLists.{least_in_view, IsSeen, numbered_none}
-use Rattle.chunk_slots.proofs.Sides.{IsFound, numbered_row, starts_at, app_nil, objects_of_chunk}
+use Rattle.chunk_slots.proofs.SideCalls.{IsFound, numbered_row, starts_at, app_nil, objects_of_chunk}
 
 abbrev fit_of : (atomic : Bool) (pages bytes align : ℕ) → Chunk → Option ℕ
 fit_of atomic pages bytes align = if atomic then atomic_fit (unit_of pages) bytes align else plain_fit (unit_of pages) bytes align

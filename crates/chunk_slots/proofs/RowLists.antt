@@ -9,7 +9,7 @@ use Rattle.vm_model.specs.Chunks.{change_chunk, chunks_numbered}
 use Rattle.chunk_slots.specs.declared.holders.Holder.{Holder}
 use Rattle.chunk_slots.specs.Rising.{IsRisingFrom, IsRising, index_by}
 use Rattle.chunk_slots.specs.KeptChunks.{KeptRow}
-use Rattle.chunk_slots.specs.KeptSides.{number_of, chunk_in, chunks_in, Each}
+use Rattle.chunk_slots.specs.KeptChunkSides.{number_of, chunk_in, chunks_in, Each}
 use Rattle.chunk_slots.specs.SlotOrder.{AreNumbered}
 use Rattle.chunk_slots.proofs.RisingLists.{index-here, index-later}
 use Rattle.chunk_slots.proofs.SlotLists.{some_same, below_number, drop_one, keep_one}

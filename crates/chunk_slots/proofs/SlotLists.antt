@@ -6,8 +6,8 @@ use Rattle.vm_model.specs.Space.{put_by}
 use Rattle.chunk_slots.specs.declared.slots.InSlot.{InSlot}
 use Rattle.chunk_slots.specs.Rising.{IsRisingFrom, IsRising, index_by}
 use Rattle.chunk_slots.specs.KeptChunks.{KeptRow, slot_in}
-use Rattle.chunk_slots.specs.KeptSides.{number_of, Each}
-use Rattle.chunk_slots.specs.Slots.{slot_key, key_of_slot, in_slot_of, slots_of, moved}
+use Rattle.chunk_slots.specs.KeptChunkSides.{number_of, Each}
+use Rattle.chunk_slots.specs.ChunksBySlot.{slot_key, key_of_slot, in_slot_of, slots_of, moved}
 use Rattle.chunk_slots.proofs.RisingLists.{find_this, find_later, others-none, put_rises, index-here, index-later}
 use Rattle.chunk_slots.proofs.Choosing.{IsSortedFrom, sort_sorted}
 

@@ -6,7 +6,7 @@ use Rattle.vm_model.specs.Space.{sort_by}
 use Rattle.chunk_slots.specs.declared.slots.InSlot.{InSlot}
 use Rattle.chunk_slots.specs.Rising.{index_by}
 use Rattle.chunk_slots.specs.KeptChunks.{KeptRow, fresh_row}
-use Rattle.chunk_slots.specs.Slots.{in_slot_of, slots_of}
+use Rattle.chunk_slots.specs.ChunksBySlot.{in_slot_of, slots_of}
 use Rattle.chunk_slots.specs.SlotOrder.{key_of_row, AreNumbered}
 use Rattle.chunk_slots.proofs.RisingLists.{index_of_found, at_index, IsAt}
 use Rattle.chunk_slots.proofs.Choosing.{slots_in_order}

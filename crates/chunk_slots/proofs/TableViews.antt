@@ -9,9 +9,9 @@ use Rattle.vm_model.specs.Tables.{chunk_row, chunk_audit, hint_row, hint_rows}
 use Rattle.chunk_bitmaps.specs.ChunkMap.{taken_bits}
 use Rattle.chunk_slots.specs.declared.holders.Holder.{Holder}
 use Rattle.chunk_slots.specs.KeptChunks.{KeptRow, row_of, audit_of, hints_of}
-use Rattle.chunk_slots.specs.KeptSides.{chunk_in, chunks_in, Each, IsKeptRow}
+use Rattle.chunk_slots.specs.KeptChunkSides.{chunk_in, chunks_in, Each, IsKeptRow}
 use Rattle.chunk_slots.specs.ChunkRegion.{unit_of}
-use Rattle.chunk_slots.proofs.Views.{bits_in_view, empty_in_view, row_in_view}
+use Rattle.chunk_slots.proofs.ChunkViews.{bits_in_view, empty_in_view, row_in_view}
 
 -- a pass over all of a list is at its end
 pub finished : {X Y : Type 0} (f : List X → List Y) (rows : List Y) (items : List X) (index : ℕ) → f [] ≡ [] → length items ≤ index → rows ++ f (drop index items) ≡ f items → rows ≡ f items

@@ -7,11 +7,11 @@ use Rattle.vm_model.specs.Space.{sort_by}
 use Rattle.vm_model.specs.Bits.{slot_for}
 use Rattle.chunk_slots.specs.Rising.{rank_by}
 use Rattle.chunk_slots.specs.KeptChunks.{KeptRow, slot_in}
-use Rattle.chunk_slots.specs.Slots.{key_of_slot, slot_key, in_slot_of, slots_of, fit_in}
+use Rattle.chunk_slots.specs.ChunksBySlot.{key_of_slot, slot_key, in_slot_of, slots_of, fit_in}
 use Rattle.chunk_slots.specs.SlotOrder.{key_of_row, AreNumbered}
 use Rattle.chunk_slots.specs.Choices.{chosen_row}
 use Rattle.chunk_slots.proofs.Choosing.{the_first_in_order_is_chosen, slots_in_order}
-use Rattle.chunk_slots.proofs.SlotFits.{nothing_fits_below_its_slot}
+use Rattle.chunk_slots.proofs.SlotFitProofs.{nothing_fits_below_its_slot}
 
 -- whether a chunk has a fit
 abbrev pub has_fit : (atomic : Bool) (bits align : ℕ) → KeptRow → Bool

@@ -13,7 +13,7 @@ use Rattle.vm_model.specs.Tables.{chunk_row, chunk_audit, hint_rows, object_rows
 use Rattle.chunk_slots.specs.declared.placed.Placed.{Placed}
 use Rattle.vm_model.specs.PageSets.{pages_in}
 use Rattle.vm_model.specs.Space.{sort_by}
-use Rattle.chunk_slots.specs.Slots.{slot_key}
+use Rattle.chunk_slots.specs.ChunksBySlot.{slot_key}
 
 -- so many pages in each unit, the chunks by number, the next serial and number, and how many more objects can be placed
 pub record ChunkRegion : Type 0 where

@@ -1,7 +1,7 @@
 //! The live objects of chunks, one after another.
 ghost use Rattle.std.specs.Prelude.{◌≡◌, ◌+◌, ◌*◌, ◌≤◌, ◌<◌, Some, None, OnOk, ◌++◌};
 ghost use Rattle.chunk_slots.specs.KeptObjects.{holder_in};
-ghost use Rattle.chunk_slots.specs.LiveRows.{live_of, live_rows, seek};
+ghost use Rattle.chunk_slots.specs.LiveObjectRows.{live_of, live_rows, seek};
 
 use crate::holders::Holders;
 use crate::kept_chunk::KeptChunk;

@@ -38,7 +38,7 @@ impl Model for PcpuSide {
     ghost use Rattle.std.specs.Prelude.{vec_capacity};
     ghost use Rattle.chunk_slots.specs.ChunkRegion.{ChunkRegion};
     ghost use Rattle.chunk_slots.specs.KeptObjects.{holder_in, room_in};
-    ghost use Rattle.chunk_slots.specs.KeptSides.{chunks_in, AreKept};
+    ghost use Rattle.chunk_slots.specs.KeptChunkSides.{chunks_in, AreKept};
 
     ghost Value = { ChunkRegion };
 

@@ -1,11 +1,11 @@
 //! The chunks by slot and number, and the choice of a chunk.
 ghost use Rattle.std.specs.Prelude.{◌≡◌, ◌≢◌, ◌+◌, ◌-◌, ◌/◌, ◌%◌, ◌<◌, ◌≤◌, ◌==◌, Some, None, IfSome, IfNone, filter, map, find, slice_get, vec_len, vec_capacity};
 ghost use Rattle.chunk_slots.specs.Rising.{IsRising, index_by};
-ghost use Rattle.chunk_slots.specs.Slots.{slot_key, key_of_slot, slots_of, moved};
+ghost use Rattle.chunk_slots.specs.ChunksBySlot.{slot_key, key_of_slot, slots_of, moved};
 ghost use Rattle.chunk_slots.specs.declared.slots.InSlot.{InSlot};
 ghost use Rattle.chunk_slots.specs.SlotFits.{NothingFitsBelowItsSlot};
 ghost use Rattle.chunk_slots.specs.SlotOrder.{TheFirstInOrderIsChosen, AreNumbered};
-ghost use Rattle.chunk_slots.specs.KeptSides.{Each};
+ghost use Rattle.chunk_slots.specs.KeptChunkSides.{Each};
 ghost use Rattle.chunk_slots.specs.Choices.{chosen_row, IsTaken};
 
 use crate::kept_chunk::KeptChunk;
@@ -34,7 +34,7 @@ pub(crate) fn key_in_slot(slot: u32, chunk: u32) -> u64
 }
 
 impl Keyed for InSlot {
-    ghost use Rattle.chunk_slots.specs.Slots.{key_of_slot};
+    ghost use Rattle.chunk_slots.specs.ChunksBySlot.{key_of_slot};
 
     ghost key = { key_of_slot };
 

@@ -9,10 +9,10 @@ use Rattle.vm_model.specs.Space.{span, end_of, covers, count_from, free_from, ru
 use Rattle.vm_model.specs.Setup.{Setup, groups_at, groups_fit, last_of, highest}
 use Rattle.vm_model.proofs.Runs.{holds-in, covers-runs}
 use Rattle.augmented_tree.proofs.FirstStart.{first_of, one_longer-first}
-use Rattle.augmented_tree.proofs.Finds.{last_of-kept}
+use Rattle.augmented_tree.proofs.FoundBlocks.{last_of-kept}
 use Rattle.unit_layout.specs.declared.layout.Group.{Group}
 use Rattle.augmented_tree.specs.FreeBlocks.{IsFree}
-use Rattle.congruent_areas.specs.Groups.{IsBase, HasGroups, spans_of, span_at}
+use Rattle.congruent_areas.specs.GroupsAtBase.{IsBase, HasGroups, spans_of, span_at}
 use Rattle.congruent_areas.proofs.Lowering.{first_free, holds-from, holds-to}
 
 -- How many places are free from one on.

@@ -11,7 +11,7 @@ use Rattle.augmented_tree.proofs.SeparateBlocks.{covers-append}
 use Rattle.unit_layout.specs.declared.layout.Group.{Group}
 use Rattle.congruent_areas.proofs.LaidOut.{span_there}
 use Rattle.augmented_tree.specs.FreeBlocks.{IsFree}
-use Rattle.congruent_areas.specs.Groups.{spans_of, span_at, spans_at}
+use Rattle.congruent_areas.specs.GroupsAtBase.{spans_of, span_at, spans_at}
 
 -- What was painted twice.
 

@@ -7,10 +7,10 @@ use Rattle.vm_model.specs.Space.{span, end_of}
 use Rattle.vm_model.specs.Setup.{Setup}
 use Rattle.vm_model.specs.Rules.{AreDisjoint}
 use Rattle.unit_layout.specs.declared.layout.Group.{Group}
-use Rattle.unit_layout.specs.Rule.{layout_of, with_layout}
-use Rattle.unit_layout.specs.Laws.{LayoutsStand}
-use Rattle.congruent_areas.specs.Groups.{spans_of, span_at, spans_at}
-use Rattle.congruent_areas.specs.Laws.{MachinesHaveSuchGroups, LayoutsHaveSuchGroups, SpansAreTheGroups}
+use Rattle.unit_layout.specs.LayoutRule.{layout_of, with_layout}
+use Rattle.unit_layout.specs.LayoutLaws.{LayoutsStand}
+use Rattle.congruent_areas.specs.GroupsAtBase.{spans_of, span_at, spans_at}
+use Rattle.congruent_areas.specs.SearchableGroups.{MachinesHaveSuchGroups, LayoutsHaveSuchGroups, SpansAreTheGroups}
 
 -- the span of a group in its place
 pub span_there : (laid : List Group) (k : ℕ) (d : Group) → k < length laid → slice_get (spans_of laid) k ≡ Some (span (get_or laid k d).offset (get_or laid k d).pages)

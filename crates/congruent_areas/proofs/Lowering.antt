@@ -9,7 +9,7 @@ use Rattle.vm_model.specs.Space.{end_of, holds, covers}
 use Rattle.vm_model.proofs.Runs.{holds-in}
 use Rattle.unit_layout.specs.declared.layout.Group.{Group}
 use Rattle.augmented_tree.specs.FreeBlocks.{IsFree}
-use Rattle.congruent_areas.specs.Groups.{IsBase, IsLastUpTo, span_at}
+use Rattle.congruent_areas.specs.GroupsAtBase.{IsBase, IsLastUpTo, span_at}
 
 -- between a span's first page and its end
 pub holds-from : (s : Span) (page : ℕ) → holds s page ≡ true → s.start ≤ page

@@ -7,10 +7,10 @@ use Rattle.vm_model.specs.declared.areas.Span.{Span}
 use Rattle.vm_model.specs.Space.{end_of, holds, covers, AreSeparateFrom}
 use Rattle.vm_model.specs.Setup.{last_of}
 use Rattle.vm_model.proofs.Runs.{covers-below, holds-above}
-use Rattle.augmented_tree.specs.Blocks.{AreBlocks}
+use Rattle.augmented_tree.specs.BlockLists.{AreBlocks}
 use Rattle.augmented_tree.proofs.SeparateBlocks.{covers-append, covers-before, separate-tail, cover_from_ends}
 use Rattle.augmented_tree.specs.FreeBlocks.{IsFree}
-use Rattle.congruent_areas.specs.Groups.{IsLastUpTo}
+use Rattle.congruent_areas.specs.GroupsAtBase.{IsLastUpTo}
 
 -- Where an element stands in a list.
 

@@ -1,2 +1,2 @@
-pub mod Groups
-pub mod Laws
+pub mod GroupsAtBase
+pub mod SearchableGroups

@@ -1,5 +1,5 @@
 //! Which groups a search takes.
-ghost use Rattle.congruent_areas.specs.Laws.{MachinesHaveSuchGroups, LayoutsHaveSuchGroups, SpansAreTheGroups};
+ghost use Rattle.congruent_areas.specs.SearchableGroups.{MachinesHaveSuchGroups, LayoutsHaveSuchGroups, SpansAreTheGroups};
 
 /// The groups of a machine's chunks can be searched for, and so can those of each layout that isn't refused. What is
 /// carved are the machine's groups.

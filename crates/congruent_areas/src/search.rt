@@ -3,7 +3,7 @@ ghost use Rattle.std.specs.Prelude.{◌≡◌, ◌+◌, ◌-◌, ◌%◌, ◌<�
 ghost use Rattle.vm_model.specs.Space.{covers};
 ghost use Rattle.augmented_tree.specs.FreeBlocks.{IsFree, LeavesRunsWithout};
 ghost use Rattle.unit_layout.specs.declared.layout.Group.{Group};
-ghost use Rattle.congruent_areas.specs.Groups.{AreLaidOut, IsBase, HasBase, IsGreatestBase, IsBaseOfTheMap, HasBaseOfTheMap, IsLastUpTo, span_at, spans_at};
+ghost use Rattle.congruent_areas.specs.GroupsAtBase.{AreLaidOut, IsBase, HasBase, IsGreatestBase, IsBaseOfTheMap, HasBaseOfTheMap, IsLastUpTo, span_at, spans_at};
 ghost use Rattle.congruent_areas.specs.declared.bundle.Bundle.{Bundle};
 
 use crate::bundle::{Bundle, GroupSpans};

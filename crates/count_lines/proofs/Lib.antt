@@ -1,2 +1,2 @@
-pub mod Shared
+pub mod SharedLines
 pub mod OneByOne

@@ -5,9 +5,9 @@ use Rattle.std.proofs.lemmas.List.{map-append}
 use Rattle.std.proofs.lemmas.List.Concat.{flat_map-append}
 use Rattle.vm_model.specs.declared.calls.CountLine.{CountLine}
 use Rattle.count_lines.specs.declared.share.Share.{Share}
-use Rattle.count_lines.specs.Lines.{added_by, lines_by}
+use Rattle.count_lines.specs.LinesOfCaller.{added_by, lines_by}
 use Rattle.count_lines.specs.Shares.{caller_of, lines_in}
-use Rattle.count_lines.proofs.Shared.{lines_from, few_from}
+use Rattle.count_lines.proofs.SharedLines.{lines_from, few_from}
 
 range_more : (n first : ℕ) → range_with_len first (n + 1) ≡ range_with_len first n ++ ((first + n) ∷ [])
 range_more zero first = ap (λ (k : ℕ). k ∷ []) (let e : first ≡ first + 0 = omega arith in e)

@@ -1,3 +1,3 @@
-pub mod Lines
+pub mod LinesOfCaller
 pub mod Shares
 pub mod Sharing

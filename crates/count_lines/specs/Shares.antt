@@ -6,7 +6,7 @@ use Rattle.percpu_counters.specs.declared.table.Shape.{Shape}
 use Rattle.percpu_counters.specs.declared.counters.Counters.{Counters}
 use Rattle.percpu_counters.specs.Passes.{shape_of, IsPassOf}
 use Rattle.count_lines.specs.declared.share.Share.{Share}
-use Rattle.count_lines.specs.Lines.{lines_by}
+use Rattle.count_lines.specs.LinesOfCaller.{lines_by}
 
 -- whose lines they are, the lines, and how many of them were added
 abbrev pub caller_of : Share → ℕ

@@ -3,7 +3,7 @@ use Rattle.std.specs.Prelude.{◌≡◌, ℕ, ◌≤◌, suc, List, All, length,
 use Rattle.std.specs.List.{range_with_len, flat_map}
 use Rattle.vm_model.specs.declared.calls.CountLine.{CountLine}
 use Rattle.report_text.specs.CounterTotals.{total, lines_of}
-use Rattle.count_lines.specs.Lines.{added_by, lines_by}
+use Rattle.count_lines.specs.LinesOfCaller.{added_by, lines_by}
 
 -- the lines of the opening, and then those of each caller
 abbrev pub shared_lines : (callers : ℕ) → List CountLine → List CountLine

@@ -1,7 +1,7 @@
 //! The count lines of one caller, and the right to add them.
 ghost use Rattle.std.specs.Prelude.{◌≡◌, ◌≤◌, ◌+◌, length, map, take};
 ghost use Rattle.percpu_counters.specs.Passes.{adds_of, spare_of};
-ghost use Rattle.count_lines.specs.Lines.{added_by};
+ghost use Rattle.count_lines.specs.LinesOfCaller.{added_by};
 
 use percpu_counters::CountPass;
 use vm_model::CountLine;

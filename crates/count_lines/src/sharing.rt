@@ -2,7 +2,7 @@
 ghost use Rattle.std.specs.Prelude.{◌≡◌, ◌≤◌, ◌+◌, ◌++◌, ℕ, All, IfOk, length, map};
 ghost use Rattle.std.specs.List.{flat_map};
 ghost use Rattle.percpu_counters.specs.Passes.{shape_of, adds_of, spare_of, IsPassOf};
-ghost use Rattle.count_lines.specs.Lines.{added_by, lines_by};
+ghost use Rattle.count_lines.specs.LinesOfCaller.{added_by, lines_by};
 ghost use Rattle.count_lines.specs.Shares.{caller_of, lines_in, done_in, IsLineOf, IsShareOf, IsFinished, AreSharesOf};
 
 use crate::share::Share;

@@ -1,2 +1,2 @@
 pub mod BookRows
-pub mod Entries
+pub mod BookEntries

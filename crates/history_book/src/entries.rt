@@ -4,7 +4,7 @@ ghost use Rattle.vm_model.specs.Events.{Event};
 ghost use Rattle.vm_model.specs.Calls.{Answered};
 ghost use Rattle.vm_model.specs.Tables.{numbers_of, entries_from};
 ghost use Rattle.history_book.specs.declared.noted.Noted.{Noted};
-ghost use Rattle.history_book.specs.Entries.{places_of, entries_noted, AreNotedOf};
+ghost use Rattle.history_book.specs.BookEntries.{places_of, entries_noted, AreNotedOf};
 
 use crate::book::Book;
 use std::alloc::AllocError;

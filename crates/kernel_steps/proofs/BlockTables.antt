@@ -24,7 +24,7 @@ use Rattle.vm_model.specs.LegalHistory.{IsReached, Meets}
 use Rattle.vm_model.specs.Rules.{IsTrace}
 use Rattle.vm_model.specs.Parts.{Region, cpu_blocks, regions_of}
 use Rattle.vm_model.specs.Tables.{block_row, part_row, part_rows, tables_of}
-use Rattle.map_parts.specs.Kept.{KeepsApart}
+use Rattle.map_parts.specs.KeptByEvents.{KeepsApart}
 use Rattle.map_parts.specs.Locality.{StaysWithin}
 use Rattle.map_parts.proofs.KeptApart.{kept_callers_stay_within}
 use Rattle.map_parts.proofs.ReachedKept.{callers_keep, opening_keeps}
@@ -32,14 +32,14 @@ use Rattle.map_parts.proofs.StepKeeps.{steps_keep_apart}
 use Rattle.map_laws.proofs.areas.AreaWorlds.{IsLegalStep, IsLegallyLasting, legally_lasts}
 use Rattle.map_laws.proofs.blocks.BlockFacts.{AreStacked, IsBlockFine, block_count, block_starts, count_cons, same_test, size_cons}
 use Rattle.map_laws.proofs.blocks.BlockMoves.{same_start}
-use Rattle.map_laws.proofs.Chosen.{IsIn, in_more}
-use Rattle.map_laws.proofs.Frames.{IsFramed}
+use Rattle.map_laws.proofs.TestsAndFilters.{IsIn, in_more}
+use Rattle.map_laws.proofs.KeptThroughSteps.{IsFramed}
 use Rattle.vm_model.proofs.RoundedPages.{rounded_some}
 use Rattle.map_laws.proofs.TraceWorlds.{IsTraceWorld, trace_reached}
 use Rattle.kernel_steps.specs.Kernels.{block_table_of, part_table_of}
 use Rattle.section_laws.specs.Lawful.{IsRunning}
-use Rattle.kernel_steps.proofs.Gathered.{flat_map_alike, gathered, gathered_by_key_is, more_rows, sorted_gathered}
-use Rattle.kernel_steps.proofs.Sorted.{same, same_key}
+use Rattle.kernel_steps.proofs.RowsByProcessor.{flat_map_alike, gathered, gathered_by_key_is, more_rows, sorted_gathered}
+use Rattle.kernel_steps.proofs.StableSort.{same, same_key}
 use denote.Ref.{Bor}
 use denote.Param.Members.{Mut, Called}
 

@@ -11,7 +11,7 @@ use Rattle.vm_model.specs.Rules.{IsTrace}
 use Rattle.map_laws.proofs.EndProofs.{every_run_ends}
 use Rattle.vm_model.specs.History.{World, Local, section_of, made_if, step_of, step, moved_to, first_mover, finish, most_events, opening_world, opening_answers, callers_from}
 use Rattle.kernel_steps.specs.Kernels.{start_of, opening_of, callers_of}
-use Rattle.kernel_steps.specs.Laws.{TheStartHasAllCallers}
+use Rattle.kernel_steps.specs.StartLaw.{TheStartHasAllCallers}
 
 kept_made : (w : World) (l : Local) (s : Option Section) → length (made_if w l s).locals ≡ length w.locals
 kept_made w l None = refl

@@ -1,11 +1,11 @@
 pub mod SectionsMade
 pub mod CallersThere
-pub mod Picks
-pub mod Callers
-pub mod Starts
+pub mod PickSteps
+pub mod WorldCallers
+pub mod KernelStarts
 pub mod TablesTold
-pub mod Sorted
-pub mod Gathered
+pub mod StableSort
+pub mod RowsByProcessor
 pub mod BlockTables
-pub mod Sent
+pub mod KernelsSent
 pub mod Moves

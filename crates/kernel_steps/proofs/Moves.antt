@@ -9,8 +9,8 @@ use Rattle.vm_model.specs.LegalHistory.{AllOver}
 use Rattle.map_laws.proofs.EndProofs.{finish_stays}
 use Rattle.section_laws.specs.Lawful.{IsRunning}
 use Rattle.kernel_steps.specs.Kernels.{KernelState, movers, start_of, opening_of, callers_of}
-use Rattle.section_laws.specs.Turns.{all_move}
-use Rattle.kernel_steps.specs.Runs.{HasEnded}
+use Rattle.section_laws.specs.MovesInTurn.{all_move}
+use Rattle.kernel_steps.specs.KernelRuns.{HasEnded}
 use Rattle.kernel_steps.proofs.SectionsMade.{next_running, movers_moved}
 
 pub and_true : (a b : Bool) → a ≡ true → b ≡ true → (a && b) ≡ true

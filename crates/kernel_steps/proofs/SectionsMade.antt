@@ -15,8 +15,8 @@ use Rattle.vm_model.specs.Run.{section_by}
 use Rattle.vm_model.specs.Rules.{IsSetup}
 use Rattle.vm_model.proofs.OneNext.{gives}
 use Rattle.map_parts.specs.Locality.{IsOverOneRegion}
-use Rattle.map_parts.specs.Kept.{KeepsApart, IsSoundLocal}
-use Rattle.map_parts.proofs.SectionProofs.{run_of_sections}
+use Rattle.map_parts.specs.KeptByEvents.{KeepsApart, IsSoundLocal}
+use Rattle.map_parts.proofs.SectionRunProofs.{run_of_sections}
 use Rattle.map_parts.proofs.LocalityProofs.{over_one_region}
 use Rattle.map_parts.proofs.KeptApart.{kept_worlds_fall_apart, kept_callers_stay_within}
 use Rattle.map_parts.proofs.ReachedKept.{reached_worlds_keep_apart}

@@ -11,18 +11,18 @@ use Rattle.vm_model.specs.History.{World, Local}
 use Rattle.vm_model.specs.Tables.{numbers_of, entries_from, entries_of}
 use Rattle.history_book.specs.declared.noted.Noted.{Noted}
 use Rattle.history_book.specs.BookRows.{BookRows}
-use Rattle.history_book.specs.Entries.{places_of, note_of, AreNotedOf}
-use Rattle.history_book.proofs.Places.{places_of-callers}
+use Rattle.history_book.specs.BookEntries.{places_of, note_of, AreNotedOf}
+use Rattle.history_book.proofs.PlacesSoFar.{places_of-callers}
 use Rattle.section_laws.specs.Lawful.{IsRunning}
 use Rattle.std.proofs.lemmas.List.{take_all, length-drop}
 use Rattle.std.proofs.lemmas.List.Elements.{All-nil, All-cons}
 use Rattle.kernel_steps.specs.Kernels.{KernelState, IsStanding, IsSomewhere, IsOfBlocks, movers}
 use Rattle.section_core.proofs.LawfulCallers.{sound}
-use Rattle.section_core.proofs.Counted.{reached_counted, events_of, length-numbers_of}
+use Rattle.section_core.proofs.CountedEvents.{reached_counted, events_of, length-numbers_of}
 use Rattle.callers.proofs.AnswersGiven.{take_one}
 use Rattle.section_core.proofs.LawfulRegions.{free_there, pages_there}
 use Rattle.section_laws.proofs.Memory.{memory_reached}
-use Rattle.page_pool.specs.Pages as pool
+use Rattle.page_pool.specs.PageMap as pool
 use Rattle.std.proofs.lemmas.List.{length-map}
 use Rattle.std.proofs.Math.Nat.{mul-div_cancel_left}
 use Rattle.std.proofs.lemmas.Option.{slice_get_read}
@@ -35,7 +35,7 @@ use Rattle.vm_model.specs.Frames.{free_frames, is_used}
 use Rattle.vm_model.specs.Parts.{FreeRuns, LiveAreas, Pages, Percpu, Region, WaitingSpans, cpu_blocks, regions_of}
 use Rattle.map_laws.proofs.TraceWorlds.{trace_reached}
 use Rattle.chunk_slots.specs.ChunkRegion.{AreOfUnits}
-use Rattle.chunk_slots.proofs.UnitPages.{of_units}
+use Rattle.chunk_slots.proofs.ChunkPages.{of_units}
 
 -- a caller's events are its places among the movers
 own_places : (c : Setup) (opening : List Call) (calls : List (List Call)) (w : World) (k : ℕ) (l : Local) → IsRunning c opening calls w → slice_get w.locals k ≡ Some l → length (places_of l.caller 1 (movers w.events)) ≡ l.events

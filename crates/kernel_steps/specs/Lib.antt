@@ -1,4 +1,4 @@
 pub mod Kernels
-pub mod Runs
-pub mod Laws
-pub mod Parts
+pub mod KernelRuns
+pub mod StartLaw
+pub mod KernelOfParts

@@ -1,5 +1,5 @@
 //! The law of a kernel's start, and what may go to other threads.
-ghost use Rattle.kernel_steps.specs.Laws.{TheStartHasAllCallers};
+ghost use Rattle.kernel_steps.specs.StartLaw.{TheStartHasAllCallers};
 
 use crate::kernel::Kernel;
 use callers::Local;

@@ -1,7 +1,7 @@
 //! A kernel taken apart, for whoever makes its callers' sections by other means than its steps.
 ghost use Rattle.std.specs.Prelude.{◌≡◌};
 ghost use Rattle.kernel_steps.specs.Kernels.{IsSomewhere};
-ghost use Rattle.kernel_steps.specs.Parts.{kernel_of};
+ghost use Rattle.kernel_steps.specs.KernelOfParts.{kernel_of};
 
 use crate::kernel::Kernel;
 use callers::Local;

@@ -2,7 +2,7 @@
 use Rattle.std.proofs.Common.{◌≡◌, true, refl}
 use Rattle.std.specs.List.{list_all}
 use Rattle.law_tests.specs.Machines.{model}
-use Rattle.law_tests.specs.Laws.{passes, keeps_all}
+use Rattle.law_tests.specs.LawChecks.{passes, keeps_all}
 use Rattle.law_tests.specs.DrawnAreas.{first_areas, second_areas}
 use Rattle.law_tests.specs.LawTests.{DrawnAreasKeepTheLaws}
 

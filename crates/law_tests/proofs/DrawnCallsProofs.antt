@@ -2,7 +2,7 @@
 use Rattle.std.proofs.Common.{◌≡◌, true, refl}
 use Rattle.std.specs.List.{list_all}
 use Rattle.law_tests.specs.Machines.{model}
-use Rattle.law_tests.specs.Laws.{passes, keeps_all}
+use Rattle.law_tests.specs.LawChecks.{passes, keeps_all}
 use Rattle.law_tests.specs.DrawnCalls.{first_calls, second_calls}
 use Rattle.law_tests.specs.LawTests.{DrawnCallsKeepTheLaws}
 

@@ -16,7 +16,7 @@ use Rattle.vm_model.specs.Calls.{Answered, align_pages}
 use Rattle.vm_model.specs.History.{World, Local}
 use Rattle.vm_model.specs.Carried.{held, flushed}
 use Rattle.vm_model.specs.Laws.{uses}
-use Rattle.law_tests.specs.Pages.{on_pages, unmapped, stale, bare, marked}
+use Rattle.law_tests.specs.PageChecks.{on_pages, unmapped, stale, bare, marked}
 
 -- no page is used twice
 abbrev pub areas_apart : Setup → World → Bool

@@ -12,8 +12,8 @@ use Rattle.vm_model.specs.Events.{Section, Event, Settle}
 use Rattle.vm_model.specs.Places.{Place, MappingArea, Dropping, SettlingArea, UnmappingArea}
 use Rattle.vm_model.specs.History.{World, Local}
 use Rattle.law_tests.specs.Machines.{Machine, first_of}
-use Rattle.law_tests.specs.Laws.{Test, always, at_last}
-use Rattle.law_tests.specs.Pages.{bare, marked}
+use Rattle.law_tests.specs.LawChecks.{Test, always, at_last}
+use Rattle.law_tests.specs.PageChecks.{bare, marked}
 
 abbrev pub guard_of : AreaKind → Span → List ℕ
 guard_of kind.Vmalloc s = (end_of s - 1) ∷ []

@@ -2,7 +2,7 @@
 use Rattle.std.specs.Prelude.{◌≡◌, true, false}
 use Rattle.std.specs.List.{list_all}
 use Rattle.law_tests.specs.Machines.{model}
-use Rattle.law_tests.specs.Laws.{passes, guards_are_never_mapped}
+use Rattle.law_tests.specs.LawChecks.{passes, guards_are_never_mapped}
 use Rattle.law_tests.specs.Faults.{with_effect, map_more}
 use Rattle.law_tests.specs.GuardChecks.{guards_stay_bare}
 use Rattle.law_tests.specs.GuardFaults.{carve_stale, unmap_more, take_stale}

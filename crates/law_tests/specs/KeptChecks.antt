@@ -14,7 +14,7 @@ use Rattle.vm_model.specs.Places.{Place, Depopulating, SettlingObject, NotingFil
 use Rattle.vm_model.specs.History.{World, Local}
 use Rattle.vm_model.specs.Carried.{held, flushed, fresh, leaving, emptied, part_in_hand, object_in_hand, starts_out, part_spans, namings}
 use Rattle.law_tests.specs.Same.{same_life, same_option}
-use Rattle.law_tests.specs.Pages.{on_pages, on_spans, unmapped, mapped, stale, bare, marked}
+use Rattle.law_tests.specs.PageChecks.{on_pages, on_spans, unmapped, mapped, stale, bare, marked}
 use Rattle.law_tests.specs.TurnChecks.{turns_kept}
 
 abbrev pub is_part_held : PlainMap → ℕ → Option PartAt → Bool

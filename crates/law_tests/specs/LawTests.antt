@@ -3,7 +3,7 @@ use Rattle.std.specs.Prelude.{◌≡◌, ℕ, true, false}
 use Rattle.std.specs.List.{list_all}
 use Rattle.vm_model.specs.History.{World, step}
 use Rattle.law_tests.specs.Machines.{Machine, Trial, model, step_on}
-use Rattle.law_tests.specs.Laws.{Test, passes, keeps_all, areas_are_apart, areas_are_aligned, guards_are_never_mapped, free_pages_are_clean, no_page_is_lost, pages_wait_before_reuse, objects_are_mapped, adds_change_one_word, sums_are_the_adds, parts_are_apart, turns_are_kept, purge_turn_is_taken_last, what_is_carried_is_kept, every_page_has_one_owner, the_map_falls_apart, every_caller_ends, every_section_is_legal, runs_are_parts}
+use Rattle.law_tests.specs.LawChecks.{Test, passes, keeps_all, areas_are_apart, areas_are_aligned, guards_are_never_mapped, free_pages_are_clean, no_page_is_lost, pages_wait_before_reuse, objects_are_mapped, adds_change_one_word, sums_are_the_adds, parts_are_apart, turns_are_kept, purge_turn_is_taken_last, what_is_carried_is_kept, every_page_has_one_owner, the_map_falls_apart, every_caller_ends, every_section_is_legal, runs_are_parts}
 use Rattle.law_tests.specs.Faults.{with_effect, with_gift, with_way, carve_less, carve_nothing, map_more, unmap_less, free_at_once, drop_nothing, populate_first, add_to_next, add_twice, cut_first, keep_purge, remove_nothing, drop_with_serial, note_nothing, align_nothing, search_higher, flush_first, purge_again}
 use Rattle.law_tests.specs.WorkedTrials.{worked_trials, two_areas, aligned_area, freed_pages_wait, a_purge_makes_room, refused_calls, two_frees, lazy_limit, a_spent_block, two_groups, words_of_an_object, atomic_and_balance}
 use Rattle.law_tests.specs.DrawnAreas.{first_areas, second_areas}

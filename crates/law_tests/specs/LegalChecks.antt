@@ -15,7 +15,7 @@ use Rattle.vm_model.specs.Events.{Section, Event, Search, ForPages, ForGroups, R
 use Rattle.vm_model.specs.Legal.{sum_of}
 use Rattle.law_tests.specs.Machines.{Machine}
 use Rattle.law_tests.specs.Same.{same_list, same_option, same_number, same_bool, same_integer, same_span, same_area, same_kind, same_life, same_part_at, same_placed}
-use Rattle.law_tests.specs.Pages.{on_spans, mapped, bare, marked}
+use Rattle.law_tests.specs.PageChecks.{on_spans, mapped, bare, marked}
 
 abbrev pub has_no_hole : Setup → PlainMap → Search → Bool
 has_no_hole c m (ForPages pages align) = is_none (lowest (taken m) pages align)

@@ -12,7 +12,7 @@ use Rattle.vm_model.specs.History.{World, Local}
 use Rattle.vm_model.specs.Laws.{object_at, all_copies, word_of, is_word, grown_if, added}
 use Rattle.law_tests.specs.Machines.{Machine}
 use Rattle.law_tests.specs.Same.{same_integer}
-use Rattle.law_tests.specs.Pages.{mapped}
+use Rattle.law_tests.specs.PageChecks.{mapped}
 
 -- spans with pages are apart exactly where the start of each is in one of them alone
 abbrev pub starts_once : List Span → Bool

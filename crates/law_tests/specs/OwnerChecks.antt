@@ -11,7 +11,7 @@ use Rattle.vm_model.specs.Places.{Place, MappingPart, SettlingPart, UnmappingPar
 use Rattle.vm_model.specs.History.{World, Local}
 use Rattle.map_parts.specs.Owners.{is_plain, pool_of, every, other_than, of_pool, of_locals}
 use Rattle.law_tests.specs.Same.{same_life}
-use Rattle.law_tests.specs.Pages.{on_pages, on_spans}
+use Rattle.law_tests.specs.PageChecks.{on_pages, on_spans}
 
 -- each page has one owner at most, and where an area of a block or a chunk has it, nobody that starts elsewhere has
 abbrev pub is_area_owned : Setup → World → Area → Bool

@@ -6,7 +6,7 @@ use Rattle.vm_model.specs.Setup.{Setup, groups_at}
 use Rattle.vm_model.specs.PlainMap.{PlainMap, Free}
 use Rattle.vm_model.specs.Events.{Section, Event, Carve, CarveGroups, Drop, Return, Wait, TakeWaiting, Flush}
 use Rattle.law_tests.specs.Machines.{Machine}
-use Rattle.law_tests.specs.Pages.{on_pages, unmapped, marked}
+use Rattle.law_tests.specs.PageChecks.{on_pages, unmapped, marked}
 
 -- the maps before the first event, and behind each
 abbrev pub maps_from : Machine → Setup → PlainMap → List Event → List PlainMap

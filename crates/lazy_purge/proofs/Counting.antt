@@ -6,7 +6,7 @@ use Rattle.std.proofs.lemmas.List.Elements.{All-head, All-tail, All-append}
 use Rattle.std.proofs.lemmas.List.Sums.{sum_by-cons, sum_by-append}
 use Rattle.vm_model.specs.declared.areas.Span.{Span}
 use Rattle.vm_model.specs.Space.{HasEnd}
-use Rattle.lazy_purge.specs.Waits.{HasPage, AreCounted}
+use Rattle.lazy_purge.specs.WaitingSet.{HasPage, AreCounted}
 use Rattle.vm_model.specs.Space.{end_of, holds, one_if, times, sum_of_pages}
 
 -- how many pages below n a span has

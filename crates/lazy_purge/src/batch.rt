@@ -1,7 +1,7 @@
 //! What a purge takes at once.
 ghost use Rattle.std.specs.Prelude.{◌≡◌, All};
 ghost use Rattle.vm_model.specs.Space.{hull};
-ghost use Rattle.lazy_purge.specs.Waits.{HasPage, AreWhole};
+ghost use Rattle.lazy_purge.specs.WaitingSet.{HasPage, AreWhole};
 
 use std::marker::Model;
 use vm_model::{Span, hull};
@@ -15,7 +15,7 @@ pub struct Batch {
 impl Model for Batch {
     ghost use Rattle.std.specs.Prelude.{List};
     ghost use Rattle.vm_model.specs.declared.areas.Span.{Span};
-    ghost use Rattle.lazy_purge.specs.Waits.{AreWhole};
+    ghost use Rattle.lazy_purge.specs.WaitingSet.{AreWhole};
 
     ghost Value = { List Span };
 

@@ -1,7 +1,7 @@
 //! The spans that wait: the kernel's `purge_vmap_area_list`.
 ghost use Rattle.std.specs.Prelude.{◌≡◌, ◌≤◌, ◌<◌, ℕ, [], ◌++◌, All, IfOk, OnOk, OnErr};
 ghost use Rattle.vm_model.specs.Space.{sum_of_pages, times, HasEnd};
-ghost use Rattle.lazy_purge.specs.Waits.{HasPage};
+ghost use Rattle.lazy_purge.specs.WaitingSet.{HasPage};
 
 use crate::batch::Batch;
 use std::alloc::{AllocError, Global};
@@ -21,7 +21,7 @@ pub struct LazySide {
 impl Model for LazySide {
     ghost use Rattle.std.specs.Prelude.{List};
     ghost use Rattle.vm_model.specs.declared.areas.Span.{Span};
-    ghost use Rattle.lazy_purge.specs.Waits.{AreCounted};
+    ghost use Rattle.lazy_purge.specs.WaitingSet.{AreCounted};
 
     ghost Value = { List Span };
 

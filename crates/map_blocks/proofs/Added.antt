@@ -15,11 +15,11 @@ use Rattle.vm_model.specs.PlainMap.{Block}
 use Rattle.vm_model.specs.Blocks.{rounded, free_of, cut_from, with_part}
 use Rattle.map_blocks.specs.BlockRows.{sized}
 use Rattle.map_blocks.specs.KeptBlocks.{KeptRow}
-use Rattle.map_blocks.specs.KeptSides.{IsOwn, AreApartFrom, AreKept, by_number, blocks_in}
+use Rattle.map_blocks.specs.KeptBlockSides.{IsOwn, AreApartFrom, AreKept, by_number, blocks_in}
 use Rattle.vm_model.proofs.RoundedPages.{rounded_high}
-use Rattle.map_blocks.proofs.Sorted.{Holds, holds_of, put_last, put_end, sort_holds}
-use Rattle.map_blocks.proofs.Entries.{all_own}
-use Rattle.map_blocks.proofs.Chosen.{number_of, block_of}
+use Rattle.map_blocks.proofs.SortedByNumber.{Holds, holds_of, put_last, put_end, sort_holds}
+use Rattle.map_blocks.proofs.BlocksByStart.{all_own}
+use Rattle.map_blocks.proofs.BlocksInOrder.{number_of, block_of}
 use Rattle.map_blocks.proofs.Taken.{start_of, roomy, with_cut, own_cut}
 
 -- a block without parts

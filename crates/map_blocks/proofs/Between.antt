@@ -3,7 +3,7 @@ use Rattle.std.proofs.Common.{◌≡◌, ℕ, zero, suc, ◌-◌, ◌<◌, ◌�
 use Rattle.std.proofs.lemmas.Bool.Decides.{nat_tests}
 use Rattle.vm_model.specs.PlainMap.{Part}
 use Rattle.map_blocks.specs.KeptBlocks.{ArePacked}
-use Rattle.map_blocks.proofs.Parts.{rising, found_at}
+use Rattle.map_blocks.proofs.PartsInRow.{rising, found_at}
 
 -- a part at the offset is from a place on, and before another
 pub record IsBetween (offset : ℕ) (ps : List Part) (low high : ℕ) : Type 0 where

@@ -8,11 +8,11 @@ use Rattle.vm_model.specs.Blocks.{rounded, size_of, parts_size, ended_parts, ran
 use Rattle.vm_model.specs.Blocks as model
 use Rattle.map_blocks.specs.BlockRows.{IsClean}
 use Rattle.map_blocks.specs.KeptBlocks.{KeptRow}
-use Rattle.map_blocks.specs.KeptSides.{AreApartFrom, blocks_in}
-use Rattle.map_blocks.proofs.Named.{own_blocks}
+use Rattle.map_blocks.specs.KeptBlockSides.{AreApartFrom, blocks_in}
+use Rattle.map_blocks.proofs.NamedParts.{own_blocks}
 use Rattle.vm_model.proofs.RoundedPages.{rounded_some}
-use Rattle.map_blocks.proofs.Parts.{size_cons}
-use Rattle.map_blocks.proofs.Sorted.{Holds}
+use Rattle.map_blocks.proofs.PartsInRow.{size_cons}
+use Rattle.map_blocks.proofs.SortedByNumber.{Holds}
 use Rattle.map_blocks.proofs.DirtyHulls.{with_range, listed_hull, pick}
 
 -- what holds of each element

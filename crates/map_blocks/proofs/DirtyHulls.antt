@@ -8,10 +8,10 @@ use Rattle.vm_model.specs.Blocks as model
 use Rattle.vm_model.specs.Blocks.{dirty_range}
 use Rattle.vm_model.specs.Space.{HasEnd}
 use Rattle.map_blocks.specs.KeptBlocks.{KeptRow}
-use Rattle.map_blocks.specs.KeptSides.{AreApartFrom, by_number, blocks_in}
-use Rattle.map_blocks.proofs.Ranges.{wider_swap}
-use Rattle.map_blocks.proofs.Chosen.{number_of, block_of}
-use Rattle.map_blocks.proofs.Named.{own_blocks}
+use Rattle.map_blocks.specs.KeptBlockSides.{AreApartFrom, by_number, blocks_in}
+use Rattle.map_blocks.proofs.EndedHull.{wider_swap}
+use Rattle.map_blocks.proofs.BlocksInOrder.{number_of, block_of}
+use Rattle.map_blocks.proofs.NamedParts.{own_blocks}
 
 -- with a range, where there is one
 abbrev pub with_range : Option Span → Option Span → Option Span

@@ -9,10 +9,10 @@ use Rattle.vm_model.specs.PlainMap.{Block, Part}
 use Rattle.vm_model.specs.Blocks.{size_of, parts_size}
 use Rattle.map_blocks.specs.BlockSpans.{block_span, part_spans, ShareNoPage, LiesIn}
 use Rattle.map_blocks.specs.KeptBlocks.{KeptRow, ArePacked}
-use Rattle.map_blocks.specs.KeptSides.{IsOwn, AreApartFrom, by_number, blocks_in}
-use Rattle.map_blocks.proofs.Parts.{size_cons}
-use Rattle.map_blocks.proofs.Sorted.{Holds}
-use Rattle.map_blocks.proofs.Chosen.{number_of, block_of, sorted_own}
+use Rattle.map_blocks.specs.KeptBlockSides.{IsOwn, AreApartFrom, by_number, blocks_in}
+use Rattle.map_blocks.proofs.PartsInRow.{size_cons}
+use Rattle.map_blocks.proofs.SortedByNumber.{Holds}
+use Rattle.map_blocks.proofs.BlocksInOrder.{number_of, block_of, sorted_own}
 use Rattle.map_blocks.proofs.Clean.{to_all}
 
 times_more : (page : ℕ) (s : Span) (spans : List Span) → times page (s ∷ spans) ≡ one_if (holds s page) + times page spans

@@ -10,12 +10,12 @@ use Rattle.vm_model.specs.Blocks as model
 use Rattle.vm_model.specs.Blocks.{parts_size, free_of, dirty_of, is_fragmented}
 use Rattle.map_blocks.specs.BlockRows.{sized}
 use Rattle.map_blocks.specs.KeptBlocks.{KeptRow}
-use Rattle.map_blocks.specs.KeptSides.{IsOwn, AreApartFrom, AreKept, block_at, by_number, blocks_in, is_broken, is_fragment, without_all}
-use Rattle.map_blocks.proofs.Parts.{same_test}
-use Rattle.map_blocks.proofs.Sorted.{Holds, holds_of, holds_filter, sort_holds, sort_filter}
-use Rattle.map_blocks.proofs.Entries.{at_key, starts_at, all_at, IsAt}
-use Rattle.map_blocks.proofs.Finds.{filter_of_map}
-use Rattle.map_blocks.proofs.Chosen.{number_of, block_of, only, pick_sorted, sorted_own}
+use Rattle.map_blocks.specs.KeptBlockSides.{IsOwn, AreApartFrom, AreKept, block_at, by_number, blocks_in, is_broken, is_fragment, without_all}
+use Rattle.map_blocks.proofs.PartsInRow.{same_test}
+use Rattle.map_blocks.proofs.SortedByNumber.{Holds, holds_of, holds_filter, sort_holds, sort_filter}
+use Rattle.map_blocks.proofs.BlocksByStart.{at_key, starts_at, all_at, IsAt}
+use Rattle.map_blocks.proofs.FirstPassing.{filter_of_map}
+use Rattle.map_blocks.proofs.BlocksInOrder.{number_of, block_of, only, pick_sorted, sorted_own}
 use Rattle.map_blocks.proofs.Retired.{leaves, apart_removed, values_removed}
 use Rattle.map_blocks.proofs.Taken.{start_of, roomy, filter_all}
 

@@ -5,8 +5,8 @@ use Rattle.vm_model.specs.Space.{span, wider, hull}
 use Rattle.vm_model.specs.PlainMap.{Block, Part, Life, InHand, Lives, Ended, is_ended, lives_as}
 use Rattle.vm_model.specs.Blocks.{size_of, parts_size}
 use Rattle.map_blocks.specs.KeptBlocks.{ArePacked, IsKept, IsInHand, part_in, parts_named, part_of}
-use Rattle.map_blocks.proofs.Parts.{ended_in, lived, lived_set, set_packed, set_size, set_ended_same, part_within, part_some, find_part_at, found_at, same_test, other_test, to_same}
-use Rattle.map_blocks.proofs.Ranges.{hull_ended, dirty_ended, ended_within}
+use Rattle.map_blocks.proofs.PartsInRow.{ended_in, lived, lived_set, set_packed, set_size, set_ended_same, part_within, part_some, find_part_at, found_at, same_test, other_test, to_same}
+use Rattle.map_blocks.proofs.EndedHull.{hull_ended, dirty_ended, ended_within}
 use Rattle.map_blocks.proofs.Between.{read_at}
 
 -- the part at an offset hasn't ended, and stands at a place

@@ -6,13 +6,13 @@ use Rattle.vm_model.specs.Blocks as model
 use Rattle.vm_model.specs.Blocks.{PartAt, size_of, parts_size, free_of, dirty_of, is_spent}
 use Rattle.map_blocks.specs.BlockRows.{sized}
 use Rattle.map_blocks.specs.KeptBlocks.{KeptRow, with_life_at}
-use Rattle.map_blocks.specs.KeptSides.{IsOwn, AreApartFrom, AreKept, block_at, by_number, blocks_in, queued}
-use Rattle.map_blocks.proofs.Parts.{lived, ended_in, to_same, same_test, other_test}
-use Rattle.map_blocks.proofs.Ranges.{ended_within}
-use Rattle.map_blocks.proofs.Sorted.{Holds, holds_of, sort_filter}
-use Rattle.map_blocks.proofs.Entries.{at_key, at_tests, starts_at}
-use Rattle.map_blocks.proofs.Chosen.{number_of, block_of, changed_at, map_changed, pick_sorted, only, sorted_own}
-use Rattle.map_blocks.proofs.Written.{lived_size}
+use Rattle.map_blocks.specs.KeptBlockSides.{IsOwn, AreApartFrom, AreKept, block_at, by_number, blocks_in, queued}
+use Rattle.map_blocks.proofs.PartsInRow.{lived, ended_in, to_same, same_test, other_test}
+use Rattle.map_blocks.proofs.EndedHull.{ended_within}
+use Rattle.map_blocks.proofs.SortedByNumber.{Holds, holds_of, sort_filter}
+use Rattle.map_blocks.proofs.BlocksByStart.{at_key, at_tests, starts_at}
+use Rattle.map_blocks.proofs.BlocksInOrder.{number_of, block_of, changed_at, map_changed, pick_sorted, only, sorted_own}
+use Rattle.map_blocks.proofs.WrittenBlocks.{lived_size}
 
 abbrev pub leaves : ℕ → KeptRow → Bool
 leaves k r = not (r.block.start == k)

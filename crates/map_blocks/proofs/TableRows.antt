@@ -10,10 +10,10 @@ use Rattle.vm_model.specs.Blocks.{size_of, parts_size}
 use Rattle.vm_model.specs.Tables.{block_row, part_row, part_rows}
 use Rattle.map_blocks.specs.BlockRows.{sized}
 use Rattle.map_blocks.specs.KeptBlocks.{KeptRow, ArePacked}
-use Rattle.map_blocks.specs.KeptSides.{IsOwn, AreApartFrom, by_number, blocks_in}
-use Rattle.map_blocks.proofs.Parts.{size_cons}
-use Rattle.map_blocks.proofs.Sorted.{Holds, holds_of, sort_holds, IsStrict, sort_same}
-use Rattle.map_blocks.proofs.Chosen.{number_of, block_of}
+use Rattle.map_blocks.specs.KeptBlockSides.{IsOwn, AreApartFrom, by_number, blocks_in}
+use Rattle.map_blocks.proofs.PartsInRow.{size_cons}
+use Rattle.map_blocks.proofs.SortedByNumber.{Holds, holds_of, sort_holds, IsStrict, sort_same}
+use Rattle.map_blocks.proofs.BlocksInOrder.{number_of, block_of}
 
 module _ {Y : Type 0} (k : Y → ℕ) where
   -- put one after another

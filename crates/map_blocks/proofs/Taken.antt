@@ -7,14 +7,14 @@ use Rattle.vm_model.specs.Blocks as model
 use Rattle.vm_model.specs.Blocks.{PartAt, rounded, size_of, parts_size, free_of, dirty_of, is_spent, cut_from, with_part}
 use Rattle.map_blocks.specs.BlockRows.{sized}
 use Rattle.map_blocks.specs.KeptBlocks.{KeptRow}
-use Rattle.map_blocks.specs.KeptSides.{IsOwn, AreApartFrom, AreKept, AreKnown, block_at, has_room, gives_room, by_number, blocks_in, queued}
+use Rattle.map_blocks.specs.KeptBlockSides.{IsOwn, AreApartFrom, AreKept, AreKnown, block_at, has_room, gives_room, by_number, blocks_in, queued}
 use Rattle.vm_model.proofs.RoundedPages.{rounded_low, rounded_some}
-use Rattle.map_blocks.proofs.Parts.{packed_more, size_more, ended_more, same_test}
-use Rattle.map_blocks.proofs.Sorted.{Holds, holds_of, holds_filter, sort_holds}
-use Rattle.map_blocks.proofs.Entries.{at_key, starts_at, all_at, IsAt, found, apart_set}
-use Rattle.map_blocks.proofs.Finds.{find_map, filter_of_map}
-use Rattle.map_blocks.proofs.Chosen.{number_of, block_of, changed_at, sort_changed, only, sorted_own}
-use Rattle.map_blocks.proofs.Written.{written}
+use Rattle.map_blocks.proofs.PartsInRow.{packed_more, size_more, ended_more, same_test}
+use Rattle.map_blocks.proofs.SortedByNumber.{Holds, holds_of, holds_filter, sort_holds}
+use Rattle.map_blocks.proofs.BlocksByStart.{at_key, starts_at, all_at, IsAt, found, apart_set}
+use Rattle.map_blocks.proofs.FirstPassing.{find_map, filter_of_map}
+use Rattle.map_blocks.proofs.BlocksInOrder.{number_of, block_of, changed_at, sort_changed, only, sorted_own}
+use Rattle.map_blocks.proofs.WrittenBlocks.{written}
 
 abbrev pub start_of : KeptRow → ℕ
 start_of r = r.block.start

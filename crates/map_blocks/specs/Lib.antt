@@ -1,5 +1,5 @@
 pub mod KeptLives
 pub mod KeptBlocks
-pub mod KeptSides
+pub mod KeptBlockSides
 pub mod BlockSpans
 pub mod BlockRows

@@ -5,7 +5,7 @@ ghost use Rattle.vm_model.specs.Bits.{binary_digits};
 ghost use Rattle.vm_model.specs.PlainMap.{Block};
 ghost use Rattle.vm_model.specs.Rules.{IsPower};
 ghost use Rattle.vm_model.specs.Blocks as model;
-ghost use Rattle.map_blocks.specs.KeptSides.{has_room};
+ghost use Rattle.map_blocks.specs.KeptBlockSides.{has_room};
 ghost use Rattle.map_blocks.specs.BlockSpans.{block_span, part_spans, LiesIn, ShareNoPage};
 ghost use Rattle.map_blocks.specs.BlockRows as rows;
 ghost use Rattle.map_blocks.specs.BlockRows.{BlockRows, IsHeld, IsUnused, IsClean, at_of};
@@ -38,7 +38,7 @@ pub struct BlockSide {
 impl Model for BlockSide {
     ghost use Rattle.std.specs.BTreeMap.{values};
     ghost use Rattle.map_blocks.specs.BlockRows.{BlockRows};
-    ghost use Rattle.map_blocks.specs.KeptSides.{blocks_in, AreKept};
+    ghost use Rattle.map_blocks.specs.KeptBlockSides.{blocks_in, AreKept};
 
     ghost Value = { BlockRows };
 

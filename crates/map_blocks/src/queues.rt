@@ -2,7 +2,7 @@
 ghost use Rattle.std.specs.Prelude.{◌≡◌, ◌≢◌, [], not, ◌==◌, filter, find, count_by, IfOk, OnOk, OnErr};
 ghost use Rattle.std.specs.Ordering.{nat_cmp};
 ghost use Rattle.std.specs.BTreeMap.{insert_entry};
-ghost use Rattle.map_blocks.specs.KeptSides.{AreKnown, has_room, is_broken, without_all};
+ghost use Rattle.map_blocks.specs.KeptBlockSides.{AreKnown, has_room, is_broken, without_all};
 
 use crate::kept_block::KeptBlock;
 use std::alloc::{AllocError, Global};

@@ -21,12 +21,12 @@ use Rattle.map_laws.proofs.blocks.BlockFacts.{IsBlockAt, IsBlockFine, IsOut, IsP
 use Rattle.map_laws.proofs.blocks.BlockWorlds.{covered_start, only_one, out_area, row_covers}
 use Rattle.map_laws.proofs.chunks.ChunkFacts.{AreGroupsLive, IsChunkAt, IsChunkFine, start_of, unit_page}
 use Rattle.map_laws.proofs.chunks.ChunkRows.{populated_at}
-use Rattle.map_laws.proofs.Frames.{IsFramed}
+use Rattle.map_laws.proofs.KeptThroughSteps.{IsFramed}
 use Rattle.map_laws.proofs.MapLegal.{block_at, held_life, one_at}
 use Rattle.map_laws.proofs.Namings.{namings_once}
 use Rattle.map_laws.proofs.objects.ObjectFacts.{IsObject, IsObjectAt, object_life}
 use Rattle.map_laws.proofs.TraceWorlds.{SomeonePlaces, AreFull, IsTraceWorld, areas_once, has_parts, own_names, trace_reached}
-use Rattle.map_laws.proofs.Chosen.{or_right, covers_one, holds_from, holds_to}
+use Rattle.map_laws.proofs.TestsAndFilters.{or_right, covers_one, holds_from, holds_to}
 
 -- a row's pages by its span
 row_each : (P : ℕ → Type 0) (s : Span) → OnRow s.start s.pages P → OnEach (s ∷ []) P

@@ -15,11 +15,11 @@ use Rattle.vm_model.specs.LegalHistory.{AllOver, IsReached}
 use Rattle.vm_model.specs.Rules.{IsTrace}
 use Rattle.vm_model.specs.Laws.{MoreFuelChangesNothing}
 use Rattle.vm_model.proofs.OneNext.{gives}
-use Rattle.map_laws.specs.Ends.{EveryRunEnds, HistoriesAreShort}
-use Rattle.map_laws.proofs.Frames.{append_first, IsFramed, IsStep, IsOpening, IsKeptBySteps, framed_opening, framed_callers, framed_step, opening_step, reached_have}
-use Rattle.map_laws.proofs.Places.{begins_with}
+use Rattle.map_laws.specs.EveryRunEnds.{EveryRunEnds, HistoriesAreShort}
+use Rattle.map_laws.proofs.KeptThroughSteps.{append_first, IsFramed, IsStep, IsOpening, IsKeptBySteps, framed_opening, framed_callers, framed_step, opening_step, reached_have}
+use Rattle.map_laws.proofs.ProperPlaces.{begins_with}
 use Rattle.map_laws.proofs.TurnProofs.{AreTurnsProper, turns_first, turns_last, some_moves}
-use Rattle.map_laws.proofs.Chosen.{find_has}
+use Rattle.map_laws.proofs.TestsAndFilters.{find_has}
 use Rattle.map_laws.proofs.StepFalls.{left, per_call}
 use Rattle.map_laws.proofs.chunks.ChunkFalls.{AreSized, sized_section}
 use Rattle.map_laws.proofs.Potential.{weight, credit_at, credit_of, potential, left_begins, potential_falls, past_end, no_rest, one_rest}

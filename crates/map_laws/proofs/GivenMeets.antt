@@ -10,8 +10,8 @@ use Rattle.vm_model.specs.Events.{Section}
 use Rattle.vm_model.specs.Places.{Ask, AskNothing, AskRefuse, AskTakePurge, AskGivePurge, AskTakeAlloc, AskGiveAlloc, AskSearch, AskDrop, AskReturn, AskSettle, AskRemove, AskUnlink, AskWait, AskTakeWaiting, AskMap, AskPopulate, AskFill, AskUnmap, AskDepopulate, AskFlush, AskZero, AskAdd, AskSum, AskPlace, AskAddChunk, AskAtomic, AskSettleObject, AskUnplace, AskFree, AskSpare, AskNextPage, AskFilled, AskPart, AskAddBlock, AskSettlePart, AskBegin, AskRetire, AskFragment, AskDirty}
 use Rattle.vm_model.specs.Given.{taking, given, cutting, beginning}
 use Rattle.vm_model.specs.LegalHistory.{Meets}
-use Rattle.map_laws.proofs.Frames.{append_cases}
-use Rattle.map_laws.proofs.Chosen.{IsIn, in_more, filter_has, find_has}
+use Rattle.map_laws.proofs.KeptThroughSteps.{append_cases}
+use Rattle.map_laws.proofs.TestsAndFilters.{IsIn, in_more, filter_has, find_has}
 
 -- a turn that is taken was nobody's
 pub taking_is : (o : Option ℕ) (x s : Section) → taking o x ≡ Some s → (o ≡ None) × (s ≡ x)

@@ -7,8 +7,8 @@ use Rattle.vm_model.specs.Space.{covers, end_of, holds, one_if, span, times, is_
 use Rattle.map_laws.proofs.areas.AreaFacts.{guard_part}
 use Rattle.map_laws.proofs.areas.AreaStarts.{guard_in}
 use Rattle.map_laws.proofs.blocks.BlockFacts.{AreStacked, same_test}
-use Rattle.map_laws.proofs.Places.{IsPlainKind}
-use Rattle.map_laws.proofs.Chosen.{holds_to, times-cons, holds_from, times-append, IsIn, one_if_le}
+use Rattle.map_laws.proofs.ProperPlaces.{IsPlainKind}
+use Rattle.map_laws.proofs.TestsAndFilters.{holds_to, times-cons, holds_from, times-append, IsIn, one_if_le}
 use Rattle.map_laws.proofs.TraceWorlds.{trace_reached, IsObjectWorld, SomeonePlaces}
 use Rattle.std.proofs.lemmas.Bool.Decides.{nat_tests}
 use Rattle.std.proofs.lemmas.List.Sums.{sum_by-cons}
@@ -27,7 +27,7 @@ use Rattle.map_laws.proofs.blocks.BlockWorlds.{sum_some}
 use Rattle.map_laws.proofs.chunks.ChunkFacts.{AreGroupsLive, group_page, unit_covered, unit_page}
 use Rattle.map_laws.proofs.chunks.ChunkMoves.{number_once}
 use Rattle.map_laws.proofs.chunks.ChunkWorlds.{IsChunkWorld}
-use Rattle.map_laws.proofs.Frames.{same_or, there, IsFramed, IsStep, framed_opening, framed_callers, framed_step}
+use Rattle.map_laws.proofs.KeptThroughSteps.{same_or, there, IsFramed, IsStep, framed_opening, framed_callers, framed_step}
 use Rattle.map_laws.proofs.objects.ObjectFacts.{AreChunksFine, IsBeingPlaced, IsObject, IsObjectAt, IsShaped, count_sum, object_only, same_place, times_map}
 use Rattle.vm_model.specs.declared.calls.Call.{Call}
 use Rattle.vm_model.specs.Events.{Section, Event}

@@ -22,16 +22,16 @@ use Rattle.map_laws.proofs.areas.AreaMoves.{group_spans}
 use Rattle.map_laws.proofs.blocks.BlockFacts.{AreStacked, IsBlockArea, IsBlockAt, IsBlockFine, IsOut, IsPartIn, among_count, block_out, block_starts, counted_block, size_cons, to_same}
 use Rattle.map_laws.proofs.blocks.BlockMoves.{area_start, part_within, row_of, same_start}
 use Rattle.map_laws.proofs.blocks.BlockWorlds.{covered_start, only_one, row_covers, times_count}
-use Rattle.map_laws.proofs.Chosen.{IsIn, filter_has, filter_in, find_has, in_among, in_more, sum_by-filter-le, InSpans, Inside, Outside, covers_one, holds_from, holds_to, in_spans, times-cons}
+use Rattle.map_laws.proofs.TestsAndFilters.{IsIn, filter_has, filter_in, find_has, in_among, in_more, sum_by-filter-le, InSpans, Inside, Outside, covers_one, holds_from, holds_to, in_spans, times-cons}
 use Rattle.map_laws.proofs.chunks.ChunkAdded.{atomic_pages}
 use Rattle.map_laws.proofs.chunks.ChunkRows.{fitting, placement_is}
 use Rattle.map_laws.proofs.chunks.ChunkFalls.{new_chunk_has_room}
-use Rattle.map_laws.proofs.Fits.{and_both, find_some, flat_has, length_flat, length_map, sum_le}
+use Rattle.map_laws.proofs.SearchEnds.{and_both, find_some, flat_has, length_flat, length_map, sum_le}
 use Rattle.map_laws.proofs.GivenMeets.{begun_of, cut_of, flat_in, taking_is}
-use Rattle.map_laws.proofs.Frames.{there}
+use Rattle.map_laws.proofs.KeptThroughSteps.{there}
 use Rattle.map_laws.proofs.Quiet.{times_both}
 use Rattle.map_laws.proofs.blocks.PartMoves.{own_is}
-use Rattle.map_laws.proofs.Places.{IsObjectSize, IsProper}
+use Rattle.map_laws.proofs.ProperPlaces.{IsObjectSize, IsProper}
 use Rattle.vm_model.proofs.RoundedPages.{rounded_some}
 use Rattle.map_laws.proofs.TraceWorlds.{AreFull}
 use Rattle.vm_model.specs.declared.areas.AreaKind.TheVariants as kind

@@ -17,16 +17,16 @@ use Rattle.map_laws.proofs.blocks.BlockFacts.{IsBlockArea, block_out, block_star
 use Rattle.map_laws.proofs.blocks.BlockMoves.{area_holds}
 use Rattle.map_laws.proofs.blocks.BlockPlaces.{IsInChunk, in_one_kind}
 use Rattle.map_laws.proofs.blocks.BlockWorlds.{IsBlockWorld, out_area, sum_some}
-use Rattle.map_laws.proofs.Chosen.{IsIn, one_if_le, holds_from}
+use Rattle.map_laws.proofs.TestsAndFilters.{IsIn, one_if_le, holds_from}
 use Rattle.map_laws.proofs.chunks.ChunkFacts.{AreGroupsLive, IsChunkAt, start_of}
 use Rattle.map_laws.proofs.chunks.ChunkMoves.{number_once}
 use Rattle.map_laws.proofs.chunks.ChunkAdded.{IsNumberNext}
 use Rattle.map_laws.proofs.chunks.ChunkWorlds.{IsChunkWorld, alone}
-use Rattle.map_laws.proofs.Frames.{IsFramed, there}
+use Rattle.map_laws.proofs.KeptThroughSteps.{IsFramed, there}
 use Rattle.map_laws.proofs.objects.ObjectFacts.{count_sum, same_place}
 use Rattle.map_laws.proofs.MapLaws.{sum_once}
 use Rattle.map_laws.proofs.TraceWorlds.{IsObjectWorld}
-use Rattle.map_laws.specs.Turns.{AreTurnsKept}
+use Rattle.map_laws.specs.TwoTurns.{AreTurnsKept}
 
 abbrev pub chunk_out : Setup → Place → List ℕ
 chunk_out c (AddingChunk base chunk bytes align) = group_starts c base

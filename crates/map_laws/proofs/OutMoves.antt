@@ -18,11 +18,11 @@ use Rattle.vm_model.specs.declared.areas.Area.{Area}
 use Rattle.vm_model.specs.declared.areas.AreaKind.{AreaKind}
 use Rattle.vm_model.specs.declared.areas.Span.{Span}
 use Rattle.map_laws.proofs.areas.AreaFacts.{IsAreaFine, IsMapFine, IsUnbearing, area_stays, guard_part, own_uses, IsHolding, mapped_covers, guard_covers, same_mapped, same_unmapped, IsSame, painted, spans_of-areas_of, touch, unmarked_live, untouched}
-use Rattle.map_laws.proofs.Chosen.{IsIn, filter_has, in_more, sum_has, put_in, put_sum, covers_one, covers_times, in_spans, none_covers, times-cons, times-one}
-use Rattle.map_laws.proofs.Frames.{same_or, there}
+use Rattle.map_laws.proofs.TestsAndFilters.{IsIn, filter_has, in_more, sum_has, put_in, put_sum, covers_one, covers_times, in_spans, none_covers, times-cons, times-one}
+use Rattle.map_laws.proofs.KeptThroughSteps.{same_or, there}
 use Rattle.map_laws.proofs.Quiet.{area_times, held_fine, live_fine, page_by, painted_free, times_areas, times_both}
 use Rattle.map_laws.proofs.PlaceMoves.{IsMoved, unbearing_own, unbearing_uses}
-use Rattle.map_laws.proofs.Places.{IsPlainKind, OnNext}
+use Rattle.map_laws.proofs.ProperPlaces.{IsPlainKind, OnNext}
 
 -- What the sections that settle, remove and unlink areas do to the pages that their caller holds, and to the map.
 

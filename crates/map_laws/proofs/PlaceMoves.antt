@@ -15,12 +15,12 @@ use Rattle.vm_model.specs.Places.{Place, MappingArea, Dropping, SettlingBlock, S
 use Rattle.vm_model.specs.Next.{Next, Go, after_flush, after_collecting}
 use Rattle.vm_model.specs.Laws.{as_free}
 use Rattle.vm_model.specs.Frames.{give_frames, free_frames}
-use Rattle.map_laws.proofs.Frames.{same_or, set_same, set_other, there}
-use Rattle.map_laws.proofs.Places.{OnNext}
-use Rattle.map_laws.proofs.Chosen.{times-one, covers_times, in_spans, InSpans, covers_one, holds_to, hull_is, covers_append, times-append, holds_from}
+use Rattle.map_laws.proofs.KeptThroughSteps.{same_or, set_same, set_other, there}
+use Rattle.map_laws.proofs.ProperPlaces.{OnNext}
+use Rattle.map_laws.proofs.TestsAndFilters.{times-one, covers_times, in_spans, InSpans, covers_one, holds_to, hull_is, covers_append, times-append, holds_from}
 use Rattle.map_laws.proofs.areas.AreaFacts.{touch, painted, IsSame, ungiven, outside_row, untouched, painted_still, IsHolding, IsMapFine, own_uses, next_uses, holds_nothing, nothing_claimed, IsUnbearing, guard_part, mapped_within, mapped_covers, guard_covers, guard_apart, area_stays}
 use Rattle.map_laws.proofs.Quiet.{IsOuter, outer_map, held_fine, free_fine, free_one, painted_free, freed_le, is_quiet, quiet, page_by, waits_fine, flushing_fine, area_times}
-use Rattle.map_laws.proofs.Fits.{lowest_fit}
+use Rattle.map_laws.proofs.SearchEnds.{lowest_fit}
 use Rattle.vm_model.specs.declared.areas.Area.{Area}
 use Rattle.vm_model.specs.Carried.{held, flushed}
 use Rattle.vm_model.proofs.Paint.{length-paint_from}

@@ -14,8 +14,8 @@ use Rattle.vm_model.specs.Next.{Next, Go, Answer, next}
 use Rattle.vm_model.specs.Calls.{Answered}
 use Rattle.vm_model.specs.History.{World, Local, answered, moved_to, made_by}
 use Rattle.vm_model.specs.Carried.{IsTurnKept, has_alloc}
-use Rattle.map_laws.proofs.Frames.{set_same, set_other, IsFramed, IsStep, not_over, has_call}
-use Rattle.map_laws.proofs.Places.{IsProper, HaveBeginnings, AtOver, begins_with, answers_call}
+use Rattle.map_laws.proofs.KeptThroughSteps.{set_same, set_other, IsFramed, IsStep, not_over, has_call}
+use Rattle.map_laws.proofs.ProperPlaces.{IsProper, HaveBeginnings, AtOver, begins_with, answers_call}
 use Rattle.map_laws.proofs.TurnProofs.{Change, Stays, Taken, Given, has_next, alloc_change, AreTurnsProper}
 use Rattle.map_laws.proofs.chunks.ChunkFalls.{worth_of, added, AreSized}
 use Rattle.map_laws.proofs.StepFalls.{left, left_next, per_call, is_balancing, credit, credit_next, no_credit_next, no_filling_next, plain_falls, place_falls, credit_falls}

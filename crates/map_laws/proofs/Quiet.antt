@@ -14,13 +14,13 @@ use Rattle.vm_model.specs.Places.{Place, UnlinkingGroups, UnlinkingBlock, PurgeU
 use Rattle.vm_model.specs.Carried.{held, flushed}
 use Rattle.vm_model.specs.Laws.{as_free}
 use Rattle.vm_model.proofs.Paint.{slice_get-paint, length-paint_from}
-use Rattle.map_laws.proofs.Chosen.{sum_has, times-cons, covers_times, covers_one}
+use Rattle.map_laws.proofs.TestsAndFilters.{sum_has, times-cons, covers_times, covers_one}
 use Rattle.map_laws.proofs.areas.AreaFacts.{touch, IsSame, untouched, IsPageFine, IsMapFine, own_uses, area_stays, page_stays, IsUnbearing}
 use Rattle.vm_model.specs.Next.{next}
 use Rattle.vm_model.specs.LegalHistory.{Meets}
 use Rattle.map_laws.proofs.PlaceRows.{place_row}
 use Rattle.map_laws.proofs.AskRows.{ask_row}
-use Rattle.map_laws.proofs.Places.{OnNext}
+use Rattle.map_laws.proofs.ProperPlaces.{OnNext}
 
 -- What a section keeps of the map where it touches pages that its caller holds, flushes, or finds free.
 

@@ -5,7 +5,7 @@ use Rattle.vm_model.specs.Setup.{Setup}
 use Rattle.vm_model.specs.History.{World, step, finish, most_events, opening_world, with_callers}
 use Rattle.vm_model.specs.LegalHistory.{IsReached}
 use Rattle.vm_model.specs.Rules.{IsTrace}
-use Rattle.map_laws.specs.Steps.{StepsAreReached}
+use Rattle.map_laws.specs.WorldSteps.{StepsAreReached}
 use Rattle.map_laws.proofs.MapLaws.{IsRunTo, run_append, after_append, step_led, picked_reached}
 use Rattle.map_laws.proofs.TraceWorlds.{IsTraceWorld, trace_lasts, trace_first, trace_reached}
 use Rattle.map_laws.proofs.objects.ObjectsReady.{trace_legal}

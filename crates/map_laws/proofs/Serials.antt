@@ -19,10 +19,10 @@ use Rattle.vm_model.specs.Calls.{Answered, begin}
 use Rattle.vm_model.specs.History.{World, Local, started, moved_to, made_by, opening_world, opening_answers, callers_from, with_callers}
 use Rattle.vm_model.specs.LegalHistory.{Meets}
 use Rattle.map_laws.proofs.PlaceRows.{place_row}
-use Rattle.map_laws.proofs.Frames.{set_cases, append_cases, IsFramed, not_over, has_call}
-use Rattle.map_laws.proofs.Chosen.{IsIn, filter_has}
-use Rattle.map_laws.proofs.Fits.{and_both}
-use Rattle.map_laws.proofs.Places.{IsPlainKind, IsProper, AllStand, either_place, answers_call}
+use Rattle.map_laws.proofs.KeptThroughSteps.{set_cases, append_cases, IsFramed, not_over, has_call}
+use Rattle.map_laws.proofs.TestsAndFilters.{IsIn, filter_has}
+use Rattle.map_laws.proofs.SearchEnds.{and_both}
+use Rattle.map_laws.proofs.ProperPlaces.{IsPlainKind, IsProper, AllStand, either_place, answers_call}
 use Rattle.map_laws.proofs.OutMoves.{with_in}
 use Rattle.map_laws.proofs.areas.AreaStarts.{areas_after}
 use Rattle.map_laws.proofs.areas.AreaWorlds.{IsLegalStep}

@@ -15,9 +15,9 @@ use Rattle.vm_model.specs.declared.calls.Call.TheVariants.{Add, AllocAtomic, All
 use Rattle.vm_model.specs.declared.calls.Target.{Target}
 use Rattle.map_laws.proofs.PlaceRows.{place_row}
 use Rattle.map_laws.proofs.AskRows.{ask_row}
-use Rattle.map_laws.proofs.Places.{either_place, OnNext, answers_call}
+use Rattle.map_laws.proofs.ProperPlaces.{either_place, OnNext, answers_call}
 use Rattle.std.proofs.lemmas.Option.{same_Some}
-use Rattle.map_laws.proofs.Frames.{set_cases, append_cases, not_over, has_call}
+use Rattle.map_laws.proofs.KeptThroughSteps.{set_cases, append_cases, not_over, has_call}
 use Rattle.map_laws.proofs.areas.AreaWorlds.{IsLegallyLasting}
 
 abbrev pub flight : Place → Made

@@ -10,14 +10,14 @@ use Rattle.vm_model.specs.Places.{Place, Over, Refusing, Finding, FindingAgain, 
 use Rattle.vm_model.specs.Next.{Next, Go, Answer, next, after_place, after_spare, after_page}
 use Rattle.vm_model.specs.Given.{given, placing_new, sparing, filling}
 use Rattle.map_laws.proofs.PlaceRows.{place_row}
-use Rattle.map_laws.proofs.Places.{IsProper, OnNext}
+use Rattle.map_laws.proofs.ProperPlaces.{IsProper, OnNext}
 use Rattle.map_laws.proofs.chunks.ChunkFalls.{added, new_chunk_has_room, opens, worth, worth_of, open_in, lower_section, IsFillable, page_fillable, AreSized}
 use Rattle.vm_model.specs.LegalHistory.{Meets}
 use Rattle.map_laws.proofs.AskRows.{ask_row}
 use Rattle.std.proofs.lemmas.List.Sums.{sum_by-cons}
 use Rattle.vm_model.proofs.Paint.{slice_get-paint}
 use Rattle.vm_model.specs.Effects.{effect_as}
-use Rattle.map_laws.proofs.Chosen.{filter_has, sum_has, sum_without}
+use Rattle.map_laws.proofs.TestsAndFilters.{filter_has, sum_has, sum_without}
 use Rattle.map_laws.proofs.GivenMeets.{HasRoom, given_meets}
 
 -- How many sections a caller has left in its call, chunks that it gives up and pages that it fills aside.

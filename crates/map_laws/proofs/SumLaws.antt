@@ -12,13 +12,13 @@ use Rattle.vm_model.specs.Places.{Place, ask, SettlingObject, SettlingAtomic}
 use Rattle.vm_model.specs.History.{World, Local, started, made_by, moved_to, opening_world, opening_answers, callers_from}
 use Rattle.vm_model.specs.LegalHistory.{Meets, IsReached}
 use Rattle.vm_model.specs.Laws.{IsEvent, amount_of, added, SumsAreTheAdds, object_at}
-use Rattle.map_laws.proofs.Frames.{set_cases, set_same, append_cases, IsFramed, framed_step, not_over, has_call}
+use Rattle.map_laws.proofs.KeptThroughSteps.{set_cases, set_same, append_cases, IsFramed, framed_step, not_over, has_call}
 use Rattle.map_laws.proofs.Deeds.{SettlesAt, settles_at, sums_at, adds_at}
 use Rattle.map_laws.proofs.waits.WaitStories.{WhichEvent, Before, Last, which_event}
 use Rattle.map_laws.proofs.objects.ObjectFacts.{IsObject, IsObjectAt}
 use Rattle.map_laws.proofs.TraceWorlds.{SomeonePlaces, IsTraceWorld, trace_lasts, trace_first}
 use Rattle.map_laws.proofs.objects.ObjectWords.{IsWordOf, word_mapped, zeroed_own, grown, add_within, sum_within}
-use Rattle.map_laws.proofs.Words.{sums_zero, added_more, added_same, adds_nothing, HaveCells, have_cells_section, have_cells_first}
+use Rattle.map_laws.proofs.FrameWords.{sums_zero, added_more, added_same, adds_nothing, HaveCells, have_cells_section, have_cells_first}
 use Rattle.map_laws.proofs.objects.ObjectsBefore.{CameFrom, Was, Settled, came_from, one_object}
 use Rattle.map_laws.proofs.objects.ObjectsReady.{IsZeroedAt, Zeroes, Populated, Zeroed, IsJustZeroed, zeroed_next, named_live}
 use Rattle.map_laws.proofs.SummedWorlds.{AreWordsOwn, IsUsable, wordy_of, AreApartFrames, adding, word_same, add_word_of, IsSummed, byte_in, amount_serial, live_untouched, hand_untouched, sum_same, sum_added}
@@ -28,7 +28,7 @@ use Rattle.vm_model.specs.Space.{is_among}
 use Rattle.vm_model.specs.Next.{next}
 use Rattle.vm_model.specs.Calls.{Answered}
 use Rattle.vm_model.specs.Rules.{IsSetup, IsTrace}
-use Rattle.map_laws.proofs.Places.{OnNext, HaveBeginnings, AtOver, begins_with, moved_has}
+use Rattle.map_laws.proofs.ProperPlaces.{OnNext, HaveBeginnings, AtOver, begins_with, moved_has}
 use Rattle.map_laws.proofs.areas.AreaWorlds.{IsLegalStep, IsLegallyLasting, legally_lasts, event_legal}
 use Rattle.map_laws.proofs.chunks.ChunkFacts.{IsChunkAt, unit_page}
 use Rattle.map_laws.proofs.MapLaws.{object_done, populated_mapped, copies_once}

@@ -13,11 +13,11 @@ use Rattle.vm_model.specs.Places.{Place, Adding, Summing, ask}
 use Rattle.vm_model.specs.History.{World, Local}
 use Rattle.vm_model.specs.LegalHistory.{Meets}
 use Rattle.vm_model.specs.Laws.{all_copies, IsEvent, amount_of, added}
-use Rattle.map_laws.proofs.Frames.{there, same_or}
+use Rattle.map_laws.proofs.KeptThroughSteps.{there, same_or}
 use Rattle.map_laws.proofs.objects.ObjectFacts.{IsObject, AreChunksFine, IsObjectAt}
 use Rattle.map_laws.proofs.TraceWorlds.{SomeonePlaces}
 use Rattle.map_laws.proofs.Deeds.{populates_at, zeroes_at, adds_at}
-use Rattle.map_laws.proofs.Words.{AreCells, HasFrame, added_own, added_other, sums_agree, sums_grow, is_add}
+use Rattle.map_laws.proofs.FrameWords.{AreCells, HasFrame, added_own, added_other, sums_agree, sums_grow, is_add}
 use Rattle.map_laws.proofs.objects.ObjectWords.{IsWordOf, IsWordy, word_whole, one_word, word_mapped, frame_stays, same_word, word_stays, zeroed_other}
 use Rattle.map_laws.proofs.objects.ObjectsReady.{IsZeroedAt}
 use Rattle.std.proofs.lemmas.Bool.Decides.{nat_tests}

@@ -16,12 +16,12 @@ use Rattle.map_laws.proofs.areas.AreaWorlds.{moved_caller, IsAreaWorld, IsLegalS
 use Rattle.map_laws.proofs.chunks.ChunkDispatch.{IsUnchunked, chunk_by}
 use Rattle.map_laws.proofs.chunks.ChunkAdded.{IsNumberNext, chunk_number, number_after, number_alloc, same_or_alloc}
 use Rattle.map_laws.proofs.chunks.ChunkWorlds.{alone, unchunked_begins, IsChunkWorld, OthersPopulate, chunk_first, chunk_joins, chunk_sided, chunk_step, chunks_here, none_populates}
-use Rattle.map_laws.proofs.Frames.{append_cases, set_cases, there, SomeOther, Someone, other_or, others_still, someone_joins, IsFramed, has_call, not_over}
+use Rattle.map_laws.proofs.KeptThroughSteps.{append_cases, set_cases, there, SomeOther, Someone, other_or, others_still, someone_joins, IsFramed, has_call, not_over}
 use Rattle.map_laws.proofs.objects.ObjectChanges.{same_fine}
 use Rattle.map_laws.proofs.objects.ObjectFacts.{AreChunksFine, IsBeingPlaced, IsObject, IsObjectAt, next_placed}
 use Rattle.map_laws.proofs.objects.ObjectMoves.{IsObjectMoved, Kills, unhanded_at, object_by}
-use Rattle.map_laws.proofs.Places.{HaveBeginnings, AtOver, OnNext, answers_call, begins_with, IsProper}
-use Rattle.map_laws.specs.Turns.{AreTurnsKept}
+use Rattle.map_laws.proofs.ProperPlaces.{HaveBeginnings, AtOver, OnNext, answers_call, begins_with, IsProper}
+use Rattle.map_laws.specs.TwoTurns.{AreTurnsKept}
 use Rattle.std.proofs.lemmas.List.Sums.{sum_by-append, sum_by-cons}
 use Rattle.vm_model.specs.Areas.{areas_of, group_areas, group_kinds, spans_of}
 use Rattle.vm_model.specs.Carried.{count_of}
@@ -36,7 +36,7 @@ use Rattle.map_laws.proofs.areas.AreaStarts.{area_first, area_joins, AreMadeWell
 use Rattle.map_laws.proofs.blocks.BlockWorlds.{IsChunkSided, IsRemovedPlain, block_by, IsBlockWorld, block_outside, block_step, unblocky_begins}
 use Rattle.map_laws.proofs.blocks.BlockFacts.{IsBlockAt, block_out, block_starts}
 use Rattle.map_laws.proofs.blocks.BlockPlaces.{HasParts, IsUnblocky, unblocky_at, unblocky_out}
-use Rattle.map_laws.proofs.Chosen.{IsIn, sum_has}
+use Rattle.map_laws.proofs.TestsAndFilters.{IsIn, sum_has}
 use Rattle.map_laws.proofs.chunks.ChunkMoves.{IsChunkMoved}
 use Rattle.map_laws.proofs.SizedCalls.{ruled_named}
 use Rattle.map_laws.proofs.objects.ObjectsMade.{AreObjectsMade, made_first, made_joins, made_step}

@@ -3,7 +3,7 @@ use Rattle.std.proofs.Common.{◌≡◌, ℕ, Bool, true, false, List, slice_get
 use Rattle.vm_model.specs.Places.{Place, Ask, AskTakePurge, AskGivePurge, AskTakeAlloc, AskGiveAlloc, AskAddChunk, PurgeTaking, PurgeGiving, TakingAlloc, GivingAlloc, TakingToBalance, ask, AskNothing}
 use Rattle.vm_model.specs.History.{World, Local, started, moved_to, made_by, opening_world, opening_answers, callers_from, with_callers, moves_in}
 use Rattle.vm_model.specs.Carried.{IsTurnKept, has_purge, has_alloc}
-use Rattle.map_laws.proofs.Frames.{same_or, set_same, set_cases, set_other, append_cases, append_first, IsFramed, IsStep, IsLasting, lasts, not_over, has_call}
+use Rattle.map_laws.proofs.KeptThroughSteps.{same_or, set_same, set_cases, set_other, append_cases, append_first, IsFramed, IsStep, IsLasting, lasts, not_over, has_call}
 use Rattle.vm_model.specs.Setup.{Setup}
 use Rattle.vm_model.specs.PlainMap.{PlainMap}
 use Rattle.vm_model.specs.Events.{Section, TakePurge, GivePurge, TakeAlloc, GiveAlloc, ForGroups}
@@ -12,13 +12,13 @@ use Rattle.vm_model.specs.Given.{given, can_move}
 use Rattle.map_laws.proofs.AskRows.{ask_row}
 use Rattle.map_laws.proofs.GivenMeets.{given_meets, taking_is}
 use Rattle.vm_model.specs.Next.{Next, Go, Answer, next}
-use Rattle.map_laws.proofs.Places.{IsProper, no_span, AllStand, HaveBeginnings, AtOver, begins_with, answers_call, proper_begins, proper_lasts, stand_first}
+use Rattle.map_laws.proofs.ProperPlaces.{IsProper, no_span, AllStand, HaveBeginnings, AtOver, begins_with, answers_call, proper_begins, proper_lasts, stand_first}
 use Rattle.map_laws.proofs.PlaceRows.{PlaceRow, FoundNoGroups, AgainNoGroups, place_row}
 use Rattle.vm_model.specs.declared.calls.Call.{Call}
 use Rattle.vm_model.specs.Calls.{Answered}
 use Rattle.vm_model.specs.LegalHistory.{IsReached}
 use Rattle.vm_model.specs.Laws.{ThePurgeTurnIsTakenLast}
-use Rattle.map_laws.specs.Turns.{AreTurnsKept, TheTurnsAreKept}
+use Rattle.map_laws.specs.TwoTurns.{AreTurnsKept, TheTurnsAreKept}
 
 -- Each of the two turns is with the one caller whose place has it.
 

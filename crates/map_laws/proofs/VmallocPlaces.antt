@@ -15,9 +15,9 @@ use Rattle.vm_model.specs.Given.{given, carving}
 use Rattle.vm_model.specs.History.{World, Local, started, answered, moved_to, opening_world, opening_answers, callers_from}
 use Rattle.vm_model.specs.Laws.{IsMadeAligned}
 use Rattle.map_laws.proofs.PlaceRows.{PlaceRow, Refused, place_row}
-use Rattle.map_laws.proofs.Frames.{set_cases, append_cases, IsLasting, not_over, has_call}
-use Rattle.map_laws.proofs.Fits.{is_zero, lowest_fit}
-use Rattle.map_laws.proofs.Places.{answers_call, either_place}
+use Rattle.map_laws.proofs.KeptThroughSteps.{set_cases, append_cases, IsLasting, not_over, has_call}
+use Rattle.map_laws.proofs.SearchEnds.{is_zero, lowest_fit}
+use Rattle.map_laws.proofs.ProperPlaces.{answers_call, either_place}
 
 abbrev pub IsSearchAt : ℕ → Search → Aim → Type 0
 IsSearchAt k (ForPages pages align) (ForArea kd) = align ≡ k

@@ -1,4 +1,4 @@
-pub mod Turns
-pub mod Ends
-pub mod Waits
-pub mod Steps
+pub mod TwoTurns
+pub mod EveryRunEnds
+pub mod WaitingPages
+pub mod WorldSteps

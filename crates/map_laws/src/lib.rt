@@ -11,10 +11,10 @@
 #![tactic(auto)]
 
 ghost use Rattle.vm_model.specs.Laws.{ThePurgeTurnIsTakenLast, MoreFuelChangesNothing, AreasAreDisjointAndAligned, TheGuardIsNeverMapped, FreePagesAreClean, PagesWaitBeforeReuse, PartsOfABlockAreDisjoint, ObjectsAreMappedInEveryUnit, SumsAreTheAdds, WhatIsCarriedIsKept, HistoriesAreLegal};
-ghost use Rattle.map_laws.specs.Turns.{TheTurnsAreKept};
-ghost use Rattle.map_laws.specs.Ends.{EveryRunEnds, HistoriesAreShort};
-ghost use Rattle.map_laws.specs.Steps.{StepsAreReached};
-ghost use Rattle.map_laws.specs.Waits.{FreedPagesHaveWaited};
+ghost use Rattle.map_laws.specs.TwoTurns.{TheTurnsAreKept};
+ghost use Rattle.map_laws.specs.EveryRunEnds.{EveryRunEnds, HistoriesAreShort};
+ghost use Rattle.map_laws.specs.WorldSteps.{StepsAreReached};
+ghost use Rattle.map_laws.specs.WaitingPages.{FreedPagesHaveWaited};
 
 /// Each of the two turns is with the one caller whose place has it, and the purge turn is taken last.
 pub fn turns()

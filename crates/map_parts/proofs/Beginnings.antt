@@ -12,7 +12,7 @@ use Rattle.vm_model.specs.Calls.{Answered, begin_call, begin}
 use Rattle.vm_model.specs.Rules.{IsSetup}
 use Rattle.vm_model.proofs.RoundedPages.{rounded_high}
 use Rattle.map_parts.specs.Owners.{of_place}
-use Rattle.map_parts.specs.Kept.{IsSoundPlace, AreSoundAnswers, IsSoundCall}
+use Rattle.map_parts.specs.KeptByEvents.{IsSoundPlace, AreSoundAnswers, IsSoundCall}
 use Rattle.map_parts.proofs.Tests.{le_test}
 
 -- A part that the desk lets through has room in a block.

@@ -15,12 +15,12 @@ use Rattle.vm_model.specs.History.{World, Local}
 use Rattle.vm_model.specs.Rules.{IsSetup}
 use Rattle.map_parts.specs.Locality.{AreTaken, IsOfCpu, FallsApart, StaysWithin}
 use Rattle.map_parts.specs.Owners.{is_plain, every, of_place}
-use Rattle.map_parts.specs.Kept.{HasPart, IsSoundPlace, IsSoundLocal, KeepsApart, KeptWorldsFallApart, KeptCallersStayWithin}
+use Rattle.map_parts.specs.KeptByEvents.{HasPart, IsSoundPlace, IsSoundLocal, KeepsApart, KeptWorldsFallApart, KeptCallersStayWithin}
 use Rattle.map_parts.proofs.Filters.{filter_within, map_was}
 use Rattle.map_parts.proofs.Sums.{member-le}
 use Rattle.map_parts.proofs.PoolMoves.{covers-le-times}
 use Rattle.map_parts.proofs.SearchedPages.{covered_by}
-use Rattle.map_parts.proofs.BlockMoves.{AreOnce, same_block}
+use Rattle.map_parts.proofs.WholeBlocks.{AreOnce, same_block}
 
 taken_page : (m : PlainMap) (page : ℕ) → as_free (slice_get m.marks page) ≡ 0 → is_free_at (taken m) page ≡ false
 taken_page m page h = grind (arith, slice_get-map)

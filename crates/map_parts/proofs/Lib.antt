@@ -1,4 +1,4 @@
-pub mod SectionProofs
+pub mod SectionRunProofs
 pub mod Tests
 pub mod Filters
 pub mod TakenPages
@@ -9,10 +9,10 @@ pub mod Sums
 pub mod PoolMoves
 pub mod SearchedPages
 pub mod PartRows
-pub mod BlockMoves
+pub mod WholeBlocks
 pub mod PoolParts
 pub mod SectionMoves
-pub mod PlaceMoves
+pub mod OwnerMoves
 pub mod Beginnings
 pub mod MapKept
 pub mod PlaceSound

@@ -15,11 +15,11 @@ use Rattle.vm_model.specs.Effects.{effect_as}
 use Rattle.vm_model.specs.Rules.{IsSetup}
 use Rattle.vm_model.proofs.PaintRuns.{length-paint}
 use Rattle.map_parts.specs.Owners.{is_plain}
-use Rattle.map_parts.specs.Kept.{IsBlockWhole, HasPart, IsPlainSerial, IsWhole}
+use Rattle.map_parts.specs.KeptByEvents.{IsBlockWhole, HasPart, IsPlainSerial, IsWhole}
 use Rattle.map_parts.proofs.Filters.{single, append_cases, append_first, append_last}
 use Rattle.map_parts.proofs.PartRows.{whole_push}
 use Rattle.map_parts.proofs.PoolParts.{areas_then, areas_of_were}
-use Rattle.map_parts.proofs.BlockMoves.{AreWhole, AreOnce, cut_whole, cut_others, life_whole, life_others, filter_whole, fragment_has, retire_whole, retire_others}
+use Rattle.map_parts.proofs.WholeBlocks.{AreWhole, AreOnce, cut_whole, cut_others, life_whole, life_others, filter_whole, fragment_has, retire_whole, retire_others}
 
 -- what a section of one caller keeps
 pub record KeepsMap (c : Setup) (m : PlainMap) (k : ℕ) (m' : PlainMap) : Type 0 where

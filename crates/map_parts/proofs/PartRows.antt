@@ -8,7 +8,7 @@ use Rattle.vm_model.specs.Setup.{Setup}
 use Rattle.vm_model.specs.PlainMap.{Block, Part, Life, is_ended}
 use Rattle.vm_model.specs.Bits.{binary_digits}
 use Rattle.vm_model.specs.Blocks.{PartAt, rounded, size_of, parts_size, free_of, dirty_of, is_spent, is_fragmented, with_part, with_life}
-use Rattle.map_parts.specs.Kept.{AreInRow, IsBlockWhole}
+use Rattle.map_parts.specs.KeptByEvents.{AreInRow, IsBlockWhole}
 use Rattle.map_parts.proofs.Sums.{sum-filter_without}
 use Rattle.map_parts.proofs.Tests.{first_false, is_other, is_same}
 

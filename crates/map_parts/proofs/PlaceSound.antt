@@ -17,9 +17,9 @@ use Rattle.vm_model.specs.Next.{Next, Go, Answer, next, found, without_space, af
 use Rattle.vm_model.specs.Given.{given, carving, carving_groups, searching, removal, placing, placing_new, placing_atomic, freeing, sparing, cutting, beginning}
 use Rattle.vm_model.specs.Rules.{IsSetup}
 use Rattle.vm_model.proofs.PaintRuns.{length-paint}
-use Rattle.map_parts.specs.Kept.{CanBePart, IsSoundAim, IsSoundThen, IsSoundPlace, IsSoundMade, IsWhole}
+use Rattle.map_parts.specs.KeptByEvents.{CanBePart, IsSoundAim, IsSoundThen, IsSoundPlace, IsSoundMade, IsWhole}
 use Rattle.map_parts.proofs.Filters.{filter_within}
-use Rattle.map_parts.proofs.BlockMoves.{AreOnce, cut_own, is_named_part, life_own}
+use Rattle.map_parts.proofs.WholeBlocks.{AreOnce, cut_own, is_named_part, life_own}
 use Rattle.map_parts.proofs.MapKept.{KeepsMap, keeps_lists, keeps_fewer, keeps_settled, settled_plain, keeps_cut, keeps_added, added_own, keeps_settled_part, keeps_begun, keeps_retired, keeps_fragmented}
 use Rattle.map_parts.proofs.Tests.{lt_test, of_two}
 

@@ -13,7 +13,7 @@ use Rattle.vm_model.specs.LegalHistory.{IsNext, IsNextOf, after_event, after_eve
 use Rattle.vm_model.specs.Rules.{IsSetup, IsTrace, AreRuled}
 use Rattle.vm_model.proofs.OneNext.{at_most_one}
 use Rattle.map_parts.specs.Owners.{pool_of, of_place, of_locals, HaveOneOwner}
-use Rattle.map_parts.specs.Kept.{AreSoundAnswers, IsSoundCall, IsSoundLocal, IsWhole, KeepsApart, ReachedWorldsKeepApart}
+use Rattle.map_parts.specs.KeptByEvents.{AreSoundAnswers, IsSoundCall, IsSoundLocal, IsWhole, KeepsApart, ReachedWorldsKeepApart}
 use Rattle.map_parts.proofs.Beginnings.{IsBeginning, begins}
 use Rattle.map_parts.proofs.StepKeeps.{steps_keep_apart}
 use Rattle.map_parts.proofs.Tests.{one_at_most}

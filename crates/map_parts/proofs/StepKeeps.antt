@@ -15,14 +15,14 @@ use Rattle.vm_model.specs.Given.{given}
 use Rattle.vm_model.specs.History.{World, Local, moved_to, answered, answered_of, made_by, made_if, step_of, section_of}
 use Rattle.vm_model.specs.Rules.{IsSetup}
 use Rattle.map_parts.specs.Owners.{pool_of, every, other_than, of_place, of_locals, HaveOneOwner}
-use Rattle.map_parts.specs.Kept.{HasPart, IsPlainSerial, IsSoundPlace, IsSoundMade, AreSoundAnswers, IsSoundLocal, KeepsApart, StepsKeepApart}
+use Rattle.map_parts.specs.KeptByEvents.{HasPart, IsPlainSerial, IsSoundPlace, IsSoundMade, AreSoundAnswers, IsSoundLocal, KeepsApart, StepsKeepApart}
 use Rattle.map_parts.proofs.Sums.{sum-set, sum-le}
 use Rattle.map_parts.proofs.Filters.{single, append_cases}
 use Rattle.map_parts.proofs.PoolMoves.{of_next, MovesApart, one_owner_moves, of_place-le}
-use Rattle.map_parts.proofs.PlaceMoves.{place_moves}
+use Rattle.map_parts.proofs.OwnerMoves.{place_moves}
 use Rattle.map_parts.proofs.Beginnings.{IsBeginning, begins}
 use Rattle.map_parts.proofs.MapKept.{KeepsMap}
-use Rattle.map_parts.proofs.BlockMoves.{AreOnce}
+use Rattle.map_parts.proofs.WholeBlocks.{AreOnce}
 use Rattle.map_parts.proofs.PlaceSound.{IsSoundNext, GoesOn, place_sound}
 
 -- what was sound stays so where serials and parts in hand stay

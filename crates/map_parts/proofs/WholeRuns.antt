@@ -11,8 +11,8 @@ use Rattle.vm_model.specs.Run.{section_by, state_after}
 use Rattle.vm_model.specs.Rules.{IsSetup}
 use Rattle.vm_model.proofs.OneNext.{gives}
 use Rattle.map_parts.specs.Locality.{IsOverOneRegion}
-use Rattle.map_parts.specs.Kept.{IsSoundLocal, KeepsApart}
-use Rattle.map_parts.proofs.SectionProofs.{run_of_sections}
+use Rattle.map_parts.specs.KeptByEvents.{IsSoundLocal, KeepsApart}
+use Rattle.map_parts.proofs.SectionRunProofs.{run_of_sections}
 use Rattle.map_parts.proofs.LocalityProofs.{over_one_region}
 use Rattle.map_parts.proofs.KeptApart.{kept_worlds_fall_apart, kept_callers_stay_within}
 use Rattle.map_parts.proofs.StepKeeps.{steps_keep_apart}

@@ -4,7 +4,7 @@ pub use Rattle.vm_model.specs.Places
 pub use Rattle.vm_model.specs.History
 pub use Rattle.vm_model.specs.Run
 pub use Rattle.vm_model.specs.Parts
-pub mod Sections
+pub mod SectionRuns
 pub mod Locality
 pub mod Owners
-pub mod Kept
+pub mod KeptByEvents

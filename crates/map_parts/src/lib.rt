@@ -10,7 +10,7 @@
 #![tactic(auto)]
 
 ghost use Rattle.std.specs.Prelude.{ℕ, Bool, Option, List};
-ghost use Rattle.map_parts.specs.Sections.{SectionsRun, KeepsLawful, StaysLawful, FindsTogether};
+ghost use Rattle.map_parts.specs.SectionRuns.{SectionsRun, KeepsLawful, StaysLawful, FindsTogether};
 
 /// Sections over regions and locals, whatever both are.
 pub fn sections<R, L>()
@@ -47,7 +47,7 @@ pub fn locality()
     ensures { SectionsAreOverOneRegion }
 {}
 
-ghost use Rattle.map_parts.specs.Kept.{ReachedWorldsKeepApart, StepsKeepApart, KeptWorldsFallApart, KeptCallersStayWithin};
+ghost use Rattle.map_parts.specs.KeptByEvents.{ReachedWorldsKeepApart, StepsKeepApart, KeptWorldsFallApart, KeptCallersStayWithin};
 
 /// What every reached world has and every step keeps, so that the map falls apart into its regions and each caller's
 /// next section stays within one.

@@ -3,9 +3,9 @@ use Rattle.std.proofs.Common.{◌≡◌, ℕ, ◌+◌, ◌*◌, List, [], ◌∷
 use Rattle.vm_model.specs.declared.areas.Span.{Span}
 use Rattle.vm_model.specs.Space.{span, holds}
 use Rattle.vm_model.specs.Frames.{frame_of, pages_of_bytes, words_in_page, zero_frame, zero_pages, zero_words}
-use Rattle.page_pool.specs.Pages.{Pages}
+use Rattle.page_pool.specs.PageMap.{Pages}
 use Rattle.page_pool.specs.Units.{units_at, with_zeroed}
-use Rattle.page_pool.specs.Words.{AreBlank}
+use Rattle.page_pool.specs.MemoryWords.{AreBlank}
 use Rattle.page_pool.proofs.Painting.{paint-again}
 
 zero_frame-blank : (frame : Option ℕ) (words : Span) (cells : List ℤ) → AreBlank cells → zero_frame frame words cells ≡ cells

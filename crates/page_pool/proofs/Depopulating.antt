@@ -2,10 +2,10 @@
 use Rattle.std.proofs.Common.{◌≡◌, ℕ, ◌<◌, Bool, true, false, ◌==◌, List, [], ◌∷◌, ◌++◌, length, slice_set, Option, None, refl, ap, sym, ◌∙◌, subst, arith}
 use Rattle.std.proofs.lemmas.List.{length-set}
 use Rattle.vm_model.specs.Space.{is_among, paint}
-use Rattle.page_pool.specs.Pages.{Pages}
+use Rattle.page_pool.specs.PageMap.{Pages}
 use Rattle.page_pool.specs.Units.{without_frame, without_frames_for}
 use Rattle.page_pool.proofs.Painting.{paint-none, paint-set, paint-paint}
-use Rattle.page_pool.proofs.UnitPages.{among_more}
+use Rattle.page_pool.proofs.UnitPageLists.{among_more}
 
 -- the pages that are left lose what all were to lose
 pub record IsDepopulating (all : List ℕ) (old : Pages) (rest : List ℕ) (now : Pages) : Type 0 where

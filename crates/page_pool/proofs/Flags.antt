@@ -13,7 +13,7 @@ use Rattle.vm_model.proofs.Elements.{same_by_get, slice_get-drop}
 use Rattle.vm_model.proofs.Paint.{slice_get-paint}
 use Rattle.chunk_bitmaps.specs.Bitmap.{IsNextBit}
 use Rattle.page_pool.specs.StaleList.{set_count, set_in, AreCountedBy, AreCounted}
-use Rattle.page_pool.proofs.Rows.{one_if-cond, same_or_apart}
+use Rattle.page_pool.proofs.PassingNumbers.{one_if-cond, same_or_apart}
 
 -- How many flags are set.
 

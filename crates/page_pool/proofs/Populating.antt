@@ -6,10 +6,10 @@ use Rattle.std.proofs.lemmas.List.Sums.{count_by-le-length}
 use Rattle.vm_model.specs.Space.{is_among}
 use Rattle.vm_model.specs.Frames.{give_frames}
 use Rattle.vm_model.proofs.FramesGiven.{AreUnmappedOnce, length-give_frames, count-give_frames, slice_get-give_frames_other, free_frames-give_frames}
-use Rattle.page_pool.specs.Pages.{Pages, IsBare, memory, free_of}
+use Rattle.page_pool.specs.PageMap.{Pages, IsBare, memory, free_of}
 use Rattle.page_pool.specs.Units.{AreDistinct, AreBareOnce, with_frames_for}
-use Rattle.page_pool.proofs.Shared.{setup}
-use Rattle.page_pool.proofs.UnitPages.{among_first, among_more, is_among-append}
+use Rattle.page_pool.proofs.SharedFrames.{setup}
+use Rattle.page_pool.proofs.UnitPageLists.{among_first, among_more, is_among-append}
 
 -- the pages that are left get what all were to get, and can get it
 pub record IsPopulating (all : List ℕ) (old : Pages) (rest : List ℕ) (now : Pages) : Type 0 where

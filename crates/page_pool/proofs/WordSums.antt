@@ -2,7 +2,7 @@
 use Rattle.std.proofs.Common.{◌≡◌, ℕ, zero, suc, ◌+◌, ◌*◌, ◌<◌, List, [], ◌∷◌, length, take, get_or, Some, pos, ◌+ℤ◌, ap, ◌∙◌, arith}
 use Rattle.std.proofs.lemmas.Int.{ints}
 use Rattle.vm_model.specs.Frames.{cell_of, read_cell, word_at}
-use Rattle.page_pool.specs.Pages.{Pages}
+use Rattle.page_pool.specs.PageMap.{Pages}
 use Rattle.page_pool.specs.Units.{bytes_at, sum_of}
 
 -- the word of one more unit

@@ -1,8 +1,8 @@
-pub mod Pages
+pub mod PageMap
 pub mod FrameList
 pub mod StaleList
 pub mod Late
-pub mod Words
+pub mod MemoryWords
 pub mod Units
-pub mod Sections
-pub mod Groups
+pub mod PlainMapPages
+pub mod GroupedLists

@@ -2,7 +2,7 @@
 use Rattle.std.specs.Prelude.{◌≡◌, ℕ, ◌+◌, ◌*◌, true, false, None, List, [], ◌∷◌, map, flat_map, slice_set, ℤ}
 use Rattle.vm_model.specs.Space.{is_among, paint}
 use Rattle.vm_model.specs.Frames.{give_frames, word_at, zero_words, add_word, sum_words}
-use Rattle.page_pool.specs.Pages.{Pages, IsBare, free_of}
+use Rattle.page_pool.specs.PageMap.{Pages, IsBare, free_of}
 
 -- pages of a unit in the units that begin so many pages from the base on, by unit and then as listed
 abbrev pub pages_in_unit : (base unit : ℕ) → List ℕ → List ℕ

@@ -1,7 +1,7 @@
 //! The words of memory.
 ghost use Rattle.std.specs.Prelude.{◌≡◌, ◌*◌, ◌+◌, ◌%◌, ◌<◌, ◌≤◌, ◌^◌, IfOk, IsTrue, length, replicate, slice_index_or, slice_set, pos};
 ghost use Rattle.vm_model.specs.Space.{span, holds, paint};
-ghost use Rattle.page_pool.specs.Words.{AreBlank};
+ghost use Rattle.page_pool.specs.MemoryWords.{AreBlank};
 
 use crate::own_groups::{GROUP, own_group};
 use std::alloc::{AllocError, Global};
@@ -27,7 +27,7 @@ pub(crate) struct Cells {
 
 impl Model for Cells {
     ghost use Rattle.std.specs.Prelude.{◌*◌, ℤ, List, pos, vec_capacity};
-    ghost use Rattle.page_pool.specs.Groups.{with_groups, HasGroups};
+    ghost use Rattle.page_pool.specs.GroupedLists.{with_groups, HasGroups};
 
     ghost Value = { List ℤ };
 

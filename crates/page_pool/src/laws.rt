@@ -1,5 +1,5 @@
 //! That the calls do to the pages what the sections of the plain map do to them.
-ghost use Rattle.page_pool.specs.Sections.{BeginsAsTheMap, FreeAreFreeFrames, MapsAsTheSection, UnmapsAsTheSection, FlushesAsTheSection, PopulatesAsTheSection, FillsAsTheSection, DepopulatesAsTheSection, ZeroesAsTheSection, AddsAsTheSection, SumsAsTheSection};
+ghost use Rattle.page_pool.specs.PlainMapPages.{BeginsAsTheMap, FreeAreFreeFrames, MapsAsTheSection, UnmapsAsTheSection, FlushesAsTheSection, PopulatesAsTheSection, FillsAsTheSection, DepopulatesAsTheSection, ZeroesAsTheSection, AddsAsTheSection, SumsAsTheSection};
 
 /// What `PageSide` begins with, has free and leaves is what the plain map has and what its sections leave.
 pub fn sections()

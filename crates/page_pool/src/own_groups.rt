@@ -1,6 +1,6 @@
 //! Elements in groups of 128, which are written when one of them is asked for the first time.
 ghost use Rattle.std.specs.Prelude.{◌<◌, length, vec_capacity};
-ghost use Rattle.page_pool.specs.Groups.{AreGroups, IsOwn};
+ghost use Rattle.page_pool.specs.GroupedLists.{AreGroups, IsOwn};
 
 /// How many elements a group has. They are written, all blank, when one of them is to be another for the first time.
 pub(crate) const GROUP: usize = 128;

@@ -16,7 +16,7 @@ pub(crate) struct PageMap {
 
 impl Model for PageMap {
     ghost use Rattle.std.specs.Prelude.{List, Option, None, ℕ, length, vec_capacity};
-    ghost use Rattle.page_pool.specs.Groups.{with_groups, HasGroups};
+    ghost use Rattle.page_pool.specs.GroupedLists.{with_groups, HasGroups};
 
     ghost Value = { List (Option ℕ) };
 

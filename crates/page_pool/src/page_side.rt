@@ -3,7 +3,7 @@ ghost use Rattle.std.specs.Prelude.{◌≡◌, ◌≤◌, ◌<◌, ◌^◌, ℕ,
 ghost use Rattle.vm_model.specs.Space.{holds, end_of, pages_of, paint};
 ghost use Rattle.vm_model.specs.Frames.{give_frames, joined_option, frame_of};
 ghost use Rattle.page_pool.specs.FrameList.{AreShared};
-ghost use Rattle.page_pool.specs.Pages.{Pages, free_of, first_pages, with_mapped, with_unmapped, with_flushed, mapped_count, stale_count, IsBare, IsMapped};
+ghost use Rattle.page_pool.specs.PageMap.{Pages, free_of, first_pages, with_mapped, with_unmapped, with_flushed, mapped_count, stale_count, IsBare, IsMapped};
 
 mod units;
 mod words;
@@ -38,7 +38,7 @@ pub struct PageSide {
 
 impl Model for PageSide {
     ghost use Rattle.page_pool.specs.FrameList.{AreShared};
-    ghost use Rattle.page_pool.specs.Pages.{Pages, IsKept};
+    ghost use Rattle.page_pool.specs.PageMap.{Pages, IsKept};
 
     ghost Value = { Pages };
 

@@ -7,7 +7,7 @@ use Rattle.atomic_table.proofs.Lists.{at_set, set_else}
 use Rattle.vm_model.specs.declared.calls.CountLine.{CountLine}
 use Rattle.percpu_counters.specs.declared.table.Shape.{Shape}
 use Rattle.percpu_counters.specs.declared.table.Tally.{Tally}
-use Rattle.percpu_counters.specs.Rule.{Kept, IsIdle, IsAlone, AmountsFit}
+use Rattle.percpu_counters.specs.CounterRule.{Kept, IsIdle, IsAlone, AmountsFit}
 
 module _ (s : Shape) (t : State (Unit {0}) Tally) (now : Kept s t) (id : ℕ) (v w : Tally) (at : get_elem? t.views id ≡ some v) (place x : ℕ)
     (knows : w.words ≡ set v.words place x) (same : w.alone ≡ v.alone) (busy : IsIdle v → ⊥) where

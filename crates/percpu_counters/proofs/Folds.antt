@@ -9,7 +9,7 @@ use Rattle.atomic_table.proofs.Lists.{set_again}
 use Rattle.vm_model.specs.declared.calls.CountLine.{CountLine}
 use Rattle.percpu_counters.specs.declared.table.Shape.{Shape}
 use Rattle.percpu_counters.specs.declared.table.Tally.{Tally}
-use Rattle.percpu_counters.specs.Rule.{sum_over, row_sum, row_of, cell_of, word_count, recorded, in_hand, hand_to, amount_in, IsAlike, IsIdle, IsFound, IsFew, AmountsFit, Kept, lifted_at, settled_at}
+use Rattle.percpu_counters.specs.CounterRule.{sum_over, row_sum, row_of, cell_of, word_count, recorded, in_hand, hand_to, amount_in, IsAlike, IsIdle, IsFound, IsFew, AmountsFit, Kept, lifted_at, settled_at}
 use Rattle.percpu_counters.proofs.Alone.{still_alone, still_hands, still_small}
 use Rattle.percpu_counters.proofs.Puts.{sum_over-set, row_in, row_out, further}
 

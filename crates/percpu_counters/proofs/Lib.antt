@@ -2,9 +2,9 @@ mod Puts
 mod Alone
 mod Folds
 mod Sizes
-mod Exact
+mod ExactWords
 mod WholeAdds
 mod Opens
-mod Closing
+mod ReadRows
 mod Totals
-mod Splits
+mod CounterSplits

@@ -8,7 +8,7 @@ use lib.ListN.{get_elem?}
 use Rattle.atomic_table.specs.Table.{opening}
 use Rattle.percpu_counters.specs.declared.table.Shape.{Shape}
 use Rattle.percpu_counters.specs.declared.table.Tally.{Tally}
-use Rattle.percpu_counters.specs.Rule.{Kept, IsAlone, AmountsFit, starting, word_count, row_of, cell_of, row_sum}
+use Rattle.percpu_counters.specs.CounterRule.{Kept, IsAlone, AmountsFit, starting, word_count, row_of, cell_of, row_sum}
 use Rattle.percpu_counters.specs.Passes.{AreExact}
 
 zero_word : (n i : ℕ) → get_or {A = ℕ} (replicate n 0) i 0 ≡ 0

@@ -9,7 +9,7 @@ use Rattle.atomic_table.specs.Table.{State, Me, keeps, Allows}
 use Rattle.vm_model.specs.declared.calls.CountLine.{CountLine}
 use Rattle.percpu_counters.specs.declared.table.Shape.{Shape}
 use Rattle.percpu_counters.specs.declared.table.Tally.{Tally}
-use Rattle.percpu_counters.specs.Rule.{sum_over, row_sum, cell_of, word_count, bits_of, given_to, recorded, in_hand, IsAlike, IsIdle, IsFound, Kept, put_at}
+use Rattle.percpu_counters.specs.CounterRule.{sum_over, row_sum, cell_of, word_count, bits_of, given_to, recorded, in_hand, IsAlike, IsIdle, IsFound, Kept, put_at}
 use Rattle.percpu_counters.proofs.Alone.{still_alone, still_hands, still_small, AmountsFit-append}
 
 pub row_out : (words : List ℕ) (i n j x : ℕ) → (j < i) ⊎ (i + n ≤ j) → row_sum (set words j x) i n ≡ row_sum words i n

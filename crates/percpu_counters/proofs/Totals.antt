@@ -12,9 +12,9 @@ use Rattle.vm_model.specs.declared.rows.CounterRow.{CounterRow}
 use Rattle.report_text.specs.CounterTotals.{total, lines_of, counter_row}
 use Rattle.percpu_counters.specs.declared.table.Shape.{Shape}
 use Rattle.percpu_counters.specs.declared.table.Tally.{Tally}
-use Rattle.percpu_counters.specs.Rule.{Kept, IsAlike, AmountsFit, sum_over, given_to, recorded, hand_to, in_hand, row_sum, row_of, bits_of}
+use Rattle.percpu_counters.specs.CounterRule.{Kept, IsAlike, AmountsFit, sum_over, given_to, recorded, hand_to, in_hand, row_sum, row_of, bits_of}
 use Rattle.percpu_counters.specs.Passes.{AreExact, IsRowOf, cells_after}
-use Rattle.percpu_counters.specs.Rows.{row_at, rows_in, totals_of, exact_rows}
+use Rattle.percpu_counters.specs.RowsFromWords.{row_at, rows_in, totals_of, exact_rows}
 use Rattle.percpu_counters.proofs.Sizes.{nat_abs-add, fits_small, small_amount, cast_signed-add}
 
 -- One pass has all.

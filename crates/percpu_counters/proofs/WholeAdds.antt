@@ -10,10 +10,10 @@ use Rattle.vm_model.specs.declared.calls.CountLine.{CountLine}
 use Rattle.report_text.specs.CounterTotals.{Cells, placed}
 use Rattle.percpu_counters.specs.declared.table.Shape.{Shape}
 use Rattle.percpu_counters.specs.declared.table.Tally.{Tally}
-use Rattle.percpu_counters.specs.Rule.{row_of, cell_of, bits_of, put_at, lifted_at, settled_at, IsFound}
+use Rattle.percpu_counters.specs.CounterRule.{row_of, cell_of, bits_of, put_at, lifted_at, settled_at, IsFound}
 use Rattle.percpu_counters.specs.Passes.{cells_after, IsRowOf, AreExact, HasAdded}
 use Rattle.percpu_counters.proofs.Puts.{further, inside_all}
-use Rattle.percpu_counters.proofs.Exact.{cells_after-same, cells_after-other, row_frame, stays, folds, value_is}
+use Rattle.percpu_counters.proofs.ExactWords.{cells_after-same, cells_after-other, row_frame, stays, folds, value_is}
 
 small_placed : (batch cpu : ℕ) (value : ℤ) (c : Cells) → nat_abs value < batch → placed batch cpu value c ≡ record c { cells = set c.cells cpu value }
 small_placed batch cpu value c below =

@@ -1,3 +1,3 @@
-pub mod Rule
+pub mod CounterRule
 pub mod Passes
-pub mod Rows
+pub mod RowsFromWords

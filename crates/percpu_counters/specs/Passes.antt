@@ -8,7 +8,7 @@ use Rattle.percpu_counters.specs.declared.table.Shape.{Shape}
 use Rattle.percpu_counters.specs.declared.table.Tally.{Tally}
 use Rattle.percpu_counters.specs.declared.counters.Counters.{Counters}
 use Rattle.percpu_counters.specs.declared.counters.CountPass.{CountPass}
-use Rattle.percpu_counters.specs.Rule.{row_of, cell_of}
+use Rattle.percpu_counters.specs.CounterRule.{row_of, cell_of}
 
 -- the numbers of the start
 abbrev pub shape_of : Counters → Shape

@@ -1,7 +1,7 @@
 //! What a pass does: it adds, and reads a cell.
 ghost use Rattle.std.specs.Prelude.{◌≡◌, ◌≤◌, ◌<◌, ◌+◌, ◌-◌, [], ◌∷◌, ◌++◌, true, IfOk, slice_index_or, pos};
 ghost use Rattle.percpu_counters.specs.Passes.{shape_of, adds_of, spare_of, is_alone, line_of, cells_after, IsPassOf, IsStarted, HasAdded};
-ghost use Rattle.percpu_counters.specs.Rule.{word_count};
+ghost use Rattle.percpu_counters.specs.CounterRule.{word_count};
 
 use crate::counters::{CountPass, Counters};
 use crate::steps::{lift, look, put, settle};

@@ -2,8 +2,8 @@
 ghost use Rattle.std.specs.Prelude.{◌≡◌, ◌<◌, ◌+◌, ◌*◌, true, [], map, length, IfOk};
 ghost use Rattle.vm_model.specs.declared.rows.CounterRow.{CounterRow};
 ghost use Rattle.atomic_table.specs.Table.{Final, Seen};
-ghost use Rattle.percpu_counters.specs.Rule.{Kept, word_count};
-ghost use Rattle.percpu_counters.specs.Rows.{row_at, rows_in};
+ghost use Rattle.percpu_counters.specs.CounterRule.{Kept, word_count};
+ghost use Rattle.percpu_counters.specs.RowsFromWords.{row_at, rows_in};
 
 use crate::counters::{CountPass, Counters};
 use crate::table::{Place, Shape, Sums, Tally};
@@ -69,7 +69,7 @@ pub(crate) fn rows(alloc: Global, words: &[u64], shape: Shape) -> Result<Counter
 
 impl Counters {
     ghost use Rattle.percpu_counters.specs.Passes.{shape_of, adds_of, spare_of, is_alone, IsPassOf};
-    ghost use Rattle.percpu_counters.specs.Rows.{totals_of, exact_rows};
+    ghost use Rattle.percpu_counters.specs.RowsFromWords.{totals_of, exact_rows};
 
     /// The total, the count and the cells of each counter, by rising number, once all adds and all spare adds are in one
     /// pass. The totals are the sums of what was added, in whatever order it was; the counts and cells of a pass that

@@ -1,6 +1,6 @@
 //! The counters, and the passes that add to them.
 ghost use Rattle.std.specs.Prelude.{◌≡◌, ◌≤◌, [], None};
-ghost use Rattle.percpu_counters.specs.Rule.{word_count};
+ghost use Rattle.percpu_counters.specs.CounterRule.{word_count};
 
 use crate::table::{Place, Shape, Sums, Tally};
 use atomic_table::Table;

@@ -1,6 +1,6 @@
 //! Single steps on the words.
 ghost use Rattle.std.specs.Prelude.{◌≡◌, ◌<◌, ◌≤◌, [], length, Some, None};
-ghost use Rattle.percpu_counters.specs.Rule.{row_of, cell_of, word_count, put_at, lifted_at, settled_at, IsFound, with_less, with_room, with_both, IsFew};
+ghost use Rattle.percpu_counters.specs.CounterRule.{row_of, cell_of, word_count, put_at, lifted_at, settled_at, IsFound, with_less, with_room, with_both, IsFew};
 
 use crate::table::{
     Adding, Cut, Cutting, Learn, Lift, Look, Place, Put, Settle, Shape, Unite, Words,

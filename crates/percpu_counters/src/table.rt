@@ -36,7 +36,7 @@ pub struct Tally {
 pub struct Sums;
 
 impl TableRule<(), Tally, Shape> for Sums {
-    ghost use Rattle.percpu_counters.specs.Rule.{Kept, starting};
+    ghost use Rattle.percpu_counters.specs.CounterRule.{Kept, starting};
 
     ghost holds = { Kept };
 
@@ -70,7 +70,7 @@ pub struct Put<A> {
 }
 
 impl<A: Adding> Play<(), Tally> for Put<A> {
-    ghost use Rattle.percpu_counters.specs.Rule.{put_at, IsFound};
+    ghost use Rattle.percpu_counters.specs.CounterRule.{put_at, IsFound};
 
     ghost then = { λ st m n m'. (m' ≡ (put_at st.word n A.line m.0, m.1)) × IsFound m.0 st.word n };
 }
@@ -81,7 +81,7 @@ pub struct Lift<A> {
 }
 
 impl<A: Adding> Play<(), Tally> for Lift<A> {
-    ghost use Rattle.percpu_counters.specs.Rule.{lifted_at, IsFound};
+    ghost use Rattle.percpu_counters.specs.CounterRule.{lifted_at, IsFound};
 
     ghost then = { λ st m n m'. (m' ≡ (lifted_at st.word n A.line.counter m.0, m.1))
         × IsFound m.0 st.word n };
@@ -91,7 +91,7 @@ impl<A: Adding> Play<(), Tally> for Lift<A> {
 pub struct Settle;
 
 impl Play<(), Tally> for Settle {
-    ghost use Rattle.percpu_counters.specs.Rule.{settled_at, IsFound};
+    ghost use Rattle.percpu_counters.specs.CounterRule.{settled_at, IsFound};
 
     ghost then = { λ st m n m'. (m' ≡ (settled_at st.word n m.0, m.1)) × IsFound m.0 st.word n };
 }
@@ -100,7 +100,7 @@ impl Play<(), Tally> for Settle {
 pub struct Look;
 
 impl Play<(), Tally> for Look {
-    ghost use Rattle.percpu_counters.specs.Rule.{IsFound};
+    ghost use Rattle.percpu_counters.specs.CounterRule.{IsFound};
 
     ghost then = { λ st m n m'. (m' ≡ m) × IsFound m.0 st.word n };
 }
@@ -120,7 +120,7 @@ pub struct Cut<C> {
 }
 
 impl<C: Cutting> Split<Tally> for Cut<C> {
-    ghost use Rattle.percpu_counters.specs.Rule.{with_less, with_room};
+    ghost use Rattle.percpu_counters.specs.CounterRule.{with_less, with_room};
 
     ghost left = { λ v. with_less C.room v };
 
@@ -131,7 +131,7 @@ impl<C: Cutting> Split<Tally> for Cut<C> {
 pub struct Unite;
 
 impl Join<Tally> for Unite {
-    ghost use Rattle.percpu_counters.specs.Rule.{with_both, with_room};
+    ghost use Rattle.percpu_counters.specs.CounterRule.{with_both, with_room};
 
     ghost both = { with_both };
 
@@ -142,7 +142,7 @@ impl Join<Tally> for Unite {
 pub struct Learn;
 
 impl Play<(), Tally> for Learn {
-    ghost use Rattle.percpu_counters.specs.Rule.{IsFew};
+    ghost use Rattle.percpu_counters.specs.CounterRule.{IsFew};
 
     ghost then = { λ st m n m'. (m' ≡ m) × IsFew m.0 };
 }

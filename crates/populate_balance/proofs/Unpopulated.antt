@@ -12,13 +12,13 @@ use Rattle.vm_model.specs.PlainMap.{Chunk}
 use Rattle.vm_model.specs.Chunks.{slot, is_populated, unpopulated_pages, page_in, unpopulated_page, page_to_fill, empty_count}
 use Rattle.vm_model.proofs.Tabulated.{filter-same}
 use Rattle.chunk_slots.specs.Rising.{IsRising}
-use Rattle.chunk_slots.specs.Slots.{slot_key}
+use Rattle.chunk_slots.specs.ChunksBySlot.{slot_key}
 use Rattle.chunk_slots.specs.ChunkRegion.{ChunkRegion, setup_of, in_order, numbers_in_order}
 use Rattle.chunk_slots.proofs.Choosing.{chosen_from}
 use Rattle.chunk_slots.proofs.InOrder.{same_some, sorted_found, goes_past, stops_here}
 use Rattle.populate_balance.specs.declared.fill.UnpopulatedPage.{UnpopulatedPage}
 use Rattle.populate_balance.specs.Balance.{placed_page, told_page, page_in_chunk}
-use Rattle.populate_balance.proofs.Numbered.{number_of, option_split, IsChunk}
+use Rattle.populate_balance.proofs.NumberedChunks.{number_of, option_split, IsChunk}
 
 -- whether the chunk has a page to fill
 abbrev pub has_room : ChunkRegion → Chunk → Bool

@@ -1,6 +1,6 @@
 pub mod ReportTexts
 pub mod CounterTexts
-pub mod Joined
+pub mod JoinedTexts
 pub mod CounterSums
 pub mod Hexadecimal
 pub mod ChunkAudits

@@ -22,11 +22,11 @@ use Rattle.unit_layout.specs.declared.config.Config.{Config}
 use Rattle.unit_layout.specs.Config.{setup_of}
 use Rattle.unit_layout.proofs.Ceilings.{power_pos}
 use Rattle.augmented_tree.specs.FreeBlocks.{FreeBlocks, LeavesRunsWithout}
-use Rattle.busy_areas.specs.LiveRows.{LiveRows, with_new}
-use Rattle.busy_areas.specs.Kept.{asked_spans}
+use Rattle.busy_areas.specs.LiveAreaRows.{LiveRows, with_new}
+use Rattle.busy_areas.specs.KeptAreas.{asked_spans}
 use Rattle.congruent_areas.specs.declared.bundle.Bundle.{Bundle}
-use Rattle.congruent_areas.specs.Groups.{HasGroups, AreLaidOut, IsBaseOfTheMap, HasBaseOfTheMap, span_at, spans_at}
-use Rattle.congruent_areas.specs.Groups.{spans_of as groups_of}
+use Rattle.congruent_areas.specs.GroupsAtBase.{HasGroups, AreLaidOut, IsBaseOfTheMap, HasBaseOfTheMap, span_at, spans_at}
+use Rattle.congruent_areas.specs.GroupsAtBase.{spans_of as groups_of}
 use Rattle.congruent_areas.proofs.LaidOut.{machines, spans}
 use Rattle.section_laws.specs.Needs.{CanSettle}
 use Rattle.section_core.specs.MadeSections.{IsMoved, MayGrow, TakesMemory}

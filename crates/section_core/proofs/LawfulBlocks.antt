@@ -16,15 +16,15 @@ use Rattle.vm_model.specs.Places.{Place, PurgeFragmenting, CuttingPart, AddingBl
 use Rattle.vm_model.specs.History.{World, Local, most_events}
 use Rattle.vm_model.specs.Parts.{Region, CpuBlocks, regions_of, cpu_blocks, wants}
 use Rattle.vm_model.specs.Run.{StandTogether}
-use Rattle.map_parts.specs.Kept.{IsSoundLocal, IsSoundPart, IsSoundPlace}
+use Rattle.map_parts.specs.KeptByEvents.{IsSoundLocal, IsSoundPart, IsSoundPlace}
 use Rattle.map_parts.proofs.Filters.{filter_twice}
 use Rattle.map_laws.proofs.blocks.BlockFacts.{IsBlockArea, IsPartFine, IsBlockFine, IsBlockAt, IsPartIn, block_out, block_starts, count_cons, stacked_at, same_test, to_same}
 use Rattle.map_laws.proofs.blocks.BlockMoves.{same_start, part_within}
-use Rattle.map_laws.proofs.Chosen.{IsIn, filter_has, filter_in, covers_one, holds_to, covers_append}
+use Rattle.map_laws.proofs.TestsAndFilters.{IsIn, filter_has, filter_in, covers_one, holds_to, covers_append}
 use Rattle.map_laws.proofs.EndProofs.{histories_short}
-use Rattle.map_laws.proofs.Frames.{IsFramed}
+use Rattle.map_laws.proofs.KeptThroughSteps.{IsFramed}
 use Rattle.map_laws.proofs.MapLegal.{held_life}
-use Rattle.map_laws.proofs.Places.{IsProper}
+use Rattle.map_laws.proofs.ProperPlaces.{IsProper}
 use Rattle.vm_model.proofs.RoundedPages.{rounded_some}
 use Rattle.map_laws.proofs.TraceWorlds.{IsTraceWorld, trace_reached, own_names, areas_once, proper_here}
 use Rattle.map_blocks.specs.BlockRows.{BlockRows, IsHeld}

@@ -14,16 +14,16 @@ use Rattle.vm_model.specs.Carried.{IsKept}
 use Rattle.vm_model.specs.Parts.{Region, Desk, PurgeTurn, AllocTurn, FreeRuns, LiveAreas, WaitingSpans, Pages, Percpu, CpuBlocks, regions_of, cpu_blocks, wants}
 use Rattle.vm_model.specs.Run.{StandTogether}
 use Rattle.vm_model.proofs.Runs.{covers-runs}
-use Rattle.map_parts.specs.Kept.{KeepsApart, IsSoundLocal}
+use Rattle.map_parts.specs.KeptByEvents.{KeepsApart, IsSoundLocal}
 use Rattle.map_parts.proofs.ReachedKept.{reached_worlds_keep_apart}
 use Rattle.map_laws.proofs.CarriedKept.{carried_kept}
 use Rattle.map_laws.proofs.EndProofs.{histories_short}
-use Rattle.map_laws.proofs.Chosen.{covers_one, covers_append}
-use Rattle.lazy_purge.specs.Waits.{HasPage}
+use Rattle.map_laws.proofs.TestsAndFilters.{covers_one, covers_append}
+use Rattle.lazy_purge.specs.WaitingSet.{HasPage}
 use Rattle.std.proofs.lemmas.List.Elements.{All-nil, All-cons, All-head, All-tail}
 use Rattle.section_core.specs.StandsWell.{AreRunsOf}
 use Rattle.section_laws.specs.Lawful.{IsRunning, IsLawful}
-use Rattle.section_core.proofs.Counted.{reached_counted, events_of-le}
+use Rattle.section_core.proofs.CountedEvents.{reached_counted, events_of-le}
 
 -- the number of a region
 abbrev pub number_of_region : Region → ℕ

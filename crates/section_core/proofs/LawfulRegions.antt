@@ -15,27 +15,27 @@ use Rattle.vm_model.specs.History.{World, Local, most_events}
 use Rattle.vm_model.specs.Carried.{IsKept}
 use Rattle.vm_model.specs.Parts.{Region, FreeRuns, LiveAreas, WaitingSpans, Pages, regions_of, wants}
 use Rattle.vm_model.specs.Run.{StandTogether}
-use Rattle.map_parts.specs.Kept.{IsSoundLocal}
+use Rattle.map_parts.specs.KeptByEvents.{IsSoundLocal}
 use Rattle.map_laws.proofs.MapLaws.{areas_apart}
-use Rattle.map_laws.proofs.Chosen.{sum_has, covers_one, holds_times, none_covers, times-one, times-append}
+use Rattle.map_laws.proofs.TestsAndFilters.{sum_has, covers_one, holds_times, none_covers, times-one, times-append}
 use Rattle.vm_model.specs.Areas.{spans_of}
 use Rattle.vm_model.specs.declared.areas.Area.{Area}
 use Rattle.map_laws.proofs.EndProofs.{histories_short}
 use Rattle.callers.specs.CarriedPlaces.{IsWhole, IsFlushed, EndsWithin}
 use Rattle.vm_model.specs.Space.{HasEnd}
-use Rattle.lazy_purge.specs.Waits.{HasPage}
+use Rattle.lazy_purge.specs.WaitingSet.{HasPage}
 use Rattle.std.proofs.lemmas.List.Elements.{All-nil, All-cons, All-weaker, All-append}
 use Rattle.vm_model.specs.Areas.{mapped_part}
 use Rattle.vm_model.specs.declared.areas.AreaKind.{AreaKind}
 use Rattle.section_core.specs.StandsWell.{AreRunsOf, IsDroppable, IsDroppedWell, AreReturnable, AreReturnedWell, IsMappable, IsMappedWell, IsUnmappable, IsUnmappedWell, IsFlushedWell, CanWait, IsWaitingWell, IsSettledWell}
 use Rattle.section_laws.proofs.NextAreas.{few_areas}
 use Rattle.section_laws.proofs.Memory.{memory_reached, pages_reached}
-use Rattle.page_pool.specs.Pages as page_pool
+use Rattle.page_pool.specs.PageMap as page_pool
 use Rattle.vm_model.specs.Legal as map_bare
 use Rattle.vm_model.specs.declared.areas.AreaKind.TheVariants as kind
 use Rattle.section_laws.specs.Lawful.{IsRunning, IsLawful}
 use Rattle.vm_model.specs.Blocks.{PartAt, first_page, mapped_pages, rounded}
-use Rattle.map_parts.specs.Kept.{IsSoundPlace}
+use Rattle.map_parts.specs.KeptByEvents.{IsSoundPlace}
 use Rattle.section_core.proofs.LawfulCallers as callers
 use Rattle.callers.proofs.Hulls.{hull_within}
 use Rattle.section_core.proofs.LawfulCallers.{AreInOneState, in_one_state, region_number, holds_last, holds_front}

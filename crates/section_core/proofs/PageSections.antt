@@ -10,7 +10,7 @@ use Rattle.vm_model.specs.Carried.{count_of}
 use Rattle.vm_model.proofs.Tabulated.{filter-same}
 use Rattle.map_laws.proofs.blocks.BlockFacts.{count_cons, among_count}
 use Rattle.map_laws.proofs.PlaceMoves.{given_all, given_still}
-use Rattle.chunk_slots.proofs.PageBits.{inside, from_before}
+use Rattle.chunk_slots.proofs.PagesInRow.{inside, from_before}
 use Rattle.vm_model.specs.Setup.{pages_in_units}
 use Rattle.vm_model.specs.PlainMap.{PlainMap}
 use Rattle.vm_model.specs.Frames.{is_used, free_frames, give_frames, sum_words}
@@ -22,9 +22,9 @@ use Rattle.vm_model.specs.Given.{given, with_frames}
 use Rattle.vm_model.specs.Next.{Next, Go, just, next}
 use Rattle.vm_model.specs.History.{Local, moved_to}
 use Rattle.vm_model.specs.Parts.{map_with}
-use Rattle.page_pool.specs.Pages.{Pages, free_of, IsMapped}
+use Rattle.page_pool.specs.PageMap.{Pages, free_of, IsMapped}
 use Rattle.page_pool.specs.Units.{AreDistinct, pages_at, bytes_at, with_frames_for, without_frames_for, with_zeroed, with_added, word_of, sum_of}
-use Rattle.page_pool.specs.Sections.{pages_in}
+use Rattle.page_pool.specs.PlainMapPages.{pages_in}
 use Rattle.section_core.specs.MadeSections.{IsMoved}
 use Rattle.section_core.specs.RegionSides.{pages_region}
 use Rattle.section_core.proofs.Moved.{moved_as}

@@ -20,9 +20,9 @@ use Rattle.callers.specs.declared.place.ObjectSize.{ObjectSize}
 use Rattle.callers.specs.declared.place.NewChunk.{NewChunk}
 use Rattle.callers.specs.declared.place.After.{After}
 use Rattle.augmented_tree.specs.FreeBlocks.{FreeBlocks}
-use Rattle.busy_areas.specs.LiveRows.{LiveRows}
+use Rattle.busy_areas.specs.LiveAreaRows.{LiveRows}
 use Rattle.map_blocks.specs.BlockRows.{BlockRows}
-use Rattle.page_pool.specs.Pages as pool
+use Rattle.page_pool.specs.PageMap as pool
 use Rattle.callers.specs.declared.place.Place.{Place}
 use Rattle.callers.specs.declared.place.Place.TheVariants as place
 use Rattle.callers.specs.CarriedPlaces.{Carried, place_of, carried_at}

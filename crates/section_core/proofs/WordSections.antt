@@ -10,7 +10,7 @@ use Rattle.map_laws.proofs.blocks.BlockWorlds.{only_one}
 use Rattle.map_laws.proofs.chunks.ChunkFacts.{unit_page, page_in_units}
 use Rattle.map_laws.proofs.chunks.ChunkMoves.{counted}
 use Rattle.section_laws.specs.Needs.{HasFrame, IsReachable}
-use Rattle.section_laws.specs.Words.{IsWithin, most_amount, most_word}
+use Rattle.section_laws.specs.WordBounds.{IsWithin, most_amount, most_word}
 use Rattle.section_laws.proofs.WordsSmall.{AreWithin, zero_within, wider, both_within, cell_within}
 
 -- the page of a word, in each unit

@@ -2,8 +2,8 @@
 use Rattle.vm_model.specs.Parts as parts
 use Rattle.vm_model.specs.Parts.{Region, PurgeTurn, AllocTurn, FreeRuns, LiveAreas, WaitingSpans, CpuBlocks}
 use Rattle.augmented_tree.specs.FreeBlocks.{FreeBlocks}
-use Rattle.busy_areas.specs.LiveRows.{LiveRows}
-use Rattle.page_pool.specs.Pages.{Pages as Held}
+use Rattle.busy_areas.specs.LiveAreaRows.{LiveRows}
+use Rattle.page_pool.specs.PageMap.{Pages as Held}
 use Rattle.map_blocks.specs.BlockRows.{BlockRows}
 use Rattle.chunk_slots.specs.ChunkRegion.{ChunkRegion}
 use Rattle.section_core.specs.declared.region.Side.{Side}

@@ -11,14 +11,14 @@ use Rattle.vm_model.specs.PlainMap.{Chunk}
 use Rattle.vm_model.specs.History.{Local}
 use Rattle.vm_model.specs.Parts.{Region, FreeRuns, LiveAreas, WaitingSpans, CpuBlocks, moves}
 use Rattle.vm_model.specs.Parts as parts
-use Rattle.busy_areas.specs.Kept.{IsUnused}
-use Rattle.lazy_purge.specs.Waits.{HasPage}
+use Rattle.busy_areas.specs.KeptAreas.{IsUnused}
+use Rattle.lazy_purge.specs.WaitingSet.{HasPage}
 use Rattle.map_blocks.specs.BlockRows.{BlockRows, IsHeld}
 use Rattle.map_blocks.specs.BlockRows.{IsUnused as IsNoBlocks}
-use Rattle.page_pool.specs.Pages.{Pages, IsBare, IsMapped}
+use Rattle.page_pool.specs.PageMap.{Pages, IsBare, IsMapped}
 use Rattle.chunk_slots.specs.ChunkRegion.{AreOfUnits}
 use Rattle.section_laws.specs.Needs.{AreAreasReady, ArePagesReady, IsPercpuReady}
-use Rattle.section_laws.specs.Words.{IsWithin, most_amount, most_word}
+use Rattle.section_laws.specs.WordBounds.{IsWithin, most_amount, most_word}
 use Rattle.callers.specs.declared.place.Place.{Place as Code}
 use Rattle.callers.specs.CarriedPlaces.{place_of, carried_at}
 use Rattle.callers.specs.CallerParts.{IsAt}

@@ -4,7 +4,7 @@ ghost use Rattle.std.specs.Prelude.{◌≡◌, ◌+◌, ◌≤◌, ◌<◌, ◌^
 ghost use Rattle.vm_model.specs.Areas.{group_kinds};
 ghost use Rattle.vm_model.specs.Parts.{WaitingSpans};
 ghost use Rattle.unit_layout.specs.declared.layout.Group.{Group};
-ghost use Rattle.congruent_areas.specs.Groups.{spans_at};
+ghost use Rattle.congruent_areas.specs.GroupsAtBase.{spans_at};
 ghost use Rattle.callers.specs.declared.place.Place.TheVariants as place;
 ghost use Rattle.section_core.specs.RegionSides.{free_region, areas_region};
 ghost use Rattle.section_core.specs.MadeSections.{IsMoved, TakesMemory};
@@ -74,7 +74,7 @@ pub(crate) fn find_groups_again(
 /// The span of a group of the chunk at a base.
 fn span_at(group: Group, base: u32) -> Span
     requires { base + group.offset < 2 ^ 32 }
-    ensures { result ≡ Rattle.congruent_areas.specs.Groups.span_at base group }
+    ensures { result ≡ Rattle.congruent_areas.specs.GroupsAtBase.span_at base group }
 {
     Span {
         start: base + group.offset,

@@ -17,16 +17,16 @@ use Rattle.map_parts.proofs.ReachedKept.{reached_worlds_keep_apart}
 use Rattle.map_laws.proofs.EndProofs.{histories_short}
 use Rattle.map_laws.proofs.MapLegal.{IsReady}
 use Rattle.map_laws.proofs.Namings.{starts_once}
-use Rattle.map_laws.proofs.Chosen.{or_right, covers_times, none_covers, holds_from, times-append}
+use Rattle.map_laws.proofs.TestsAndFilters.{or_right, covers_times, none_covers, holds_from, times-append}
 use Rattle.map_laws.proofs.chunks.ChunkFalls.{mapped_at}
 use Rattle.map_laws.proofs.TraceWorlds.{holding_here, once_here}
 use Rattle.section_laws.specs.Lawful.{IsRunning}
 use Rattle.section_laws.specs.Needs.{CanSettle, AreAreasReady, CanWaitThere, AreWaitsReady}
-use Rattle.section_laws.specs.Laws.{AreasAreReady, WaitsAreReady}
+use Rattle.section_laws.specs.ReadyRegions.{AreasAreReady, WaitsAreReady}
 use Rattle.section_laws.proofs.OneState.{in_one_state}
 use Rattle.section_laws.proofs.NextAreas.{few_areas}
 use Rattle.section_laws.proofs.PlacesListed.{IsListed, AreFullSpans, groups_full}
-use Rattle.section_laws.proofs.Callers.{framed, world, setup_here, ready, listed}
+use Rattle.section_laws.proofs.KeptCallers.{framed, world, setup_here, ready, listed}
 
 -- a page of one of the spans is a page of them
 covered_at : (spans : List Span) (i : ℕ) (s : Span) (page : ℕ) → slice_get spans i ≡ Some s → holds s page ≡ true → covers spans page ≡ true

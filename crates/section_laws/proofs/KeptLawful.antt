@@ -13,15 +13,15 @@ use Rattle.vm_model.specs.Rules.{IsSetup}
 use Rattle.vm_model.specs.Parts.{Region, cpu_blocks, regions_of, state_of, wants, moves, after}
 use Rattle.vm_model.specs.Run.{section_by}
 use Rattle.map_parts.specs.Locality.{IsOverOneRegion}
-use Rattle.map_parts.specs.Kept.{KeepsApart, IsSoundLocal}
-use Rattle.map_parts.proofs.SectionProofs.{run_of_sections}
+use Rattle.map_parts.specs.KeptByEvents.{KeepsApart, IsSoundLocal}
+use Rattle.map_parts.proofs.SectionRunProofs.{run_of_sections}
 use Rattle.map_parts.proofs.LocalityProofs.{over_one_region}
 use Rattle.map_parts.proofs.KeptApart.{kept_worlds_fall_apart, kept_callers_stay_within}
 use Rattle.map_parts.proofs.ReachedKept.{reached_worlds_keep_apart}
 use Rattle.map_parts.proofs.WholeRuns.{runs_are_parts}
 use Rattle.map_laws.proofs.ReachedSteps.{steps_reached}
 use Rattle.section_laws.specs.Lawful.{IsRunning, IsLawful}
-use Rattle.section_laws.specs.Turns.{SectionsKeepLawful, above, ReachIsTheRegions, SectionsKeepReach, Moves, AllMove, all_move, TurnsArePicks}
+use Rattle.section_laws.specs.MovesInTurn.{SectionsKeepLawful, above, ReachIsTheRegions, SectionsKeepReach, Moves, AllMove, all_move, TurnsArePicks}
 
 module _ (c : Setup) (opening : List Call) (calls : List (List Call)) (w : World) (is : IsRunning c opening calls w) where
   pub next_running : (k : ℕ) → IsRunning c opening calls (step w k)

@@ -2,10 +2,10 @@ pub mod OneState
 pub mod KeptLawful
 pub mod Memory
 pub mod NextAreas
-pub mod UnitPages
+pub mod PagesStandOnce
 pub mod PlacesListed
 pub mod ObjectsFound
-pub mod Callers
+pub mod KeptCallers
 pub mod PagesReady
 pub mod AreasReady
 pub mod PercpuReady

@@ -13,7 +13,7 @@ use Rattle.vm_model.specs.Events.{Section, Refuse, TakePurge, GivePurge, TakeAll
 use Rattle.vm_model.specs.History.{World}
 use Rattle.vm_model.specs.LegalHistory.{IsReached}
 use Rattle.vm_model.proofs.PaintRuns.{length-paint}
-use Rattle.map_laws.proofs.Frames.{lasts}
+use Rattle.map_laws.proofs.KeptThroughSteps.{lasts}
 use Rattle.map_laws.proofs.PlaceMoves.{length-give_frames}
 
 length-write_cell : (cells : List ℤ) (cell : Option ℕ) (value : ℤ) → length (write_cell cells cell value) ≡ length cells

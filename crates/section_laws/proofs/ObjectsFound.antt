@@ -4,10 +4,10 @@ use Rattle.vm_model.specs.Setup.{Setup}
 use Rattle.vm_model.specs.PlainMap.{Chunk, Object, Life}
 use Rattle.vm_model.specs.Chunks.{ObjectAt, chunks_numbered, find_object}
 use Rattle.map_laws.proofs.blocks.BlockFacts.{same_test, to_same}
-use Rattle.map_laws.proofs.Chosen.{filter_has, filter_in, find_has}
+use Rattle.map_laws.proofs.TestsAndFilters.{filter_has, filter_in, find_has}
 use Rattle.map_laws.proofs.GivenMeets.{flat_in}
 use Rattle.map_laws.proofs.objects.ObjectFacts.{AreChunksFine, IsObject, object_only}
-use Rattle.map_laws.proofs.Fits.{find_some, flat_has}
+use Rattle.map_laws.proofs.SearchEnds.{find_some, flat_has}
 
 module _ (c : Setup) (placing : ℕ → ℕ → Type 0) (chunks : List Chunk) (fine : AreChunksFine c placing chunks) (at : ObjectAt) (life : Life) (is : IsObject chunks at life) where
   pub object_found : find_object at chunks ≡ Some is.object

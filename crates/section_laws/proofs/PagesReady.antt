@@ -16,15 +16,15 @@ use Rattle.map_laws.proofs.SizedCalls.{IsNow}
 use Rattle.map_laws.proofs.MapLegal.{IsReady}
 use Rattle.map_laws.proofs.objects.ObjectFacts.{IsObject, IsObjectAt}
 use Rattle.map_laws.proofs.objects.ObjectsReady.{named_live}
-use Rattle.map_laws.proofs.Chosen.{one_if_le}
+use Rattle.map_laws.proofs.TestsAndFilters.{one_if_le}
 use Rattle.map_laws.proofs.objects.ObjectWords.{add_within, sum_within}
 use Rattle.section_laws.specs.Lawful.{IsRunning}
 use Rattle.section_laws.specs.Needs.{CanGetFrames, CanLoseFrames, IsReachable, ArePagesReady}
-use Rattle.section_laws.specs.Laws.{PagesAreReady}
+use Rattle.section_laws.specs.ReadyRegions.{PagesAreReady}
 use Rattle.section_laws.proofs.OneState.{in_one_state}
 use Rattle.section_laws.proofs.PlacesListed.{IsListed, AreOnce}
-use Rattle.section_laws.proofs.UnitPages.{units_once}
-use Rattle.section_laws.proofs.Callers.{framed, world, mapped_inside, unmapped_inside, lies, sized, setup_here, ready, hand, chunk_here, listed, now}
+use Rattle.section_laws.proofs.PagesStandOnce.{units_once}
+use Rattle.section_laws.proofs.KeptCallers.{framed, world, mapped_inside, unmapped_inside, lies, sized, setup_here, ready, hand, chunk_here, listed, now}
 
 one_once : (page : ℕ) → AreOnce (page ∷ [])
 one_once page x = omega (arith, count_cons x page [], one_if_le (page == x))

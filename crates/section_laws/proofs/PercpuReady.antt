@@ -14,17 +14,17 @@ use Rattle.map_laws.proofs.areas.AreaWorlds.{IsLegallyLasting, legally_lasts}
 use Rattle.map_laws.proofs.EndProofs.{histories_short}
 use Rattle.map_laws.proofs.MapLegal.{IsReady}
 use Rattle.map_laws.proofs.objects.ObjectFacts.{IsObjectAt}
-use Rattle.map_laws.proofs.Places.{IsObjectSize, IsProper}
+use Rattle.map_laws.proofs.ProperPlaces.{IsObjectSize, IsProper}
 use Rattle.map_laws.proofs.chunks.ChunkFalls.{AreSized, sized_section}
 use Rattle.map_laws.proofs.TraceWorlds.{proper_here}
 use Rattle.call_laws.specs.Room.{may_place}
 use Rattle.call_laws.proofs.Rooms.{room_counts}
 use Rattle.section_laws.specs.Lawful.{IsRunning}
 use Rattle.section_laws.specs.Needs.{CanBeAsked, IsPercpuReady}
-use Rattle.section_laws.specs.Laws.{PercpuIsReady, NumbersAreLeft, ChunksHaveUnits}
+use Rattle.section_laws.specs.ReadyRegions.{PercpuIsReady, NumbersAreLeft, ChunksHaveUnits}
 use Rattle.section_laws.proofs.OneState.{in_one_state}
 use Rattle.section_laws.proofs.PlacesListed.{IsListed, IsObjectAlign}
-use Rattle.section_laws.proofs.Callers.{framed, world, has_object, setup_here, caller_here, ready, hand, listed}
+use Rattle.section_laws.proofs.KeptCallers.{framed, world, has_object, setup_here, caller_here, ready, hand, listed}
 
 asked : (bytes align : ℕ) → IsObjectSize bytes → IsObjectAlign align → CanBeAsked bytes align
 asked bytes align size fine = record { more = size.1; whole = size.2; high = size.0; power = fine.power; align_low = fine.low; align_high = fine.high }

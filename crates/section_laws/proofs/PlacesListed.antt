@@ -22,16 +22,16 @@ use Rattle.vm_model.specs.Areas.{is_area, named_areas}
 use Rattle.vm_model.specs.Rules.{IsPower, IsTrace, AreGroups}
 use Rattle.map_laws.proofs.PlaceRows.{PlaceRow, UnmappedArea, UnlinkedBlock, UnlinkedGroups, WaitedTooMuch, WaitedSearch, place_row}
 use Rattle.map_laws.proofs.areas.AreaWorlds.{IsLegalStep, IsLegallyLasting, legally_lasts}
-use Rattle.map_laws.proofs.Frames.{IsFramed, not_over, has_call, set_cases, append_cases}
+use Rattle.map_laws.proofs.KeptThroughSteps.{IsFramed, not_over, has_call, set_cases, append_cases}
 use Rattle.map_laws.proofs.chunks.ChunkFalls.{mapped_at}
 use Rattle.map_laws.proofs.TraceWorlds.{AreFull, IsTraceWorld, trace_first, trace_lasts}
 use Rattle.map_laws.proofs.blocks.BlockFacts.{to_same}
-use Rattle.map_laws.proofs.Chosen.{filter_has, sum_by-filter-le, or_either}
+use Rattle.map_laws.proofs.TestsAndFilters.{filter_has, sum_by-filter-le, or_either}
 use Rattle.map_laws.proofs.chunks.ChunkRows.{placement_is}
-use Rattle.map_laws.proofs.Places.{OnNext, either_place, answers_call}
+use Rattle.map_laws.proofs.ProperPlaces.{OnNext, either_place, answers_call}
 use Rattle.std.proofs.lemmas.Option.{same_Some}
 use Rattle.std.proofs.Math.Nat.{pow-le-pow_right}
-use Rattle.section_laws.proofs.UnitPages.{row_once}
+use Rattle.section_laws.proofs.PagesStandOnce.{row_once}
 
 -- an alignment of 4 to 4,096 bytes
 pub record IsObjectAlign (align : ℕ) : Type 0 where

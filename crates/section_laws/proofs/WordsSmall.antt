@@ -24,13 +24,13 @@ use Rattle.vm_model.specs.Parts.{Region, Pages}
 use Rattle.vm_model.proofs.Paint.{slice_get-paint}
 use Rattle.map_laws.proofs.areas.AreaWorlds.{IsLegalStep, legally_lasts, replicate-at}
 use Rattle.map_laws.proofs.Deeds.{adds_at}
-use Rattle.map_laws.proofs.Frames.{IsFramed, has_call, not_over, set_cases}
-use Rattle.map_laws.proofs.Places.{answers_call}
+use Rattle.map_laws.proofs.KeptThroughSteps.{IsFramed, has_call, not_over, set_cases}
+use Rattle.map_laws.proofs.ProperPlaces.{answers_call}
 use Rattle.map_laws.proofs.SizedCalls.{IsUse, AreSized, sized_lasts, sized_first, calls_at}
-use Rattle.map_laws.proofs.Words.{is_add}
+use Rattle.map_laws.proofs.FrameWords.{is_add}
 use Rattle.call_laws.proofs.CallWorlds.{histories_have_shapes}
 use Rattle.section_laws.specs.Lawful.{AreSmall, IsRunning}
-use Rattle.section_laws.specs.Words.{IsWithin, most_amount, most_word, CellsAreSmall, AmountsAreSmall}
+use Rattle.section_laws.specs.WordBounds.{IsWithin, most_amount, most_word, CellsAreSmall, AmountsAreSmall}
 use Rattle.section_laws.proofs.OneState.{in_one_state}
 use Rattle.vm_model.specs.declared.calls.Reply.TheVariants as reply
 

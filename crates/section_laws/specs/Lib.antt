@@ -1,5 +1,5 @@
 pub mod Lawful
-pub mod Turns
+pub mod MovesInTurn
 pub mod Needs
-pub mod Laws
-pub mod Words
+pub mod ReadyRegions
+pub mod WordBounds

@@ -9,7 +9,7 @@
 //!   callers that move in turn are picks of the world.
 #![tactic(auto)]
 
-ghost use Rattle.section_laws.specs.Turns.{SectionsKeepLawful, ReachIsTheRegions, SectionsKeepReach, TurnsArePicks};
+ghost use Rattle.section_laws.specs.MovesInTurn.{SectionsKeepLawful, ReachIsTheRegions, SectionsKeepReach, TurnsArePicks};
 
 /// A section that moves leaves a lawful state lawful, and its caller's reach as it was, which is the number of regions.
 /// Callers that move in turn are picks of the world.
@@ -20,8 +20,8 @@ pub fn turns()
     ensures picks { TurnsArePicks }
 {}
 
-ghost use Rattle.section_laws.specs.Words.{CellsAreSmall, AmountsAreSmall};
-ghost use Rattle.section_laws.specs.Laws.{PagesAreReady, AreasAreReady, WaitsAreReady, PercpuIsReady, NumbersAreLeft, ChunksHaveUnits};
+ghost use Rattle.section_laws.specs.WordBounds.{CellsAreSmall, AmountsAreSmall};
+ghost use Rattle.section_laws.specs.ReadyRegions.{PagesAreReady, AreasAreReady, WaitsAreReady, PercpuIsReady, NumbersAreLeft, ChunksHaveUnits};
 
 /// What stands in one state of a run with a caller, the page map, the live areas, the waiting spans or the chunks, has what
 /// the caller's section asks for.

@@ -6,18 +6,18 @@ use mathlib.Core.Option.{some}
 use lib.ListN.{get_elem?}
 use Rattle.atomic_table.specs.Table.{State, Me, keeps, Allows}
 use Rattle.atomic_table.proofs.Lists.{set_else}
-use Rattle.map_parts.specs.Sections.{KeepsLawful}
+use Rattle.map_parts.specs.SectionRuns.{KeepsLawful}
 use Rattle.vm_model.specs.Run.{state_after}
 use Rattle.vm_model.proofs.Elements.{slice_get-set_same, slice_get-set_other}
-use Rattle.section_laws.specs.Turns.{AllMove}
+use Rattle.section_laws.specs.MovesInTurn.{AllMove}
 use Rattle.section_table.specs.declared.views.Held.{Held}
 use Rattle.section_table.specs.declared.views.View.{View}
 use Rattle.section_table.specs.Meanings.{Meanings}
-use Rattle.section_table.specs.Places.{places, AreBelow}
-use Rattle.section_table.specs.Views.{Has, HasCaller}
-use Rattle.section_table.specs.Rule.{IsViewOf, IsKept, IsRegionOf, IsRuled, HasHaltMade}
-use Rattle.section_table.specs.Steps.{drawn, Draws}
-use Rattle.section_table.proofs.Lists.{or_else, some_is, set_there, got_set, each_set, same_there}
+use Rattle.section_table.specs.CallerPlaces.{places, AreBelow}
+use Rattle.section_table.specs.PassViews.{Has, HasCaller}
+use Rattle.section_table.specs.TableRule.{IsViewOf, IsKept, IsRegionOf, IsRuled, HasHaltMade}
+use Rattle.section_table.specs.TableSteps.{drawn, Draws}
+use Rattle.section_table.proofs.ElementsByPlace.{or_else, some_is, set_there, got_set, each_set, same_there}
 use Rattle.section_table.proofs.Stamps.{more_here, more_else, at_most, below_more, below_append}
 use Rattle.section_table.proofs.LogMoves.{moved, run_more, all_more, all_below}
 

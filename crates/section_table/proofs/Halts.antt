@@ -7,9 +7,9 @@ use lib.ListN.{get_elem?}
 use Rattle.atomic_table.specs.Table.{State, Me, keeps, Allows}
 use Rattle.section_table.specs.declared.views.View.{View}
 use Rattle.section_table.specs.Meanings.{Meanings}
-use Rattle.section_table.specs.Views.{flagged}
-use Rattle.section_table.specs.Rule.{IsRuled}
-use Rattle.section_table.specs.Steps.{Reads}
+use Rattle.section_table.specs.PassViews.{flagged}
+use Rattle.section_table.specs.TableRule.{IsRuled}
+use Rattle.section_table.specs.TableSteps.{Reads}
 use Rattle.section_table.proofs.OneView.{IsOneView, keeps_rule}
 
 is_one : (n : ℕ) → eqb n 1 ≡ true → n ≡ 1

@@ -1,11 +1,11 @@
 -- Callers that all move: one more, and how many regions, locals and callers there are.
 use Rattle.std.proofs.Common.{◌≡◌, ℕ, ◌<◌, true, List, [], ◌∷◌, ◌++◌, length, set, Some, slice_get, refl, ap, ◌∙◌, subst, length-set}
 use Rattle.vm_model.specs.Run.{section_by, state_after}
-use Rattle.map_parts.proofs.SectionProofs.{run_of_sections}
-use Rattle.section_laws.specs.Turns.{Moves, AllMove}
+use Rattle.map_parts.proofs.SectionRunProofs.{run_of_sections}
+use Rattle.section_laws.specs.MovesInTurn.{Moves, AllMove}
 use Rattle.section_table.specs.Meanings.{Meanings}
-use Rattle.section_table.specs.Places.{AreBelow}
-use Rattle.section_table.proofs.Lists.{within}
+use Rattle.section_table.specs.CallerPlaces.{AreBelow}
+use Rattle.section_table.proofs.ElementsByPlace.{within}
 
 module _ {R L : Type 0} (m : Meanings R L) where
   abbrev one : List R × List L → ℕ → List R × List L

@@ -11,10 +11,10 @@ use Rattle.vm_model.specs.Run.{state_after}
 use Rattle.section_table.specs.declared.views.Held.{Held}
 use Rattle.section_table.specs.declared.views.View.{View}
 use Rattle.section_table.specs.Meanings.{Meanings}
-use Rattle.section_table.specs.Places.{AreBelow}
-use Rattle.section_table.specs.Views.{Has, HasCaller}
-use Rattle.section_table.specs.Rule.{IsViewOf, IsKept, IsRegionOf, IsRuled, HasHaltMade}
-use Rattle.section_table.proofs.Lists.{set_there, each_set, same_there}
+use Rattle.section_table.specs.CallerPlaces.{AreBelow}
+use Rattle.section_table.specs.PassViews.{Has, HasCaller}
+use Rattle.section_table.specs.TableRule.{IsViewOf, IsKept, IsRegionOf, IsRuled, HasHaltMade}
+use Rattle.section_table.proofs.ElementsByPlace.{set_there, each_set, same_there}
 
 module _ {R L : Type 0} (m : Meanings R L) (regions : List R) (locals : List L) where
   abbrev V : Type 0

@@ -3,8 +3,8 @@ use Rattle.std.proofs.Common.{◌≡◌, ℕ, zero, suc, ◌+◌, ◌<◌, ◌�
 use Rattle.section_table.specs.declared.caller.Caller.{Caller}
 use Rattle.section_table.specs.declared.views.Held.{Held}
 use Rattle.section_table.specs.Shown.{shown_of}
-use Rattle.section_table.specs.Views.{only, merged, put_at}
-use Rattle.section_table.proofs.Lists.{some_is, none≢some}
+use Rattle.section_table.specs.PassViews.{only, merged, put_at}
+use Rattle.section_table.proofs.ElementsByPlace.{some_is, none≢some}
 
 module _ {X : Type 0} where
   pub put_end : (ys : List (Option X)) (y : Option X) → put_at ys (length ys) y ≡ ys ++ y ∷ []

@@ -2,7 +2,7 @@
 use Rattle.std.proofs.Common.{◌≡◌, ◌≢◌, ℕ, zero, suc, ◌+◌, ◌*◌, ◌<◌, ◌≤◌, eqb, Bool, true, false, List, [], ◌∷◌, ◌++◌, length, refl, ap, ◌∙◌, subst, arith, eq-eqb, ne_eqb, if◌then◌else◌}
 use mathlib.Core.Logic.{dite}
 use native.Mathlib.Decide.{ℕ_discrete}
-use Rattle.section_table.specs.Places.{places_from, places, AreBelow}
+use Rattle.section_table.specs.CallerPlaces.{places_from, places, AreBelow}
 
 one_more : (b : Bool) (k : ℕ) (p q : List ℕ) (y z : ℕ) → p ≡ q ++ y ∷ [] → y ≡ z → (if b then k ∷ p else p) ≡ (if b then k ∷ q else q) ++ z ∷ []
 one_more true k p q y z e f = ap (λ l. k ∷ l) (e ∙ ap (λ w. q ++ w ∷ []) f)

@@ -8,11 +8,11 @@ use Rattle.section_table.specs.declared.acted.Acted.{Acted}
 use Rattle.section_table.specs.declared.acted.Acted.TheVariants.{Moved}
 use Rattle.section_table.specs.Meanings.{Meanings}
 use Rattle.section_table.specs.Shown.{held_of, shown_of}
-use Rattle.section_table.specs.Views.{Has, HasCaller, IsWithin, flagged, holding, with_event}
-use Rattle.section_table.specs.Steps.{Meet}
-use Rattle.section_table.specs.Events.{IsEvent, MakesSection, IsEventOf, Attempts}
+use Rattle.section_table.specs.PassViews.{Has, HasCaller, IsWithin, flagged, holding, with_event}
+use Rattle.section_table.specs.TableSteps.{Meet}
+use Rattle.section_table.specs.Attempts.{IsEvent, MakesSection, IsEventOf, Attempts}
 use Rattle.section_table.specs.Acts.{HasMoved, HasRefused}
-use Rattle.section_table.proofs.Lists.{some_is, none≢some, got_set, map_got, got_map}
+use Rattle.section_table.proofs.ElementsByPlace.{some_is, none≢some, got_set, map_got, got_map}
 
 module _ {X : Type 0} where
   pub set_twice : (xs : List X) (i : ℕ) (a b : X) → set (set xs i a) i b ≡ set xs i b

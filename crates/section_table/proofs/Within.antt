@@ -5,10 +5,10 @@ use Rattle.section_table.specs.declared.views.Held.{Held}
 use Rattle.section_table.specs.declared.views.View.{View}
 use Rattle.section_table.specs.declared.caller.Caller.{Caller}
 use Rattle.section_table.specs.Shown.{shown_of}
-use Rattle.section_table.specs.Views.{Has, IsWithin, only, merged, without, alone, both_of}
-use Rattle.section_table.proofs.Lists.{none≢some, got_set, got_map}
-use Rattle.section_table.proofs.Splits.{only_that}
-use Rattle.section_table.proofs.Joins.{from_one}
+use Rattle.section_table.specs.PassViews.{Has, IsWithin, only, merged, without, alone, both_of}
+use Rattle.section_table.proofs.ElementsByPlace.{none≢some, got_set, got_map}
+use Rattle.section_table.proofs.SplitPasses.{only_that}
+use Rattle.section_table.proofs.JoinedPasses.{from_one}
 use Rattle.section_table.proofs.Placed.{only_is, shown_alone, shown_merged}
 
 module _ {R L : Type 0} (reach : L → ℕ) (n : ℕ) where

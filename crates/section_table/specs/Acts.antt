@@ -6,8 +6,8 @@ use Rattle.section_table.specs.declared.views.View.{View}
 use Rattle.section_table.specs.declared.acted.Acted.{Acted}
 use Rattle.section_table.specs.declared.acted.Acted.TheVariants.{Moved, Ended, Halted}
 use Rattle.section_table.specs.Meanings.{Meanings}
-use Rattle.section_table.specs.Views.{Has, flagged, with_event}
-use Rattle.section_table.specs.Steps.{IsPast}
+use Rattle.section_table.specs.PassViews.{Has, flagged, with_event}
+use Rattle.section_table.specs.TableSteps.{IsPast}
 
 module _ {R L : Type 0} where
   -- the caller made one event, over the region that it wanted: its local is what the section leaves, and it has one stamp more

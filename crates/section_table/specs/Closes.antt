@@ -1,14 +1,14 @@
 -- What a table comes to.
 use Rattle.std.specs.Prelude.{◌≡◌, ℕ, List, Some, slice_get}
 use Rattle.vm_model.specs.Run.{state_after}
-use Rattle.section_laws.specs.Turns.{AllMove}
+use Rattle.section_laws.specs.MovesInTurn.{AllMove}
 use Rattle.section_table.specs.declared.views.Held.{Held}
 use Rattle.section_table.specs.declared.views.View.{View}
 use Rattle.section_table.specs.declared.table.Key.{Key}
 use Rattle.section_table.specs.declared.closed.Closed.{Closed}
 use Rattle.section_table.specs.Meanings.{Meanings}
-use Rattle.section_table.specs.Places.{places}
-use Rattle.section_table.specs.Views.{Has}
+use Rattle.section_table.specs.CallerPlaces.{places}
+use Rattle.section_table.specs.PassViews.{Has}
 
 module _ {R L : Type 0} where
   -- the regions and locals at the start

@@ -1,11 +1,11 @@
 pub mod Meanings
 pub mod Turn
-pub mod Places
-pub mod Views
+pub mod CallerPlaces
+pub mod PassViews
 pub mod Shown
-pub mod Rule
-pub mod Steps
+pub mod TableRule
+pub mod TableSteps
 pub mod Acts
-pub mod Events
+pub mod Attempts
 pub mod Closes
-pub mod Written
+pub mod WrittenLists

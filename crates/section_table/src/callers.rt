@@ -1,7 +1,7 @@
 //! The callers of a pass, by their numbers.
 ghost use Rattle.std.specs.Prelude.{◌≡◌, ◌+◌, ◌-◌, ◌≤◌, ◌<◌, IfOk, IfSome, Some, None, map, replicate, length, slice_get, vec_capacity};
 ghost use Rattle.section_table.specs.Shown.{shown_of};
-ghost use Rattle.section_table.specs.Views.{newcomer, merged, put_at};
+ghost use Rattle.section_table.specs.PassViews.{newcomer, merged, put_at};
 ghost use Rattle.section_table.specs.declared.caller.Caller.{Caller};
 
 use crate::caller::Caller;

@@ -1,11 +1,11 @@
 //! The end of a table.
 ghost use Rattle.std.specs.Prelude.{◌≡◌, ◌≤◌, [], length, map, replicate, vec_capacity, IfOk};
 ghost use Rattle.std.specs.Slots.{slots_items, slots_len, IsFull};
-ghost use Rattle.section_table.specs.Places.{AreBelow};
+ghost use Rattle.section_table.specs.CallerPlaces.{AreBelow};
 ghost use Rattle.section_table.specs.Shown.{shown_of};
-ghost use Rattle.section_table.specs.Views.{HasAll};
+ghost use Rattle.section_table.specs.PassViews.{HasAll};
 ghost use Rattle.section_table.specs.Closes.{IsClosed};
-ghost use Rattle.section_table.specs.Written.{written, all_written, locals_of, HasStampsBelow};
+ghost use Rattle.section_table.specs.WrittenLists.{written, all_written, locals_of, HasStampsBelow};
 
 use crate::caller::Caller;
 use crate::closed::Closed;

@@ -1,9 +1,9 @@
 //! One try of a caller: the turn of the region that it wants, the section, the stamp, and the region and turn back.
 ghost use Rattle.std.specs.Prelude.{◌≡◌, ◌+◌, ◌^◌, ◌<◌, ◌≤◌, Some, None, [], ◌∷◌, vec_len, vec_capacity};
-ghost use Rattle.section_table.specs.Views.{Has};
+ghost use Rattle.section_table.specs.PassViews.{Has};
 ghost use Rattle.section_table.specs.Shown.{held_of};
-ghost use Rattle.section_table.specs.Steps.{Meet};
-ghost use Rattle.section_table.specs.Events.{MakesSection};
+ghost use Rattle.section_table.specs.TableSteps.{Meet};
+ghost use Rattle.section_table.specs.Attempts.{MakesSection};
 
 use crate::Gate;
 use crate::caller::Caller;

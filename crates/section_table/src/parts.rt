@@ -1,7 +1,7 @@
 //! Regions, callers, and the section that a caller makes over a region.
 ghost use Rattle.std.specs.Prelude.{◌≡◌, ◌≤◌, ◌<◌, MatchResult, IfSome};
 ghost use Rattle.vm_model.specs.Run.{StandTogether};
-ghost use Rattle.map_parts.specs.Sections.{KeepsLawful};
+ghost use Rattle.map_parts.specs.SectionRuns.{KeepsLawful};
 ghost use Rattle.section_table.specs.Meanings.{Meanings};
 ghost use Rattle.section_table.specs.Turn.{Answers};
 

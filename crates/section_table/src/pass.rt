@@ -1,7 +1,7 @@
 //! Some of the callers, for one thread.
 ghost use Rattle.std.specs.Prelude.{◌≡◌, [], None, map};
 ghost use Rattle.section_table.specs.Shown.{shown_of};
-ghost use Rattle.section_table.specs.Views.{Has, HasCaller, IsWithin};
+ghost use Rattle.section_table.specs.PassViews.{Has, HasCaller, IsWithin};
 ghost use Rattle.section_table.specs.declared.views.Held.{Held};
 
 use crate::caller::Caller;

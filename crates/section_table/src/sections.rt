@@ -1,6 +1,6 @@
 //! A table of regions behind turns of their own, and its passes.
 ghost use Rattle.std.specs.Prelude.{◌≡◌, ℕ, ◌+◌, ◌≤◌, ◌<◌, length, replicate, slice_get, IfOk, OnOk, OnErr, IfErr, Some};
-ghost use Rattle.section_table.specs.Views.{HasCaller, starting, without, alone, both_of};
+ghost use Rattle.section_table.specs.PassViews.{HasCaller, starting, without, alone, both_of};
 ghost use Rattle.section_table.specs.Acts.{Acts};
 
 use crate::Gate;

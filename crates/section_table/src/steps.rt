@@ -1,8 +1,8 @@
 //! The steps of a pass, each with what it tells.
 ghost use Rattle.std.specs.Prelude.{◌≡◌, ℕ, ◌+◌, ◌^◌, ◌<◌, true, false, length, Some, None, [], ◌∷◌};
 ghost use Rattle.section_table.specs.declared.views.Held.{Held};
-ghost use Rattle.section_table.specs.Views.{Has, HasCaller, without, alone, both_of, flagged, holding};
-ghost use Rattle.section_table.specs.Steps.{Meet, IsPast, drawn};
+ghost use Rattle.section_table.specs.PassViews.{Has, HasCaller, without, alone, both_of, flagged, holding};
+ghost use Rattle.section_table.specs.TableSteps.{Meet, IsPast, drawn};
 
 use crate::parts::Parts;
 use crate::table::{Actor, Ask, Cut, Draw, Halt, Merge, Place, Release, Take, Top};

@@ -21,8 +21,8 @@ pub struct Turns<P> {
 
 impl<P: Parts> TableRule<P::Region, View<P::Region, P::Local>, Key<P::Region, P::Local>>
     for Turns<P> {
-    ghost use Rattle.section_table.specs.Rule.{IsRuled};
-    ghost use Rattle.section_table.specs.Views.{starting};
+    ghost use Rattle.section_table.specs.TableRule.{IsRuled};
+    ghost use Rattle.section_table.specs.PassViews.{starting};
 
     ghost holds = { λ key. IsRuled P.meaning key.regions.value.items key.locals.value.items };
 
@@ -56,7 +56,7 @@ pub struct Take<P> {
 
 impl<P: Parts> Play<P::Region, View<P::Region, P::Local>> for Take<P> {
     ghost use Rattle.std.specs.Prelude.{◌≡◌, ℕ, ◌+◌};
-    ghost use Rattle.section_table.specs.Steps.{Takes};
+    ghost use Rattle.section_table.specs.TableSteps.{Takes};
 
     ghost then = { λ step me found me'. (k : ℕ) → step.word ≡ k + 2
         → Takes P.meaning k me found me' };
@@ -68,7 +68,7 @@ pub struct Draw<P, C> {
 }
 
 impl<P: Parts, C: Actor> Play<P::Region, View<P::Region, P::Local>> for Draw<P, C> {
-    ghost use Rattle.section_table.specs.Steps.{Draws};
+    ghost use Rattle.section_table.specs.TableSteps.{Draws};
 
     ghost then = { λ step me found me'. Draws P.meaning C.caller me found me' };
 }
@@ -78,7 +78,7 @@ pub struct Release;
 
 impl<R, L> Play<R, View<R, L>> for Release {
     ghost use Rattle.std.specs.Prelude.{◌≡◌, [], None};
-    ghost use Rattle.section_table.specs.Views.{holding};
+    ghost use Rattle.section_table.specs.PassViews.{holding};
 
     ghost then = { λ step me found me'. me' ≡ (holding None me.0, []) };
 }
@@ -88,7 +88,7 @@ pub struct Halt;
 
 impl<R, L> Play<R, View<R, L>> for Halt {
     ghost use Rattle.std.specs.Prelude.{◌≡◌, true};
-    ghost use Rattle.section_table.specs.Views.{flagged};
+    ghost use Rattle.section_table.specs.PassViews.{flagged};
 
     ghost then = { λ step me found me'. me' ≡ (flagged true true me.0, me.1) };
 }
@@ -97,7 +97,7 @@ impl<R, L> Play<R, View<R, L>> for Halt {
 pub struct Ask;
 
 impl<R, L> Play<R, View<R, L>> for Ask {
-    ghost use Rattle.section_table.specs.Steps.{Reads};
+    ghost use Rattle.section_table.specs.TableSteps.{Reads};
 
     ghost then = { λ step me found me'. Reads me found me' };
 }
@@ -108,7 +108,7 @@ pub struct Cut<C> {
 }
 
 impl<R, L, C: Actor> Split<View<R, L>> for Cut<C> {
-    ghost use Rattle.section_table.specs.Views.{without, alone};
+    ghost use Rattle.section_table.specs.PassViews.{without, alone};
 
     ghost left = { without C.caller };
 
@@ -119,7 +119,7 @@ impl<R, L, C: Actor> Split<View<R, L>> for Cut<C> {
 pub struct Merge;
 
 impl<R, L> Join<View<R, L>> for Merge {
-    ghost use Rattle.section_table.specs.Views.{both_of, spent};
+    ghost use Rattle.section_table.specs.PassViews.{both_of, spent};
 
     ghost both = { both_of };
 

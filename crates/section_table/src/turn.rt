@@ -1,9 +1,9 @@
 //! One turn of a pass: a halt is read first, and then one try is made.
 ghost use Rattle.std.specs.Prelude.{◌≡◌, ◌+◌, ◌<◌, ◌≤◌, Some, slice_get, None, [], map};
-ghost use Rattle.section_table.specs.Views.{HasCaller, Has};
+ghost use Rattle.section_table.specs.PassViews.{HasCaller, Has};
 ghost use Rattle.section_table.specs.Acts.{Tries};
 ghost use Rattle.section_table.specs.Shown.{shown_of, held_of};
-ghost use Rattle.section_table.specs.Events.{Attempts, MakesSection};
+ghost use Rattle.section_table.specs.Attempts.{Attempts, MakesSection};
 ghost use Rattle.section_table.specs.declared.caller.Caller.{Caller};
 
 use crate::Gate;

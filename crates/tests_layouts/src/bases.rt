@@ -1,6 +1,6 @@
 //! Free pages in which groups are carved.
 ghost use Rattle.std.specs.Prelude.{◌≤◌};
-ghost use Rattle.congruent_areas.specs.Groups.{AreLaidOut};
+ghost use Rattle.congruent_areas.specs.GroupsAtBase.{AreLaidOut};
 
 use crate::requests::Request;
 use augmented_tree::FreeSide;

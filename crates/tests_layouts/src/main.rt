@@ -7,7 +7,7 @@
 #![tactic(auto)]
 
 ghost use Rattle.std.specs.Prelude.{◌≤◌};
-ghost use Rattle.congruent_areas.specs.Groups.{AreLaidOut};
+ghost use Rattle.congruent_areas.specs.GroupsAtBase.{AreLaidOut};
 
 mod bases;
 mod ranges;

@@ -1,7 +1,7 @@
 //! Whether what is asked for is in its ranges, which a layout has to know.
 ghost use Rattle.std.specs.Prelude.{◌≤◌, All, IsTrue};
-ghost use Rattle.unit_layout.specs.Rule.{processors};
-ghost use Rattle.unit_layout.specs.Ranges.{IsInRange, IsGroupInRange, IsAligned};
+ghost use Rattle.unit_layout.specs.LayoutRule.{processors};
+ghost use Rattle.unit_layout.specs.NumberRanges.{IsInRange, IsGroupInRange, IsAligned};
 
 use unit_layout::{GroupSpec, LayoutSpec};
 

@@ -1,6 +1,6 @@
 //! The callers of a table that the test makes, driven at once.
 ghost use Rattle.trace_text.specs.Reading.{Reading};
-ghost use Rattle.trace_text.specs.Told.{Tells};
+ghost use Rattle.trace_text.specs.ToldTraces.{Tells};
 ghost use Rattle.trace_rules.specs.RuledTraces.{IsRuledTrace};
 
 use crate::holding::Holding;

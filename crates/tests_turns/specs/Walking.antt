@@ -1,6 +1,6 @@
 -- What visits do, as plain data.
 use Rattle.std.specs.Prelude.{ℕ, ◌+◌, ◌-◌, ◌%◌, ◌==◌, ◌||◌, not, Bool, List, [], ◌∷◌, ◌++◌, length, Option, Some, None, if◌then◌else◌}
-use Rattle.map_parts.specs.Sections.{KeepsLawful}
+use Rattle.map_parts.specs.SectionRuns.{KeepsLawful}
 use Rattle.section_table.specs.Meanings.{Meanings}
 use Rattle.tests_turns.specs.declared.rooms.Room.{Room}
 use Rattle.tests_turns.specs.declared.rooms.Walker.{Walker}

@@ -1,8 +1,8 @@
 //! A table of three rooms with two walkers, and what they do.
 ghost use Rattle.std.specs.Prelude.{◌≡◌, length, IfOk};
 ghost use Rattle.std.specs.List.{All};
-ghost use Rattle.section_table.specs.Views.{HasAll, HasCaller};
-ghost use Rattle.tests_turns.specs.Callers.{KeepsCallers};
+ghost use Rattle.section_table.specs.PassViews.{HasAll, HasCaller};
+ghost use Rattle.tests_turns.specs.PassCallers.{KeepsCallers};
 
 use crate::guests::Guests;
 use crate::rooms::{Room, Walker, Walking};

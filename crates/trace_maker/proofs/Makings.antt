@@ -4,10 +4,10 @@ use Rattle.std.proofs.lemmas.Grind.{flat_map-append}
 use Rattle.std.proofs.lemmas.List.{append-nil}
 use Rattle.std.proofs.lemmas.Slice.Zip.{AllZip-long}
 use Rattle.std.proofs.Math.Seq.{drop-cons}
-use Rattle.trace_text.specs.Lines.{Line, End, text_of, text_of_line}
+use Rattle.trace_text.specs.SpelledLines.{Line, End, text_of, text_of_line}
 use Rattle.trace_maker.specs.declared.sections.SectionText.{SectionText}
 use Rattle.trace_maker.specs.Generated.{Section, Making, next, drawn, no_lines, step_of, stepped, one_more, made, section_lines, sections_from}
-use Rattle.trace_maker.specs.Written.{IsWritten, IsStep, AreMade}
+use Rattle.trace_maker.specs.WrittenSections.{IsWritten, IsStep, AreMade}
 use Rattle.trace_maker.proofs.Zips.{zip_at, zip_set}
 
 -- a line more in the section of the caller that is drawn

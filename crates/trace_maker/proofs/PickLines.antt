@@ -2,8 +2,8 @@
 use Rattle.std.proofs.Common.{◌≡◌, ◌∙◌, ℕ, zero, suc, List, [], ◌∷◌, ◌++◌, ◌<◌, ◌≤◌, ◌+◌, ◌-◌, ◌*◌, ◌%◌, min, ap, sym, subst, refl, arith, codes, decimal, map, take, drop, length, append_assoc}
 use Rattle.std.proofs.lemmas.List.{append-nil}
 use Rattle.vm_model.specs.Words.{fields}
-use Rattle.text_lines.proofs.Joined.{fields-front}
-use Rattle.trace_text.specs.Lines.{Order, text_of, text_of_line}
+use Rattle.text_lines.proofs.JoinedFields.{fields-front}
+use Rattle.trace_text.specs.SpelledLines.{Order, text_of, text_of_line}
 use Rattle.trace_maker.specs.Generated.{next, drawn, drawn_picks, order_lines, state_after}
 
 take_drawn : (k n state : ℕ) → take k (drawn_picks n state) ≡ drawn_picks (min n k) state

@@ -7,10 +7,10 @@ use Rattle.std.proofs.lemmas.List.{flat_map_more}
 use Rattle.std.specs.Prelude.{ℤ}
 use Rattle.std.specs.Fmt.{signed_decimal}
 use Rattle.vm_model.specs.Words.{line}
-use Rattle.trace_text.specs.Lines.{Line, Count, Balance, Vfree, UnmapRam, FreePercpu, text_of, text_of_line}
+use Rattle.trace_text.specs.SpelledLines.{Line, Count, Balance, Vfree, UnmapRam, FreePercpu, text_of, text_of_line}
 use Rattle.trace_maker.specs.declared.sections.SectionText.{SectionText}
 use Rattle.trace_maker.specs.Generated.{Section, next, drawn, own, undrawn, takes_area, takes_part, takes_object, frees_area, frees_part, frees_object, adds_to, counts, step_of}
-use Rattle.trace_maker.specs.Written.{IsWritten, Takes, Frees}
+use Rattle.trace_maker.specs.WrittenSections.{IsWritten, Takes, Frees}
 
 -- a line behind written ones
 pub line_more : (lines : List Line) (l : Line) {old new : List ℕ} → old ≡ text_of lines → new ≡ old ++ text_of_line l → new ≡ text_of (lines ++ l ∷ [])

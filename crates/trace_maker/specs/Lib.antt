@@ -1,3 +1,3 @@
 pub mod Generated
 pub mod MakingRows
-pub mod Written
+pub mod WrittenSections

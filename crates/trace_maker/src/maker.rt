@@ -1,8 +1,8 @@
 //! Making a trace.
 ghost use Rattle.std.specs.Prelude.{◌≡◌, ◌<◌, ◌≤◌, ◌*◌, ◌^◌, ◌++◌, ℕ, IfOk, OnOk, length, replicate};
-ghost use Rattle.trace_text.specs.Lines.{text_of};
+ghost use Rattle.trace_text.specs.SpelledLines.{text_of};
 ghost use Rattle.trace_maker.specs.Generated.{Section, Making, generated, header_lines, section_lines, sections_from, made, one_more, no_lines};
-ghost use Rattle.trace_maker.specs.Written.{IsWritten, AreMade};
+ghost use Rattle.trace_maker.specs.WrittenSections.{IsWritten, AreMade};
 
 use crate::draws::Draws;
 use crate::picks::put_order;

@@ -1,6 +1,6 @@
 //! The picks of the callers, in lines.
 ghost use Rattle.std.specs.Prelude.{◌≡◌, ◌<◌, ◌≤◌, ◌*◌, ◌++◌, ℕ, OnOk};
-ghost use Rattle.trace_text.specs.Lines.{Order, text_of, text_of_line};
+ghost use Rattle.trace_text.specs.SpelledLines.{Order, text_of, text_of_line};
 ghost use Rattle.trace_maker.specs.Generated.{drawn_picks, order_lines, state_after};
 
 use crate::draws::Draws;

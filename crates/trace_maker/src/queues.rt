@@ -2,7 +2,7 @@
 ghost use Rattle.std.specs.Prelude.{◌≡◌, ◌++◌, ◌∷◌, [], OnOk, MatchOption, None, codes};
 ghost use Rattle.std.specs.List.{last_or};
 ghost use Rattle.vm_model.specs.Words.{line};
-ghost use Rattle.trace_maker.specs.Written.{Takes, Frees};
+ghost use Rattle.trace_maker.specs.WrittenSections.{Takes, Frees};
 
 use std::alloc::AllocError;
 use std::collections::VecDeque;

@@ -4,7 +4,7 @@ ghost use Rattle.std.specs.Fmt.{signed_decimal};
 ghost use Rattle.std.specs.List.{last_or};
 ghost use Rattle.vm_model.specs.Words.{line};
 ghost use Rattle.trace_maker.specs.Generated.{Section, no_lines, next, drawn, takes_area, takes_part, takes_object, frees_area, frees_part, frees_object, adds_to, counts, step_of};
-ghost use Rattle.trace_maker.specs.Written.{IsWritten, IsStep};
+ghost use Rattle.trace_maker.specs.WrittenSections.{IsWritten, IsStep};
 
 use crate::draws::Draws;
 use crate::queues::{free_oldest, newest, put_balance, take};

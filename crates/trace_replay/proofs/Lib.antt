@@ -1,11 +1,11 @@
-pub mod Gathered
+pub mod GivenAndTaken
 pub mod LegalHistories
 pub mod Replays
 pub mod Reported
-pub mod Told
+pub mod ToldToSink
 pub mod OneCommand
 pub mod ReplayTexts
-pub mod Counted
+pub mod TraceCounters
 pub mod LiveCounted
 pub mod LiveReported
 pub mod MadeOf

@@ -15,18 +15,18 @@ use Rattle.report_text.specs.CounterTotals.{total, lines_of, counter_row, counte
 use Rattle.report_text.specs.TableLines.{counter_line, counter_lines}
 use Rattle.report_text.specs.Report.{report, call_lines, space_lines, row_lines}
 use Rattle.trace_text.specs.Reading.{Reading, calls_of, cpus_of}
-use Rattle.trace_text.specs.Told.{all_calls}
+use Rattle.trace_text.specs.ToldTraces.{all_calls}
 use Rattle.trace_rules.specs.RuledTraces.{IsCount, IsCountOf, IsRuledTrace}
 use Rattle.percpu_counters.specs.declared.table.Shape.{Shape}
 use Rattle.percpu_counters.specs.declared.counters.Counters.{Counters}
 use Rattle.percpu_counters.specs.declared.counters.CountPass.{CountPass}
 use Rattle.percpu_counters.specs.Passes.{shape_of, adds_of, spare_of}
-use Rattle.percpu_counters.specs.Rows.{totals_of}
+use Rattle.percpu_counters.specs.RowsFromWords.{totals_of}
 use Rattle.count_lines.specs.declared.share.Share.{Share}
-use Rattle.count_lines.specs.Lines.{added_by, lines_by}
+use Rattle.count_lines.specs.LinesOfCaller.{added_by, lines_by}
 use Rattle.count_lines.specs.Shares.{caller_of, lines_in, IsLineOf, HaveFinished}
 use Rattle.count_lines.specs.Sharing.{shared_lines}
-use Rattle.count_lines.proofs.Shared.{each_line_is_shared, sharing_keeps_the_totals}
+use Rattle.count_lines.proofs.SharedLines.{each_line_is_shared, sharing_keeps_the_totals}
 use Rattle.trace_replay.specs.LiveCounts.{counters_of, IsCountingFor, totals_in, totals_of_trace}
 
 -- The report.

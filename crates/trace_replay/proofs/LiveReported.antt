@@ -10,10 +10,10 @@ use Rattle.vm_model.specs.Tables.{tables_of}
 use Rattle.report_text.specs.CounterTotals.{counter_rows}
 use Rattle.report_text.specs.Report.{report, schedule}
 use Rattle.trace_text.specs.Reading.{Reading, cpus_of}
-use Rattle.trace_text.specs.Told.{config_of, all_calls}
+use Rattle.trace_text.specs.ToldTraces.{config_of, all_calls}
 use Rattle.trace_rules.specs.RuledTraces.{IsRuledTrace}
 use Rattle.kernel_steps.specs.Kernels.{KernelState, IsStanding, start_of, tables_for}
-use Rattle.kernel_steps.specs.Runs.{HasEnded}
+use Rattle.kernel_steps.specs.KernelRuns.{HasEnded}
 use Rattle.kernel_steps.proofs.Moves.{history_is}
 use Rattle.trace_replay.specs.Headline.{setup, opening_calls, own_calls, history_of_trace}
 use Rattle.trace_replay.specs.LiveReports.{with_picks, IsLiveReport}

@@ -7,7 +7,7 @@ use Rattle.trace_replay.specs.declared.status.Status.{Status}
 use Rattle.trace_replay.specs.declared.status.Status.TheVariants.{Done, BadTrace, BadLayout, Usage, OutOfMemory, ReadFault, WriteFault, TooLong}
 use Rattle.trace_replay.specs.Headline.{Shows, Writes, IsRead, most_bytes}
 use Rattle.trace_replay.specs.Commands.{IsSaid, IsMadeOf}
-use Rattle.trace_replay.proofs.Told.{too_long_writes, too_long_reads}
+use Rattle.trace_replay.proofs.ToldToSink.{too_long_writes, too_long_reads}
 
 is_said : (shows : Shows) (bytes : List ℕ) (status : Status) (text : List ℕ) → Writes shows bytes status text → IsSaid status
 is_said shows bytes Done text w = record { read = λ e. cc; write = λ e. cc; memory = λ e. cc; usage = λ e. cc }

@@ -4,7 +4,7 @@ use Rattle.std.proofs.lemmas.Fmt.{decimal_is_IsNumeral}
 use Rattle.std.specs.Str.Parse.{digits_value}
 use Rattle.trace_replay.specs.declared.words.Command.TheVariants as command
 use Rattle.trace_replay.specs.declared.words.Mode.{Mode}
-use Rattle.trace_replay.specs.Words.{Name, NameNone, word_of}
+use Rattle.trace_replay.specs.CommandWords.{Name, NameNone, word_of}
 
 -- a list of three is its elements
 pub three_words : {X : Type 0} (words : List X) (a b c d e f : X) → 3 ≤ length words → length words < 4 → a ≡ get_or words 0 d → b ≡ get_or words 1 e → c ≡ get_or words 2 f → words ≡ a ∷ b ∷ c ∷ []

@@ -10,7 +10,7 @@ use Rattle.report_text.specs.Report.{report}
 use Rattle.vm_model.specs.History.{World, finish, most_events, pick_all, history_of}
 use Rattle.vm_model.specs.Tables.{tables_of}
 use Rattle.trace_text.specs.Reading.{Reading, calls_of}
-use Rattle.trace_text.specs.Told.{config_of, all_calls}
+use Rattle.trace_text.specs.ToldTraces.{config_of, all_calls}
 use Rattle.std.proofs.lemmas.List.FromFn.{length-map-range_with_len}
 use Rattle.kernel_steps.proofs.CallersThere.{all_there}
 use Rattle.kernel_steps.specs.Kernels.{KernelState, IsStanding, CanStart, start_of, opening_of, callers_of, tables_for}

@@ -10,15 +10,15 @@ use Rattle.vm_model.specs.History.{World, Local, history_of}
 use Rattle.vm_model.specs.LegalHistory.{IsReached}
 use Rattle.vm_model.specs.Tables.{tables_of}
 use Rattle.vm_model.specs.Laws.{IsOneLegalHistory}
-use Rattle.call_laws.specs.Kept.{KeepsTheLaws}
+use Rattle.call_laws.specs.WorldLaws.{KeepsTheLaws}
 use Rattle.report_text.specs.declared.faults.Fault.TheVariants as fault
 use Rattle.trace_text.specs.Reading.{Reading, calls_of, cpus_of}
-use Rattle.trace_text.specs.Told.{config_of, layout_spec, IsRefusedLayout}
+use Rattle.trace_text.specs.ToldTraces.{config_of, layout_spec, IsRefusedLayout}
 use Rattle.report_text.specs.CounterTotals.{counter_rows}
 use Rattle.trace_text.specs.Grammar.{IsTraceOf, IsFirstBadLine}
 use Rattle.report_text.specs.Report.{report, fault_line}
 use Rattle.trace_replay.specs.Streams.{RoseByOne, IsReadInPart}
-use Rattle.trace_replay.specs.Words.{audits}
+use Rattle.trace_replay.specs.CommandWords.{audits}
 use Rattle.trace_replay.specs.declared.words.Mode.{Mode}
 use Rattle.trace_replay.specs.declared.status.Status.{Status}
 use Rattle.trace_replay.specs.declared.status.Status.TheVariants.{Done, BadTrace, BadLayout, Usage, OutOfMemory, ReadFault, WriteFault, TooLong}

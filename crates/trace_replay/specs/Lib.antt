@@ -1,9 +1,9 @@
 pub mod Streams
-pub mod Held
+pub mod HeldBytes
 pub mod FailingCalls
 pub mod MemoryStreams
 pub mod Status
-pub mod Words
+pub mod CommandWords
 pub mod Headline
 pub mod WorkedReplays
 pub mod LiveReports

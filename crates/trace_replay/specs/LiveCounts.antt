@@ -8,7 +8,7 @@ use Rattle.percpu_counters.specs.declared.counters.Counters.{Counters}
 use Rattle.percpu_counters.specs.declared.counters.CountPass.{CountPass}
 use Rattle.percpu_counters.specs.Passes.{shape_of, adds_of, spare_of, IsPassOf}
 use Rattle.count_lines.specs.declared.share.Share.{Share}
-use Rattle.count_lines.specs.Lines.{added_by, lines_by}
+use Rattle.count_lines.specs.LinesOfCaller.{added_by, lines_by}
 use Rattle.count_lines.specs.Shares.{AreSharesOf}
 
 -- the numbers of the header, and room for as many adds as there are count lines

@@ -4,7 +4,7 @@ use Rattle.vm_model.specs.History.{World, finish, most_events, opening_world, wi
 use Rattle.vm_model.specs.LegalHistory.{AllOver}
 use Rattle.report_text.specs.Report.{schedule}
 use Rattle.trace_text.specs.Reading.{Reading}
-use Rattle.section_laws.specs.Turns.{all_move}
+use Rattle.section_laws.specs.MovesInTurn.{all_move}
 use Rattle.trace_replay.specs.Headline.{setup, opening_calls, own_calls, report_of, HasLegalHistory}
 use Rattle.trace_replay.specs.declared.words.Mode.TheVariants.{Replay}
 

@@ -2,7 +2,7 @@
 use Rattle.std.specs.Prelude.{◌≡◌, ℕ, List, codes}
 use Rattle.trace_text.specs.Reading.{Reading}
 use Rattle.trace_text.specs.Grammar.{IsTraceOf}
-use Rattle.trace_text.specs.Told.{LayoutStands}
+use Rattle.trace_text.specs.ToldTraces.{LayoutStands}
 use Rattle.trace_replay.specs.declared.words.Mode.{Mode}
 use Rattle.trace_replay.specs.declared.words.Mode.TheVariants.{Replay, Audit}
 use Rattle.trace_replay.specs.Headline.{report_of}

@@ -3,7 +3,7 @@ ghost use Rattle.std.specs.Prelude.{◌≡◌, ◌≤◌, ◌<◌, IfOk, length}
 ghost use Rattle.kernel_steps.specs.Kernels.{tables_for};
 ghost use Rattle.trace_text.specs.Reading.{Reading};
 ghost use Rattle.report_text.specs.Report.{fault_line};
-ghost use Rattle.trace_text.specs.Told.{Tells};
+ghost use Rattle.trace_text.specs.ToldTraces.{Tells};
 ghost use Rattle.trace_rules.specs.RuledTraces.{IsRuledTrace};
 ghost use Rattle.trace_replay.specs.Headline.{IsReport, Writes, Reports, setup, history_of_trace, most_bytes};
 

@@ -5,7 +5,7 @@ ghost use Rattle.report_text.specs.Report.{fault_line};
 ghost use Rattle.report_text.specs.declared.faults.Fault.{Fault};
 ghost use Rattle.trace_maker.specs.Generated.{generated};
 ghost use Rattle.trace_replay.specs.declared.words.Mode.{Mode};
-ghost use Rattle.trace_replay.specs.Words.{Names, NamesNone, ReadsNothing};
+ghost use Rattle.trace_replay.specs.CommandWords.{Names, NamesNone, ReadsNothing};
 ghost use Rattle.trace_replay.specs.LiveReports.{IsLiveReport};
 ghost use Rattle.trace_replay.specs.Headline.{IsReport, HasRoomFor, IsTold, IsSilent, HasRoomOf};
 ghost use Rattle.trace_replay.specs.Commands.{IsMadeOf, IsCutShort, Replays, Sends, TellsFaults};

@@ -1,7 +1,7 @@
 //! The counters of a trace.
 ghost use Rattle.std.specs.Prelude.{◌≡◌, ◌≤◌, All, IfOk, length};
 ghost use Rattle.trace_text.specs.Reading.{Reading, cpus_of};
-ghost use Rattle.trace_text.specs.Told.{Tells};
+ghost use Rattle.trace_text.specs.ToldTraces.{Tells};
 ghost use Rattle.report_text.specs.CounterTotals as totals;
 ghost use Rattle.trace_rules.specs.RuledTraces.{IsCount, IsRuledTrace};
 

@@ -50,7 +50,7 @@ fn buffer(alloc: Global) -> Result<Vec<u8>, AllocError>
 }
 
 /// All bytes of a source, up to its end, read through this buffer.
-#[tactic(auto, using(crate::proofs::Gathered::read_in_part))]
+#[tactic(auto, using(crate::proofs::GivenAndTaken::read_in_part))]
 fn gather_by<S: Source>(alloc: Global, source: &mut S, piece: &mut [u8]) -> Result<Vec<u8>, Cut>
     requires { 0 < length piece.old }
     ensures all { IfOk result (λ bytes. (told : List ℕ) → S.left source.old ≡ Some told

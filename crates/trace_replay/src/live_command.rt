@@ -1,7 +1,7 @@
 //! A trace whose callers run on threads of their own.
 ghost use Rattle.std.specs.Prelude.{◌≡◌, ◌≢◌, ◌≤◌, Err, IfOk, length};
 ghost use Rattle.trace_text.specs.Reading.{Reading};
-ghost use Rattle.trace_text.specs.Told.{Tells};
+ghost use Rattle.trace_text.specs.ToldTraces.{Tells};
 ghost use Rattle.trace_rules.specs.RuledTraces.{IsRuledTrace};
 ghost use Rattle.trace_replay.specs.Streams.{RoseByOne};
 ghost use Rattle.trace_replay.specs.Headline.{Writes, HasRoomFor, Reports, IsSilent, most_bytes};

@@ -2,11 +2,11 @@
 ghost use Rattle.std.specs.Prelude.{◌≡◌, ◌+◌, ◌++◌, All, IfOk, length, map};
 ghost use Rattle.std.specs.List.{flat_map};
 ghost use Rattle.trace_text.specs.Reading.{Reading};
-ghost use Rattle.trace_text.specs.Told.{Tells};
+ghost use Rattle.trace_text.specs.ToldTraces.{Tells};
 ghost use Rattle.trace_rules.specs.RuledTraces.{IsRuledTrace};
 ghost use Rattle.percpu_counters.specs.Passes.{shape_of, adds_of, spare_of, IsPassOf};
-ghost use Rattle.percpu_counters.specs.Rows.{totals_of};
-ghost use Rattle.count_lines.specs.Lines.{added_by};
+ghost use Rattle.percpu_counters.specs.RowsFromWords.{totals_of};
+ghost use Rattle.count_lines.specs.LinesOfCaller.{added_by};
 ghost use Rattle.count_lines.specs.Shares.{lines_in, IsShareOf, IsFinished};
 ghost use Rattle.trace_replay.specs.LiveCounts.{IsCountingFor, totals_in};
 

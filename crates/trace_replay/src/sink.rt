@@ -3,7 +3,7 @@ ghost use Rattle.std.specs.Prelude.{◌≡◌, ◌<◌, ◌≤◌, ◌-◌, ℕ,
 ghost use Rattle.std.specs.Option.{ForSome};
 ghost use Rattle.std.specs.Io.KnownBytes.{Appends, Keeps};
 ghost use Rattle.trace_replay.specs.Streams.{RoseByOne, Takes, Fills};
-ghost use Rattle.trace_replay.specs.Held.{Held};
+ghost use Rattle.trace_replay.specs.HeldBytes.{Held};
 
 use crate::source::Failed;
 use std::alloc::{AllocError, Global};
@@ -44,7 +44,7 @@ pub struct SteadySink {
 
 impl Model for SteadySink {
     ghost use Rattle.std.specs.Prelude.{◌+◌, ◌≤◌, vec_len, vec_capacity};
-    ghost use Rattle.trace_replay.specs.Held.{Held};
+    ghost use Rattle.trace_replay.specs.HeldBytes.{Held};
 
     ghost Value = { Held };
 
@@ -113,7 +113,7 @@ impl Sink for SteadySink {
 }
 
 /// One write of a writer, tried again where a signal interrupts it. `None` where it fails, or takes nothing of a piece.
-#[tactic(auto, using(crate::proofs::Gathered::kept_first, crate::proofs::Gathered::kept_after, crate::proofs::Gathered::appends_after))]
+#[tactic(auto, using(crate::proofs::GivenAndTaken::kept_first, crate::proofs::GivenAndTaken::kept_after, crate::proofs::GivenAndTaken::appends_after))]
 fn write_retrying<W: Write>(writer: &mut W, piece: &[u8]) -> Option<usize>
     ensures within { IfSome result (λ count. count ≤ length piece.now) }
     ensures some { 0 < length piece.now → IfSome result (λ count. 0 < count) }

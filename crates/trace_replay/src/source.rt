@@ -80,7 +80,7 @@ impl Source for SteadySource {
 }
 
 /// One read of a reader, tried again where a signal interrupts it. `None` where it fails.
-#[tactic(auto, using(crate::proofs::Gathered::kept_first, crate::proofs::Gathered::kept_after, crate::proofs::Gathered::consumes_after))]
+#[tactic(auto, using(crate::proofs::GivenAndTaken::kept_first, crate::proofs::GivenAndTaken::kept_after, crate::proofs::GivenAndTaken::consumes_after))]
 fn read_retrying<R: Read>(reader: &mut R, into: &mut [u8]) -> Option<usize>
     ensures within { IfSome result (λ count. count ≤ length into.new) }
     ensures gave { IfSome result

@@ -1,7 +1,7 @@
 //! The words of the commands.
 ghost use Rattle.std.specs.Prelude.{◌≡◌, ◌≢◌, ◌≤◌, ℕ, [], ◌∷◌, IfSome, IfNone, MatchBool, codes, decimal, map, string_bytes};
 ghost use Rattle.trace_replay.specs.declared.words.Mode.{Mode};
-ghost use Rattle.trace_replay.specs.Words.{Name, NameNone, word_of, audits};
+ghost use Rattle.trace_replay.specs.CommandWords.{Name, NameNone, word_of, audits};
 
 use itoa::Buffer;
 

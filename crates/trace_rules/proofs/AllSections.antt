@@ -6,7 +6,7 @@ use Rattle.vm_model.specs.declared.calls.Call.{Call}
 use Rattle.vm_model.specs.Setup.{Setup, cpus}
 use Rattle.vm_model.specs.Rules.{IsRuled, AreRuled}
 use Rattle.trace_text.specs.Reading.{Reading, Made, calls_of, cpus_of, with_call}
-use Rattle.trace_text.proofs.SectionProofs.{calls_of-append, own-append, others-append}
+use Rattle.trace_text.proofs.SectionCalls.{calls_of-append, own-append, others-append}
 use Rattle.trace_rules.proofs.RuledSections.{ruled-append, still_ruled, ruled_later}
 
 -- the opening's calls, as the calls of this section may name them

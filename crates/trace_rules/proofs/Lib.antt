@@ -3,7 +3,7 @@ pub mod SectionSizes
 pub mod RuledSections
 pub mod SmallCalls
 pub mod AllSections
-pub mod Targets
+pub mod NamedTargets
 pub mod RuledLines
 pub mod PicksAndCounts
 pub mod TracesRuled

@@ -7,7 +7,7 @@ use Rattle.std.proofs.lemmas.List.Elements.{All-nil, All-cons, All-append}
 use Rattle.std.proofs.lemmas.List.Sums.{AllPass-from_list_all}
 use Rattle.vm_model.specs.declared.calls.CountLine.{CountLine}
 use Rattle.vm_model.specs.Words.{within, is_number, is_amount}
-use Rattle.trace_text.specs.Lines.{Line, GroupOf, Callers, Counters, Caller, Vmalloc, Vfree, MapRam, UnmapRam, UnmapAliases, AllocPercpu, AllocAtomic, FreePercpu, Add, Sum, Balance, Count, Order}
+use Rattle.trace_text.specs.SpelledLines.{Line, GroupOf, Callers, Counters, Caller, Vmalloc, Vfree, MapRam, UnmapRam, UnmapAliases, AllocPercpu, AllocAtomic, FreePercpu, Add, Sum, Balance, Count, Order}
 use Rattle.trace_text.specs.Reading.{Reading, Made, calls_before, cpus_of, unread}
 use Rattle.trace_text.specs.Grammar.{may_stand, read, is_new, is_cpu, has_room, aims, is_vmalloc, is_map_ram, is_object, has_word}
 use Rattle.trace_text.proofs.HeaderLines.{in_range}

@@ -8,7 +8,7 @@ use Rattle.vm_model.specs.Setup.{cpus}
 use Rattle.vm_model.specs.Calls.{words_for}
 use Rattle.vm_model.specs.Words.{is_name, is_number, is_amount}
 use Rattle.vm_model.specs.Rules.{IsVmallocCall, IsMapRamCall, IsAllocCall, AreRuled}
-use Rattle.trace_text.specs.Lines.{Line, TargetName, GroupOf, Vmalloc, Vfree, MapRam, UnmapRam, UnmapAliases, AllocPercpu, AllocAtomic, FreePercpu, Add, Sum, Balance}
+use Rattle.trace_text.specs.SpelledLines.{Line, TargetName, GroupOf, Vmalloc, Vfree, MapRam, UnmapRam, UnmapAliases, AllocPercpu, AllocAtomic, FreePercpu, Add, Sum, Balance}
 use Rattle.trace_text.specs.Reading.{Reading, AreNamed, unread, calls_of, calls_before, cpus_of, target_of, with_call, with_name}
 use Rattle.trace_text.specs.Grammar.{may_stand, read, has_room, is_new, is_cpu, aims, is_vmalloc, is_map_ram, is_object, has_word}
 use Rattle.trace_text.proofs.NameProofs.{named-read}
@@ -16,7 +16,7 @@ use Rattle.section_laws.specs.Lawful.{IsSmall}
 use Rattle.trace_rules.proofs.TraceLines.{place, spelling, rule}
 use Rattle.trace_rules.proofs.SmallCalls.{AreSmallLines, lines-append}
 use Rattle.trace_rules.proofs.AllSections.{opening_before, AreAllRuled, MayBeNext, one_more, none_ruled}
-use Rattle.trace_rules.proofs.Targets.{AreNumbered, numbered-append, vmalloc_is, map_ram_is, object_is, word_is, aimed}
+use Rattle.trace_rules.proofs.NamedTargets.{AreNumbered, numbered-append, vmalloc_is, map_ram_is, object_is, word_is, aimed}
 
 -- what holds after each line: before the lines of calls there are none
 pub record IsRuledSoFar (r : Reading) : Type 0 where

@@ -2,7 +2,7 @@
 use Rattle.std.proofs.Common.{◌≡◌, ℕ, ◌-◌, ◌≤◌, true, ◌&&◌, ◌||◌, ◌==◌, nat_lt, nat_le, min, List, [], ◌∷◌, sym, subst, arith}
 use Rattle.std.proofs.lemmas.Bool.{and_parts}
 use Rattle.std.proofs.lemmas.Bool.Decides.{nat_tests}
-use Rattle.trace_text.specs.Lines.{Line, is_spelt}
+use Rattle.trace_text.specs.SpelledLines.{Line, is_spelt}
 use Rattle.trace_text.specs.Reading.{Reading, unread}
 use Rattle.trace_text.specs.Grammar.{IsTraceOf, may_stand, all_stand, read, read_all, rank_of, follows, repeats, is_allowed}
 use Rattle.trace_text.proofs.LayoutRanges.{place_and_rule}

@@ -7,10 +7,10 @@ use Rattle.vm_model.specs.declared.calls.Call.{Call}
 use Rattle.vm_model.specs.Setup.{Setup, cpus}
 use Rattle.vm_model.specs.Rules.{AreRuled}
 use Rattle.unit_layout.specs.Config.{setup_of}
-use Rattle.unit_layout.specs.Rule.{division_of}
-use Rattle.unit_layout.proofs.Places.{units_in_all}
+use Rattle.unit_layout.specs.LayoutRule.{division_of}
+use Rattle.unit_layout.proofs.GroupPlaces.{units_in_all}
 use Rattle.trace_text.specs.Reading.{Reading, calls_of, cpus_of, groups_of}
-use Rattle.trace_text.specs.Told.{all_calls, config_of, layout_spec}
+use Rattle.trace_text.specs.ToldTraces.{all_calls, config_of, layout_spec}
 use Rattle.trace_text.proofs.HeaderRanges.{header_in_range, trace_gives_setup}
 use Rattle.section_laws.specs.Lawful.{AreSmall}
 use Rattle.trace_rules.specs.RuledTraces.{IsRuledTrace, TracesKeepTheRules}

@@ -7,7 +7,7 @@ use Rattle.vm_model.specs.Words.{is_amount}
 use Rattle.unit_layout.specs.Config.{setup_of}
 use Rattle.unit_layout.specs.Refusals.{refusal}
 use Rattle.trace_text.specs.Reading.{Reading, calls_of, cpus_of}
-use Rattle.trace_text.specs.Told.{config_of, layout_spec}
+use Rattle.trace_text.specs.ToldTraces.{config_of, layout_spec}
 use Rattle.trace_text.specs.Grammar.{IsTraceOf}
 use Rattle.section_laws.specs.Lawful.{AreSmall}
 

@@ -4,10 +4,10 @@ use Rattle.vm_model.specs.declared.calls.Call.{Call}
 use Rattle.vm_model.specs.declared.calls.Call.TheVariants as call
 use Rattle.trace_text.specs.declared.progress.Progress.{Progress}
 use Rattle.vm_model.specs.Words.{fields}
-use Rattle.trace_text.specs.Lines.{Line, UnmapAliases, Balance, spelled}
+use Rattle.trace_text.specs.SpelledLines.{Line, UnmapAliases, Balance, spelled}
 use Rattle.trace_text.specs.Reading.{Reading, with_call}
 use Rattle.trace_text.specs.Grammar.{may_stand, read}
-use Rattle.trace_text.specs.Held.{IsHeld, Steps, has_place}
+use Rattle.trace_text.specs.HeldLines.{IsHeld, Steps, has_place}
 use Rattle.trace_text.proofs.Exclusive.{spelt_in}
 use Rattle.trace_text.proofs.Outcomes.{line_of, line_of-text}
 

@@ -5,13 +5,13 @@ use Rattle.std.proofs.lemmas.Bool.Decides.{nat_tests}
 use Rattle.std.specs.Option.{option_map}
 use Rattle.trace_text.specs.declared.progress.Progress.{Progress}
 use Rattle.vm_model.specs.Words.{is_number}
-use Rattle.trace_text.specs.Lines.{Caller}
+use Rattle.trace_text.specs.SpelledLines.{Caller}
 use Rattle.trace_text.specs.Reading.{Reading, Header, Named, find_name}
 use Rattle.trace_text.specs.Names.{place_of}
-use Rattle.trace_text.specs.Held.{IsHeld, Steps, header_of, sections_below}
+use Rattle.trace_text.specs.HeldLines.{IsHeld, Steps, header_of, sections_below}
 use Rattle.trace_text.proofs.NamedCalls.{ranks, follows_held, none_is}
 use Rattle.trace_text.proofs.NumberLines.{caller_lines, number_refused, number_stands}
-use Rattle.trace_text.proofs.SectionProofs.{held_sections}
+use Rattle.trace_text.proofs.SectionCalls.{held_sections}
 
 is_next : (caller n callers : ℕ) → (nat_lt caller n && nat_le n callers) ≡ true → (caller < n) × (n ≤ callers)
 is_next caller n callers h = grind (arith, nat_tests)

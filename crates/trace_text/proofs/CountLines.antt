@@ -5,15 +5,15 @@ use Rattle.std.specs.Fmt.{signed_decimal}
 use Rattle.vm_model.specs.declared.calls.CountLine.{CountLine}
 use Rattle.vm_model.specs.Words.{fields, is_number, is_amount}
 use Rattle.trace_text.specs.declared.progress.Progress.{Progress}
-use Rattle.trace_text.specs.Lines.{Line, Count, spelled}
+use Rattle.trace_text.specs.SpelledLines.{Line, Count, spelled}
 use Rattle.trace_text.specs.Reading.{Reading, calls_before}
 use Rattle.trace_text.specs.Grammar.{may_stand, follows, has_room, is_cpu}
-use Rattle.trace_text.specs.Held.{IsHeld, Steps, has_place}
+use Rattle.trace_text.specs.HeldLines.{IsHeld, Steps, has_place}
 use Rattle.trace_text.proofs.Amounts.{same_pair_and_amount}
 use Rattle.trace_text.proofs.Exclusive.{spelt_in}
 use Rattle.trace_text.proofs.Guess.{amount, nth, number}
 use Rattle.trace_text.proofs.Split.{split_at}
-use Rattle.trace_text.proofs.Steps.{line_by_word, behind}
+use Rattle.trace_text.proofs.LinesByWord.{line_by_word, behind}
 use Rattle.trace_text.proofs.TargetCalls.{length-calls_of}
 
 -- a text that is two numbers and an amount

@@ -3,13 +3,13 @@ use Rattle.std.proofs.Common.{◌≡◌, ◌∙◌, ℕ, ◌+◌, ◌≤◌, tru
 use Rattle.std.proofs.lemmas.Bool.Decides.{nat_tests}
 use Rattle.std.proofs.lemmas.List.Sums.{sum_by-append}
 use Rattle.unit_layout.specs.declared.request.GroupSpec.{GroupSpec}
-use Rattle.unit_layout.specs.Rule.{processors}
+use Rattle.unit_layout.specs.LayoutRule.{processors}
 use Rattle.trace_text.specs.declared.progress.Progress.{Progress}
 use Rattle.vm_model.specs.Words.{fields, is_number}
-use Rattle.trace_text.specs.Lines.{GroupOf}
+use Rattle.trace_text.specs.SpelledLines.{GroupOf}
 use Rattle.trace_text.specs.Reading.{Reading, Header, groups_of, cpus_of}
 use Rattle.trace_text.specs.Grammar.{follows, is_allowed, read}
-use Rattle.trace_text.specs.Held.{IsHeld, Steps, header_of}
+use Rattle.trace_text.specs.HeldLines.{IsHeld, Steps, header_of}
 use Rattle.trace_text.proofs.PairLines.{group_lines, pair_refused, pair_stands}
 
 group_at : (rank : ℕ) → follows rank 7 ≡ true → (2 ≤ rank) × (rank ≤ 7)

@@ -5,12 +5,12 @@ use Rattle.std.proofs.lemmas.Bool.Decides.{nat_tests}
 use Rattle.std.specs.Int.{is_power_of_two}
 use Rattle.vm_model.specs.Rules.{IsPower}
 use Rattle.trace_text.specs.declared.progress.Progress.{Progress}
-use Rattle.unit_layout.specs.Rule.{processors}
+use Rattle.unit_layout.specs.LayoutRule.{processors}
 use Rattle.vm_model.specs.Words.{fields, is_number, within}
-use Rattle.trace_text.specs.Lines.{Space, Frames, Lazy, Blocks, Units, Callers, Counters}
+use Rattle.trace_text.specs.SpelledLines.{Space, Frames, Lazy, Blocks, Units, Callers, Counters}
 use Rattle.trace_text.specs.Reading.{Reading, Header}
 use Rattle.trace_text.specs.Grammar.{follows, is_allowed}
-use Rattle.trace_text.specs.Held.{IsHeld, Steps, named_header}
+use Rattle.trace_text.specs.HeldLines.{IsHeld, Steps, named_header}
 use Rattle.trace_text.proofs.PowersOfTwo.{power_of_two}
 use Rattle.trace_text.proofs.NumberLines.{space_lines, frames_lines, lazy_lines, callers_lines, number_refused, number_stands}
 use Rattle.trace_text.proofs.PairLines.{block_lines, counters_lines, unit_lines, pair_refused, pair_stands}

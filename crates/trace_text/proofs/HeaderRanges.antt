@@ -3,13 +3,13 @@ use Rattle.std.proofs.Common.{◌≡◌, ℕ, ◌<◌, ◌≤◌, true, List, []
 use Rattle.std.proofs.lemmas.Bool.{and_parts, eqb-true}
 use Rattle.std.proofs.lemmas.Bool.Decides.{nat_tests}
 use Rattle.unit_layout.specs.Config.{setup_of}
-use Rattle.unit_layout.specs.Ranges.{IsInRange}
-use Rattle.unit_layout.proofs.Standing.{layouts_stand}
-use Rattle.trace_text.specs.Lines.{Line, Space, Frames, Lazy, Blocks, Units, GroupOf, Callers}
+use Rattle.unit_layout.specs.NumberRanges.{IsInRange}
+use Rattle.unit_layout.proofs.StandingLayouts.{layouts_stand}
+use Rattle.trace_text.specs.SpelledLines.{Line, Space, Frames, Lazy, Blocks, Units, GroupOf, Callers}
 use Rattle.trace_text.specs.Reading.{Reading, unread}
-use Rattle.trace_text.specs.Told.{config_of, layout_spec}
+use Rattle.trace_text.specs.ToldTraces.{config_of, layout_spec}
 use Rattle.trace_text.specs.Grammar.{may_stand, follows, rank_of, all_stand, read, read_all, IsTraceOf}
-use Rattle.trace_text.specs.Laws.{TraceGivesSetup}
+use Rattle.trace_text.specs.GrammarLaws.{TraceGivesSetup}
 use Rattle.trace_text.proofs.HeaderLines.{AreBlockSizes, block_sizes, in_range, unit_sizes}
 use Rattle.trace_text.proofs.LayoutRanges.{place_and_rule, next_group, one_more, ungrouped_layout}
 

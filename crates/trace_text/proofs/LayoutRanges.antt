@@ -5,12 +5,12 @@ use Rattle.std.proofs.lemmas.Bool.{and_parts, eqb-true, ltb-true}
 use Rattle.std.proofs.lemmas.List.Elements.{All-nil, All-cons, All-append}
 use Rattle.vm_model.specs.Rules.{IsPower}
 use Rattle.unit_layout.specs.declared.request.GroupSpec.{GroupSpec}
-use Rattle.unit_layout.specs.Ranges.{IsInRange, IsGroupInRange, IsAligned}
-use Rattle.unit_layout.specs.Rule.{processors}
+use Rattle.unit_layout.specs.NumberRanges.{IsInRange, IsGroupInRange, IsAligned}
+use Rattle.unit_layout.specs.LayoutRule.{processors}
 use Rattle.vm_model.specs.Words.{within, is_number}
-use Rattle.trace_text.specs.Lines.{Line, GroupOf, is_spelt}
+use Rattle.trace_text.specs.SpelledLines.{Line, GroupOf, is_spelt}
 use Rattle.trace_text.specs.Reading.{Reading}
-use Rattle.trace_text.specs.Told.{asked_layout}
+use Rattle.trace_text.specs.ToldTraces.{asked_layout}
 use Rattle.trace_text.specs.Grammar.{may_stand, follows, rank_of, is_allowed, is_first_at_0}
 use Rattle.trace_text.proofs.HeaderLines.{AreUnitSizes, in_range}
 use Rattle.trace_text.proofs.GroupLine.{processors-more}

@@ -6,15 +6,15 @@ use Rattle.vm_model.specs.declared.calls.Call.{Call}
 use Rattle.vm_model.specs.declared.calls.Call.TheVariants as call
 use Rattle.trace_text.specs.declared.progress.Progress.{Progress}
 use Rattle.vm_model.specs.Words.{is_name, is_number, fields}
-use Rattle.trace_text.specs.Lines.{Line, Vmalloc, MapRam, AllocPercpu, AllocAtomic, spelled}
+use Rattle.trace_text.specs.SpelledLines.{Line, Vmalloc, MapRam, AllocPercpu, AllocAtomic, spelled}
 use Rattle.trace_text.specs.Reading.{Reading, with_name}
 use Rattle.trace_text.specs.Grammar.{may_stand, follows, has_room, is_cpu, is_new, read}
-use Rattle.trace_text.specs.Held.{IsHeld, Steps, has_place}
+use Rattle.trace_text.specs.HeldLines.{IsHeld, Steps, has_place}
 use Rattle.trace_text.proofs.Split.{is_clean, split_at, lacks-clean, same_cut}
 use Rattle.trace_text.proofs.Guess.{guess, number, nth, clean-name}
 use Rattle.trace_text.proofs.Exclusive.{spelt_in}
 use Rattle.trace_text.proofs.PairLines.{same_pair}
-use Rattle.trace_text.proofs.Steps.{line_by_word, behind}
+use Rattle.trace_text.proofs.LinesByWord.{line_by_word, behind}
 
 abbrev is_spelt_named : List ℕ → ℕ → ℕ → Bool
 is_spelt_named name a b = is_name name && is_number a && is_number b

@@ -4,14 +4,14 @@ use Rattle.std.proofs.lemmas.Bool.{and_parts, and_from}
 use Rattle.std.proofs.lemmas.Fmt.{decimal_injective}
 use Rattle.trace_text.specs.declared.progress.Progress.{Progress}
 use Rattle.vm_model.specs.Words.{fields, is_number, within}
-use Rattle.trace_text.specs.Lines.{Line, Space, Frames, Lazy, Callers, Caller, spelled}
+use Rattle.trace_text.specs.SpelledLines.{Line, Space, Frames, Lazy, Callers, Caller, spelled}
 use Rattle.trace_text.specs.Reading.{Reading}
 use Rattle.trace_text.specs.Grammar.{may_stand, follows, read}
-use Rattle.trace_text.specs.Held.{IsHeld, Steps}
+use Rattle.trace_text.specs.HeldLines.{IsHeld, Steps}
 use Rattle.trace_text.proofs.Split.{is_clean, split_at}
 use Rattle.trace_text.proofs.Guess.{guess, number, nth, small}
 use Rattle.trace_text.proofs.Exclusive.{spelt_in}
-use Rattle.trace_text.proofs.Steps.{line_by_word, behind}
+use Rattle.trace_text.proofs.LinesByWord.{line_by_word, behind}
 
 -- lines that are this word and a number, and where they may stand
 pub record AreNumberLines (r : Reading) (word : List ℕ) (make : ℕ → Line) (rank : ℕ) (rule : ℕ → Bool) : Type 0 where

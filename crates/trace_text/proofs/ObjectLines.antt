@@ -7,11 +7,11 @@ use Rattle.std.specs.Fmt.{signed_decimal}
 use Rattle.vm_model.specs.declared.calls.Call.{Call}
 use Rattle.vm_model.specs.declared.calls.Call.TheVariants as call
 use Rattle.vm_model.specs.Words.{fields, lacks, is_name, is_number, is_amount}
-use Rattle.trace_text.specs.Lines.{TargetName, FreePercpu, Add, Sum, is_spelt, target_text}
+use Rattle.trace_text.specs.SpelledLines.{TargetName, FreePercpu, Add, Sum, is_spelt, target_text}
 use Rattle.trace_text.specs.Reading.{Reading}
 use Rattle.trace_text.specs.Grammar.{aims, follows, has_room, has_word, is_cpu, is_object, words_in}
 use Rattle.trace_text.specs.declared.progress.Progress.{Progress}
-use Rattle.trace_text.specs.Held.{Steps, has_size}
+use Rattle.trace_text.specs.HeldLines.{Steps, has_size}
 use Rattle.trace_text.proofs.Split.{lacks-clean, same_cut}
 use Rattle.trace_text.proofs.Guess.{amount, clean-target, nth, number, small}
 use Rattle.trace_text.proofs.Amounts.{same_pair_and_amount}

@@ -5,14 +5,14 @@ use Rattle.std.proofs.lemmas.Bool.Decides.{nat_tests}
 use Rattle.std.specs.List.{list_all}
 use Rattle.trace_text.specs.declared.progress.Progress.{Progress}
 use Rattle.vm_model.specs.Words.{fields, within, is_number}
-use Rattle.trace_text.specs.Lines.{Line, Order, spelled}
+use Rattle.trace_text.specs.SpelledLines.{Line, Order, spelled}
 use Rattle.trace_text.specs.Reading.{Reading, Header}
 use Rattle.trace_text.specs.Grammar.{may_stand, follows}
-use Rattle.trace_text.specs.Held.{IsHeld, Steps, ArePicks, AddsPicks}
+use Rattle.trace_text.specs.HeldLines.{IsHeld, Steps, ArePicks, AddsPicks}
 use Rattle.trace_text.proofs.Split.{split_at}
 use Rattle.trace_text.proofs.Guess.{number}
 use Rattle.trace_text.proofs.Exclusive.{spelt_in}
-use Rattle.trace_text.proofs.Steps.{line_by_word, behind}
+use Rattle.trace_text.proofs.LinesByWord.{line_by_word, behind}
 use Rattle.trace_text.proofs.PickProofs.{picks_are_numbers}
 
 order_at : (rank : ℕ) → follows rank 11 ≡ true → (2 ≤ rank) × (rank ≤ 11)

@@ -5,11 +5,11 @@ use Rattle.std.specs.List.{list_all}
 use Rattle.std.specs.Str.{bytes_eq}
 use Rattle.trace_text.specs.declared.progress.Progress.{Progress}
 use Rattle.vm_model.specs.Words.{fields, within, is_number}
-use Rattle.trace_text.specs.Lines.{Line, Version, Space, Frames, Lazy, Blocks, Units, GroupOf, Callers, Counters, Caller, Vmalloc, Vfree, MapRam, UnmapRam, UnmapAliases, AllocPercpu, AllocAtomic, FreePercpu, Add, Sum, Balance, Count, Order, End, spelled, word_of}
+use Rattle.trace_text.specs.SpelledLines.{Line, Version, Space, Frames, Lazy, Blocks, Units, GroupOf, Callers, Counters, Caller, Vmalloc, Vfree, MapRam, UnmapRam, UnmapAliases, AllocPercpu, AllocAtomic, FreePercpu, Add, Sum, Balance, Count, Order, End, spelled, word_of}
 use Rattle.trace_text.specs.Reading.{Reading}
 use Rattle.trace_text.specs.Grammar.{may_stand, follows}
 use Rattle.trace_text.specs.LineWords.{is_percpu_or_header, one_of, words_of_header}
-use Rattle.trace_text.specs.Held.{IsHeld, Steps, StepsIn}
+use Rattle.trace_text.specs.HeldLines.{IsHeld, Steps, StepsIn}
 
 pub record BeginsNoHeader (text : List ℕ) : Type 0 where
   pub callers : bytes_eq (take 8 text) (codes "callers ") ≡ false

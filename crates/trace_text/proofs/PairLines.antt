@@ -4,14 +4,14 @@ use Rattle.std.proofs.lemmas.Bool.{and_parts, and_from}
 use Rattle.std.proofs.lemmas.Fmt.{decimal_injective}
 use Rattle.trace_text.specs.declared.progress.Progress.{Progress}
 use Rattle.vm_model.specs.Words.{fields, is_number}
-use Rattle.trace_text.specs.Lines.{Line, Blocks, Units, GroupOf, Counters, spelled}
+use Rattle.trace_text.specs.SpelledLines.{Line, Blocks, Units, GroupOf, Counters, spelled}
 use Rattle.trace_text.specs.Reading.{Reading}
 use Rattle.trace_text.specs.Grammar.{may_stand, is_allowed, follows, read}
-use Rattle.trace_text.specs.Held.{IsHeld, Steps}
+use Rattle.trace_text.specs.HeldLines.{IsHeld, Steps}
 use Rattle.trace_text.proofs.Split.{is_clean, split_at, lacks-clean, same_cut}
 use Rattle.trace_text.proofs.Guess.{guess, number, nth, small, clean-decimal}
 use Rattle.trace_text.proofs.Exclusive.{spelt_in}
-use Rattle.trace_text.proofs.Steps.{line_by_word, behind}
+use Rattle.trace_text.proofs.LinesByWord.{line_by_word, behind}
 
 -- lines that are this word and two numbers, and where they may stand
 pub record ArePairLines (r : Reading) (word : List ℕ) (make : ℕ → ℕ → Line) (rank : ℕ) (rule : ℕ → ℕ → Bool) : Type 0 where

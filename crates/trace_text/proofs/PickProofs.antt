@@ -5,7 +5,7 @@ use Rattle.std.proofs.lemmas.Bool.Decides.{nat_tests}
 use Rattle.std.proofs.lemmas.List.{map-append, append-nil, length-map}
 use Rattle.std.specs.List.{list_all}
 use Rattle.vm_model.specs.Words.{fields, within, is_number, lacks}
-use Rattle.trace_text.specs.Held.{ArePicks, AddsPicks}
+use Rattle.trace_text.specs.HeldLines.{ArePicks, AddsPicks}
 use Rattle.trace_text.proofs.Split.{split_at, onto_first, split_at-fields, split_at-lacks, split_at-whole, lacks-clean}
 use Rattle.trace_text.proofs.Outcomes.{split_at-full}
 use Rattle.trace_text.proofs.Guess.{clean-decimal, clean-decimals}

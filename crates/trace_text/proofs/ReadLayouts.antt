@@ -3,17 +3,17 @@ use Rattle.std.proofs.Common.{◌≡◌, ◌∙◌, ℕ, List, ap, sym, subst, R
 use Rattle.unit_layout.specs.declared.errors.BuildError.{BuildError}
 use Rattle.unit_layout.specs.declared.errors.BuildError.TheVariants as build
 use Rattle.unit_layout.specs.declared.errors.LayoutError.{LayoutError}
-use Rattle.unit_layout.specs.Ranges.{IsInRange}
+use Rattle.unit_layout.specs.NumberRanges.{IsInRange}
 use Rattle.unit_layout.specs.Refusals.{refusal}
 use Rattle.trace_text.specs.declared.progress.Progress.{Progress}
 use Rattle.trace_text.specs.declared.reader.TraceError.{TraceError}
 use Rattle.trace_text.specs.declared.reader.TraceError.TheVariants as error
 use Rattle.trace_text.specs.Reading.{Reading, Header}
 use Rattle.trace_text.specs.Grammar.{IsTraceOf}
-use Rattle.trace_text.specs.Held.{IsHeld, header_of}
+use Rattle.trace_text.specs.HeldLines.{IsHeld, header_of}
 use Rattle.trace_text.specs.TraceError.{error_of}
-use Rattle.trace_text.specs.Told.{layout_spec, LayoutStands, IsRefusedLayout}
-use Rattle.trace_text.specs.Laws.{StandsOrRefused, OneRefusal}
+use Rattle.trace_text.specs.ToldTraces.{layout_spec, LayoutStands, IsRefusedLayout}
+use Rattle.trace_text.specs.GrammarLaws.{StandsOrRefused, OneRefusal}
 use Rattle.trace_text.proofs.Exclusive.{one_trace}
 use Rattle.trace_text.proofs.HeaderRanges.{header_in_range}
 

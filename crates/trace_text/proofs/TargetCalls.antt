@@ -7,11 +7,11 @@ use Rattle.std.specs.Option.{option_map}
 use Rattle.std.specs.Str.{bytes_eq}
 use Rattle.vm_model.specs.declared.calls.Call.{Call}
 use Rattle.trace_text.specs.declared.progress.Progress.{Progress}
-use Rattle.trace_text.specs.Lines.{TargetName}
+use Rattle.trace_text.specs.SpelledLines.{TargetName}
 use Rattle.trace_text.specs.Reading.{Reading, Made, Named, AreNamed, aimed_at, calls_of, find_name}
 use Rattle.trace_text.specs.Grammar.{aims, is_call_as}
 use Rattle.trace_text.specs.Names.{place_of}
-use Rattle.trace_text.specs.Held.{IsHeld, call_at, has_size, sections_below, target_call}
+use Rattle.trace_text.specs.HeldLines.{IsHeld, call_at, has_size, sections_below, target_call}
 
 -- the name by which a target's call is found
 pub record IsAimed (r : Reading) (t : TargetName) (n : ℕ) (c : Call) : Type 0 where

@@ -6,14 +6,14 @@ use Rattle.vm_model.specs.declared.calls.Call.TheVariants as call
 use Rattle.vm_model.specs.declared.calls.Target.{Target}
 use Rattle.trace_text.specs.declared.progress.Progress.{Progress}
 use Rattle.vm_model.specs.Words.{fields, is_name}
-use Rattle.trace_text.specs.Lines.{Line, TargetName, Vfree, UnmapRam, spelled, is_spelt, target_text}
+use Rattle.trace_text.specs.SpelledLines.{Line, TargetName, Vfree, UnmapRam, spelled, is_spelt, target_text}
 use Rattle.trace_text.specs.Reading.{Reading, aimed_at, number_of, target_of, with_call}
 use Rattle.trace_text.specs.Grammar.{may_stand, follows, aims, is_call_as, is_vmalloc, is_map_ram, has_room, read}
-use Rattle.trace_text.specs.Held.{IsHeld, Steps, NamesCall, NamesNone, has_place}
+use Rattle.trace_text.specs.HeldLines.{IsHeld, Steps, NamesCall, NamesNone, has_place}
 use Rattle.trace_text.proofs.Split.{is_clean, split_at}
 use Rattle.trace_text.proofs.Guess.{guess, target, target-text, nth}
 use Rattle.trace_text.proofs.Exclusive.{spelt_in}
-use Rattle.trace_text.proofs.Steps.{line_by_word, behind}
+use Rattle.trace_text.proofs.LinesByWord.{line_by_word, behind}
 use Rattle.trace_text.proofs.TargetCalls.{is_aimed, call_of_aim}
 
 -- the word of such lines, what further fields say, and what the line asks: for the target's call, of these, and otherwise

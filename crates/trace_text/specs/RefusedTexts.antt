@@ -2,7 +2,7 @@
 use Rattle.std.specs.Prelude.{ℕ, List, [], ◌∷◌, codes}
 use Rattle.unit_layout.specs.declared.errors.LayoutError.{LayoutError}
 use Rattle.unit_layout.specs.declared.errors.LayoutError.TheVariants.{NoCpu, TooManyGroups, Overlap, TooWide}
-use Rattle.trace_text.specs.Told.{IsRefusedLayout}
+use Rattle.trace_text.specs.ToldTraces.{IsRefusedLayout}
 
 pub record RefusedText : Type 0 where
   pub text : List ℕ

@@ -3,7 +3,7 @@ ghost use Rattle.std.specs.Prelude.{◌≡◌, ◌<◌, ◌++◌, ◌&&◌, true
 ghost use Rattle.trace_text.specs.Reading.{Reading, with_call, with_name};
 ghost use Rattle.vm_model.specs.Words.{is_name};
 ghost use Rattle.trace_text.specs.Grammar.{is_new, is_vmalloc, is_map_ram, most_lines};
-ghost use Rattle.trace_text.specs.Held.{IsHeld, Steps, NamesCall, NamesNone, has_place, has_size, target_call};
+ghost use Rattle.trace_text.specs.HeldLines.{IsHeld, Steps, NamesCall, NamesNone, has_place, has_size, target_call};
 
 use crate::fields::{named_pair, target};
 use crate::groups::cpu_count;

@@ -1,7 +1,7 @@
 //! The count lines, as they are read.
 ghost use Rattle.std.specs.Prelude.{◌++◌, IfOk, codes};
 ghost use Rattle.trace_text.specs.Reading.{Reading};
-ghost use Rattle.trace_text.specs.Held.{IsHeld, Steps};
+ghost use Rattle.trace_text.specs.HeldLines.{IsHeld, Steps};
 
 use crate::call_lines::has_place;
 use crate::fields::pair_and_amount;

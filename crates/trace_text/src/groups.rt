@@ -1,10 +1,10 @@
 //! The groups of processors, as they are read.
 ghost use Rattle.std.specs.Prelude.{◌≡◌, ◌≤◌, ◌+◌, ◌++◌, IfOk, IsTrue, codes};
 ghost use Rattle.vm_model.specs.Words.{is_number};
-ghost use Rattle.trace_text.specs.Lines.{GroupOf};
+ghost use Rattle.trace_text.specs.SpelledLines.{GroupOf};
 ghost use Rattle.trace_text.specs.Reading.{Reading, cpus_of, groups_of};
 ghost use Rattle.trace_text.specs.Grammar.{is_allowed};
-ghost use Rattle.trace_text.specs.Held.{IsHeld, Steps};
+ghost use Rattle.trace_text.specs.HeldLines.{IsHeld, Steps};
 
 use crate::fields::pair;
 use crate::progress::{GROUP, Progress, SPACE};

@@ -2,9 +2,9 @@
 ghost use Rattle.std.specs.Prelude.{◌≡◌, ◌++◌, codes};
 ghost use Rattle.trace_text.specs.Reading.{Reading};
 ghost use Rattle.trace_text.specs.LineWords.{one_of, words_of_header};
-ghost use Rattle.trace_text.specs.Lines.{Blocks, Units};
+ghost use Rattle.trace_text.specs.SpelledLines.{Blocks, Units};
 ghost use Rattle.trace_text.specs.Grammar.{is_allowed};
-ghost use Rattle.trace_text.specs.Held.{IsHeld, Steps, StepsIn};
+ghost use Rattle.trace_text.specs.HeldLines.{IsHeld, Steps, StepsIn};
 
 use crate::fields::{number, pair};
 use crate::progress::{BLOCK, CALLERS, COUNTERS, FRAMES, LAZY, Progress, SPACE, UNIT, VERSION};

@@ -3,7 +3,7 @@ ghost use Rattle.std.specs.Prelude.{◌≡◌, ◌++◌, ◌==◌, List, ℕ, No
 ghost use Rattle.trace_text.specs.Reading.{Reading};
 ghost use Rattle.trace_text.specs.Names.{place_of};
 ghost use Rattle.trace_text.specs.LineWords.{is_percpu_or_header};
-ghost use Rattle.trace_text.specs.Held.{IsHeld, Steps, StepsIn};
+ghost use Rattle.trace_text.specs.HeldLines.{IsHeld, Steps, StepsIn};
 
 use crate::call_lines::{
     read_map_ram, read_unmap_aliases, read_unmap_ram, read_vfree, read_vmalloc,

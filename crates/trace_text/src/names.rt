@@ -3,7 +3,7 @@ ghost use Rattle.std.specs.Prelude.{◌≡◌, ◌≤◌, ◌||◌, not, List, �
 ghost use Rattle.std.specs.Str.{bytes_eq};
 ghost use Rattle.vm_model.specs.Words.{is_letter, is_digit, is_name};
 ghost use Rattle.trace_text.specs.Names.{symbol, number_of, slot_of, place_of};
-ghost use Rattle.trace_text.specs.Held.{call_at};
+ghost use Rattle.trace_text.specs.HeldLines.{call_at};
 
 use crate::fields::is_letter;
 use std::alloc::{AllocError, Global};

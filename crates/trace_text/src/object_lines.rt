@@ -2,7 +2,7 @@
 ghost use Rattle.std.specs.Prelude.{◌≡◌, ◌++◌, IfOk, codes};
 ghost use Rattle.trace_text.specs.Reading.{Reading};
 ghost use Rattle.trace_text.specs.Grammar.{has_word, is_object};
-ghost use Rattle.trace_text.specs.Held.{IsHeld, Steps};
+ghost use Rattle.trace_text.specs.HeldLines.{IsHeld, Steps};
 
 use crate::call_lines::{add_call, add_named_call, aimed_at, has_place};
 use crate::fields::{named_pair, numbered, numbered_amount};

@@ -1,7 +1,7 @@
 //! The picks of an `order` line, as they are read.
 ghost use Rattle.std.specs.Prelude.{◌≡◌, ◌≢◌, ◌++◌, ◌∷◌, [], ℕ, IfOk, IfSome, IfNone, IsTrue, decimal};
 ghost use Rattle.vm_model.specs.Words.{within};
-ghost use Rattle.trace_text.specs.Held.{AddsPicks};
+ghost use Rattle.trace_text.specs.HeldLines.{AddsPicks};
 
 use crate::fields::{cut, number};
 use std::alloc::AllocError;

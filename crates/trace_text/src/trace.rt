@@ -1,11 +1,11 @@
 //! What a trace says.
 ghost use Rattle.std.specs.Prelude.{◌≡◌, IfOk, OnOk};
-ghost use Rattle.unit_layout.specs.Ranges.{IsInRange};
+ghost use Rattle.unit_layout.specs.NumberRanges.{IsInRange};
 ghost use Rattle.unit_layout.specs.Refusals.{refusal};
-ghost use Rattle.unit_layout.specs.Rule.{layout_of};
-ghost use Rattle.trace_text.specs.Held.{IsHeld, header_of};
+ghost use Rattle.unit_layout.specs.LayoutRule.{layout_of};
+ghost use Rattle.trace_text.specs.HeldLines.{IsHeld, header_of};
 ghost use Rattle.trace_text.specs.Reading.{Reading};
-ghost use Rattle.trace_text.specs.Told.{Tells, asked_layout, config_of, layout_spec};
+ghost use Rattle.trace_text.specs.ToldTraces.{Tells, asked_layout, config_of, layout_spec};
 
 use crate::groups::groups_of;
 use crate::progress::Progress;

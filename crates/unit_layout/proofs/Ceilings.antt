@@ -7,7 +7,7 @@ use Rattle.std.proofs.lemmas.List.Sums.{sum_by-le-sum_by}
 use Rattle.std.specs.Int.{div_ceil}
 use Rattle.vm_model.specs.Rules.{IsPower}
 use Rattle.unit_layout.specs.declared.request.GroupSpec.{GroupSpec}
-use Rattle.unit_layout.specs.Rule.{processors, allocations, allocation}
+use Rattle.unit_layout.specs.LayoutRule.{processors, allocations, allocation}
 
 -- a multiple that holds the number bounds it
 pub div_ceil-le : (n k m : ℕ) → 0 < k → n ≤ m * k → div_ceil n k ≤ m

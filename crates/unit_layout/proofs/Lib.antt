@@ -1,8 +1,8 @@
 pub mod Ceilings
-pub mod Search
-pub mod Places
-pub mod Apart
+pub mod UnitSearch
+pub mod GroupPlaces
+pub mod GroupsApart
 pub mod Lying
-pub mod Standing
+pub mod StandingLayouts
 pub mod Overlaps
 pub mod OwnGroups

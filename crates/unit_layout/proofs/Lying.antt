@@ -9,11 +9,11 @@ use Rattle.vm_model.specs.Space.{end_of, count_from}
 use Rattle.unit_layout.specs.declared.request.GroupSpec.{GroupSpec}
 use Rattle.unit_layout.specs.declared.request.LayoutSpec.{LayoutSpec}
 use Rattle.unit_layout.specs.declared.division.Division.{Division}
-use Rattle.unit_layout.specs.Ranges.{IsInRange}
-use Rattle.unit_layout.specs.Rule.{processors, wasted, allocations, allocation, candidates, kept, taken_after, down_to_one, units_in, division_of, span_of, units_of}
+use Rattle.unit_layout.specs.NumberRanges.{IsInRange}
+use Rattle.unit_layout.specs.LayoutRule.{processors, wasted, allocations, allocation, candidates, kept, taken_after, down_to_one, units_in, division_of, span_of, units_of}
 use Rattle.unit_layout.proofs.Ceilings.{power_pos}
-use Rattle.unit_layout.proofs.Search.{search_begins}
-use Rattle.unit_layout.proofs.Apart.{laid_spans}
+use Rattle.unit_layout.proofs.UnitSearch.{search_begins}
+use Rattle.unit_layout.proofs.GroupsApart.{laid_spans}
 
 -- a number of units that an allocation has room for
 pub record HasRoom (pages unit k : ℕ) : Type 0 where

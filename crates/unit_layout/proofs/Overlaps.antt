@@ -9,13 +9,13 @@ use Rattle.unit_layout.specs.declared.request.GroupSpec.{GroupSpec}
 use Rattle.unit_layout.specs.declared.request.LayoutSpec.{LayoutSpec}
 use Rattle.unit_layout.specs.declared.division.Division.{Division}
 use Rattle.unit_layout.specs.declared.errors.LayoutError.TheVariants.{NoCpu, TooManyGroups, Overlap, TooWide}
-use Rattle.unit_layout.specs.Rule.{span_of, division_of}
+use Rattle.unit_layout.specs.LayoutRule.{span_of, division_of}
 use Rattle.unit_layout.specs.Refusals.{first_place, has_no_processor, or_else, share_a_page, too_many, overlap, width, too_wide}
-use Rattle.unit_layout.proofs.Apart.{if-none, option_map-none, apart_from}
+use Rattle.unit_layout.proofs.GroupsApart.{if-none, option_map-none, apart_from}
 use Rattle.unit_layout.proofs.Lying.{division_room}
-use Rattle.unit_layout.proofs.Standing.{cpus_at, pages_at, unit_pages_low}
-use Rattle.unit_layout.specs.Ranges.{IsInRange}
-use Rattle.unit_layout.specs.Laws.{IsLeastOverlap, OverlapsAreTheLeast}
+use Rattle.unit_layout.proofs.StandingLayouts.{cpus_at, pages_at, unit_pages_low}
+use Rattle.unit_layout.specs.NumberRanges.{IsInRange}
+use Rattle.unit_layout.specs.LayoutLaws.{IsLeastOverlap, OverlapsAreTheLeast}
 
 if-some : {X : Type 0} (b : Bool) (x y : X) (more : Option X) → (if b then Some x else more) ≡ Some y → ((b ≡ true) × (x ≡ y)) ⊎ ((b ≡ false) × (more ≡ Some y))
 if-some true x y more h = inl (refl, cc)

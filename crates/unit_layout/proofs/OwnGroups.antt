@@ -5,8 +5,8 @@ use Rattle.std.proofs.lemmas.List.Sums.{sum_by-cons}
 use Rattle.vm_model.specs.Space.{count_from}
 use Rattle.unit_layout.specs.declared.request.GroupSpec.{GroupSpec}
 use Rattle.unit_layout.specs.declared.division.Division.{Division}
-use Rattle.unit_layout.specs.Rule.{processors, division_of, units_of, group_of}
-use Rattle.unit_layout.specs.Laws.{UnitsLieInTheirGroup, first_processor}
+use Rattle.unit_layout.specs.LayoutRule.{processors, division_of, units_of, group_of}
+use Rattle.unit_layout.specs.LayoutLaws.{UnitsLieInTheirGroup, first_processor}
 use Rattle.unit_layout.proofs.Lying.{division_room, unit_in_group}
 
 -- of two rows of numbered units the second begins behind the first

@@ -2,7 +2,7 @@
 use Rattle.std.specs.Prelude.{[]}
 use Rattle.vm_model.specs.Setup.{Setup}
 use Rattle.unit_layout.specs.declared.config.Config.{Config}
-use Rattle.unit_layout.specs.Rule.{with_layout}
+use Rattle.unit_layout.specs.LayoutRule.{with_layout}
 
 abbrev pub setup_of : Config → Setup
 setup_of config = with_layout config.layout (record {

@@ -1,6 +1,6 @@
-pub mod Rule
-pub mod Ranges
+pub mod LayoutRule
+pub mod NumberRanges
 pub mod Refusals
-pub mod Rows
-pub mod Laws
+pub mod WorkedLayouts
+pub mod LayoutLaws
 pub mod Config

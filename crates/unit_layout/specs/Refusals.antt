@@ -8,7 +8,7 @@ use Rattle.unit_layout.specs.declared.request.LayoutSpec.{LayoutSpec}
 use Rattle.unit_layout.specs.declared.division.Division.{Division}
 use Rattle.unit_layout.specs.declared.errors.LayoutError.{LayoutError}
 use Rattle.unit_layout.specs.declared.errors.LayoutError.TheVariants.{NoCpu, TooManyGroups, Overlap, TooWide}
-use Rattle.unit_layout.specs.Rule.{division_of, span_of}
+use Rattle.unit_layout.specs.LayoutRule.{division_of, span_of}
 
 -- the place of the first element that passes a test, the first place being p
 abbrev pub first_place : {X : Type 0} → (X → Bool) → ℕ → List X → Option ℕ

@@ -1,8 +1,8 @@
 //! How many units share an allocation.
 ghost use Rattle.std.specs.Prelude.{◌≡◌, ◌*◌, ◌^◌, ◌<◌, ◌≤◌};
 ghost use Rattle.vm_model.specs.Rules.{IsPower};
-ghost use Rattle.unit_layout.specs.Rule as rule;
-ghost use Rattle.unit_layout.specs.Ranges.{IsInRange, IsDivision};
+ghost use Rattle.unit_layout.specs.LayoutRule as rule;
+ghost use Rattle.unit_layout.specs.NumberRanges.{IsInRange, IsDivision};
 
 use crate::request::{GroupSpec, LayoutSpec};
 

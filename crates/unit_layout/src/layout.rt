@@ -1,8 +1,8 @@
 //! A layout of units.
 ghost use Rattle.std.specs.Prelude.{◌≡◌, ◌+◌, ◌<◌, ◌≤◌, map, flat_map, length, slice_index, ◌++◌, All, IfOk, OnOk};
 ghost use Rattle.vm_model.specs.Space.{address_of};
-ghost use Rattle.unit_layout.specs.Rule as rule;
-ghost use Rattle.unit_layout.specs.Ranges.{IsInRange, IsGroupInRange, IsDivision};
+ghost use Rattle.unit_layout.specs.LayoutRule as rule;
+ghost use Rattle.unit_layout.specs.NumberRanges.{IsInRange, IsGroupInRange, IsDivision};
 ghost use Rattle.unit_layout.specs.Refusals as refused;
 
 use crate::division::{Division, division_of};
@@ -81,7 +81,7 @@ pub struct Layout {
 
 impl Model for Layout {
     ghost use Rattle.std.specs.Prelude.{◌≤◌, length};
-    ghost use Rattle.unit_layout.specs.Rule.{Numbers};
+    ghost use Rattle.unit_layout.specs.LayoutRule.{Numbers};
 
     ghost Value = { Numbers };
 

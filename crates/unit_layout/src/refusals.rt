@@ -1,8 +1,8 @@
 //! Which layouts are refused.
 ghost use Rattle.std.specs.Prelude.{◌≡◌, ◌+◌, ◌<◌, ◌≤◌, ◌^◌, length, drop, All};
 ghost use Rattle.vm_model.specs.Space.{end_of};
-ghost use Rattle.unit_layout.specs.Rule.{processors, pages_of_group, span_of};
-ghost use Rattle.unit_layout.specs.Ranges.{IsDivision, IsGroupInRange};
+ghost use Rattle.unit_layout.specs.LayoutRule.{processors, pages_of_group, span_of};
+ghost use Rattle.unit_layout.specs.NumberRanges.{IsDivision, IsGroupInRange};
 ghost use Rattle.unit_layout.specs.Refusals as rule;
 
 use crate::division::Division;

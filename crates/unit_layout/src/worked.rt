@@ -1,5 +1,5 @@
 //! Worked layouts, by computation.
-ghost use Rattle.unit_layout.specs.Rows.{OneProcessor, SixShareTwoAllocations, FiveShareThreeAllocations, TwoGroups, NoProcessor, NineGroups, SharedPages, TheFirstPair, AboveTheSpace, NoProcessorOfNine, NoProcessorAndSharedPages, NineGroupsShare, NineGroupsAboveTheSpace, SharedAboveTheSpace, FirstOfFour};
+ghost use Rattle.unit_layout.specs.WorkedLayouts.{OneProcessor, SixShareTwoAllocations, FiveShareThreeAllocations, TwoGroups, NoProcessor, NineGroups, SharedPages, TheFirstPair, AboveTheSpace, NoProcessorOfNine, NoProcessorAndSharedPages, NineGroupsShare, NineGroupsAboveTheSpace, SharedAboveTheSpace, FirstOfFour};
 
 /// The numbers of worked layouts, and why others are refused.
 pub fn layout_rows()

@@ -1,4 +1,4 @@
-pub mod AreaRowProofs
-pub mod BlockRowProofs
-pub mod ObjectRowProofs
-pub mod ChunkRowProofs
+pub mod WorkedAreaProofs
+pub mod WorkedBlockProofs
+pub mod WorkedObjectProofs
+pub mod WorkedChunkProofs

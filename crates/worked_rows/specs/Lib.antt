@@ -1,5 +1,5 @@
 pub mod Worked
-pub mod AreaRows
-pub mod BlockRows
-pub mod ObjectRows
-pub mod ChunkRows
+pub mod WorkedAreas
+pub mod WorkedBlocks
+pub mod WorkedObjects
+pub mod WorkedChunks

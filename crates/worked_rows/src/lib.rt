@@ -3,10 +3,10 @@
 //! - `area_rows`, `block_rows`, `object_rows`, `chunk_rows`: worked traces with all their tables.
 #![tactic(auto)]
 
-ghost use Rattle.worked_rows.specs.AreaRows.{EmptyTrace, TwoAreasWithGuards, NoSpaceAfterAPurge, FreedPagesWait, APurgeMakesRoom, AlignedAboveAPage, TheFirstFreeWins, TheOtherFreeWins, StaysAtTheTurn, LazyLimitPurges, RefusedCalls, PicksInTurn, AlignedToTheWholeRange, TwoFreeRuns, TwoWithoutSpace};
-ghost use Rattle.worked_rows.specs.BlockRows.{ASpentBlockWaits, AFragmentedBlockIsRetired, ALargeMapIsAnArea, NoFramesSpendsABlock, DirtyRangesAreFlushed};
-ghost use Rattle.worked_rows.specs.ObjectRows.{TwoGroups, OffsetsInAChunk, ObjectsOfAWholeUnit, NoFramesForAChunk, NoSpaceForAChunk, UnitsThatShareAnAllocation, ASumBelowThirtyTwoBits, WordsOfAnObject};
-ghost use Rattle.worked_rows.specs.ChunkRows.{HintsOverAHole, TheHoleIsTaken, AlignedFits, ABalanceWithoutFrames, AtomicAndBalance, ASecondChunk, SpareChunksArePurged, SpareChunksGo};
+ghost use Rattle.worked_rows.specs.WorkedAreas.{EmptyTrace, TwoAreasWithGuards, NoSpaceAfterAPurge, FreedPagesWait, APurgeMakesRoom, AlignedAboveAPage, TheFirstFreeWins, TheOtherFreeWins, StaysAtTheTurn, LazyLimitPurges, RefusedCalls, PicksInTurn, AlignedToTheWholeRange, TwoFreeRuns, TwoWithoutSpace};
+ghost use Rattle.worked_rows.specs.WorkedBlocks.{ASpentBlockWaits, AFragmentedBlockIsRetired, ALargeMapIsAnArea, NoFramesSpendsABlock, DirtyRangesAreFlushed};
+ghost use Rattle.worked_rows.specs.WorkedObjects.{TwoGroups, OffsetsInAChunk, ObjectsOfAWholeUnit, NoFramesForAChunk, NoSpaceForAChunk, UnitsThatShareAnAllocation, ASumBelowThirtyTwoBits, WordsOfAnObject};
+ghost use Rattle.worked_rows.specs.WorkedChunks.{HintsOverAHole, TheHoleIsTaken, AlignedFits, ABalanceWithoutFrames, AtomicAndBalance, ASecondChunk, SpareChunksArePurged, SpareChunksGo};
 
 /// What the worked traces of areas leave.
 pub fn area_rows()

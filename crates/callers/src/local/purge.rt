@@ -6,7 +6,7 @@ ghost use Rattle.vm_model.specs.Events.{Fragment, Dirty};
 ghost use Rattle.vm_model.specs.History.{moved_to};
 ghost use Rattle.vm_model.specs.declared.areas.Span.{Span};
 ghost use Rattle.vm_model.specs.Space.{HasEnd, hull};
-ghost use Rattle.lazy_purge.specs.Waits.{HasPage};
+ghost use Rattle.lazy_purge.specs.WaitingSet.{HasPage};
 ghost use Rattle.vm_model.specs.Places as model;
 ghost use Rattle.vm_model.specs.Places.{Then};
 ghost use Rattle.map_blocks.specs.BlockRows as rows;

@@ -1,7 +1,7 @@
 //! The live objects of the side, by chunk and then by offset.
 ghost use Rattle.std.specs.Prelude.{◌≡◌, ◌<◌, Some, IfOk, length, slice_get};
 ghost use Rattle.chunk_slots.specs.ChunkRegion.{object_table};
-ghost use Rattle.chunk_slots.specs.LiveRows.{seek};
+ghost use Rattle.chunk_slots.specs.LiveObjectRows.{seek};
 
 use super::PcpuSide;
 use crate::object_rows::{Sought, push_rows, seek_in};

@@ -12,15 +12,15 @@ use Rattle.vm_model.specs.Space.{count_from, covers, holds, is_among, pages_of, 
 use Rattle.vm_model.specs.declared.areas.Area.{Area}
 use Rattle.vm_model.specs.declared.areas.AreaKind.{AreaKind}
 use Rattle.vm_model.specs.declared.areas.Span.{Span}
-use Rattle.map_laws.proofs.Frames.{set_other}
-use Rattle.map_laws.proofs.Chosen.{or_none, holds_from, covers_times, covers_one, holds_to}
+use Rattle.map_laws.proofs.KeptThroughSteps.{set_other}
+use Rattle.map_laws.proofs.TestsAndFilters.{or_none, holds_from, covers_times, covers_one, holds_to}
 use Rattle.vm_model.specs.declared.areas.AreaKind.TheVariants as kind
 use Rattle.vm_model.specs.Legal.{OnEach, IsMarked, IsUnmapped, IsMapped, IsBare}
 use Rattle.vm_model.specs.Places.{Place, Over, MappingArea, Dropping, SettlingArea, UnmappingArea, Waiting, PurgeWaiting, PurgeFlushing, PurgeReturning, SettlingBlock, SettlingGroups, block_spans}
 use Rattle.vm_model.specs.Next.{Next, Go, Answer}
 use Rattle.vm_model.specs.Carried.{held, flushed}
 use Rattle.vm_model.specs.Laws.{as_free}
-use Rattle.map_laws.proofs.Places.{IsPlainKind}
+use Rattle.map_laws.proofs.ProperPlaces.{IsPlainKind}
 
 abbrev pub touch : Setup → PlainMap → Section → ℕ → Bool
 touch c m (Carve place align) page = holds place page

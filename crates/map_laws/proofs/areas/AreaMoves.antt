@@ -18,9 +18,9 @@ use Rattle.vm_model.specs.Given.{given, carving, carving_groups, removal}
 use Rattle.vm_model.specs.Laws.{as_free}
 use Rattle.vm_model.specs.LegalHistory.{Meets}
 use Rattle.vm_model.proofs.Paint.{length-paint_from}
-use Rattle.map_laws.proofs.Places.{OnNext, IsPlainKind, IsAimed, IsProper}
+use Rattle.map_laws.proofs.ProperPlaces.{OnNext, IsPlainKind, IsAimed, IsProper}
 use Rattle.map_laws.proofs.areas.AreaFacts.{in_row, IsHolding, IsMapFine, own_uses, IsUnbearing, guard_part}
-use Rattle.map_laws.proofs.Chosen.{covers_one, holds_from}
+use Rattle.map_laws.proofs.TestsAndFilters.{covers_one, holds_from}
 use Rattle.map_laws.proofs.PlaceMoves.{IsMoved, quiet_moved, carve_area, carve_block, carve_groups, drop_moved, return_moved, length-give_frames, mapping_moved, unmapping_none, unmap_moved, wait_moved, take_moved, flush_moved}
 use Rattle.map_laws.proofs.OutMoves.{IsInside, IsUnlinked, settle_moved, remove_moved, unlink_moved, to_purge, to_waiting, inner_moved}
 use Rattle.map_laws.proofs.Quiet.{leads_bearing, asks_quiet, given_quiet, unbearing_next}

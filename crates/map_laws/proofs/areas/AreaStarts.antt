@@ -13,8 +13,8 @@ use Rattle.vm_model.specs.Places.{Place, SettlingArea, SettlingBlock, SettlingGr
 use Rattle.vm_model.specs.LegalHistory.{Meets}
 use Rattle.vm_model.specs.Laws.{IsAligned, as_free}
 use Rattle.map_laws.proofs.AskRows.{ask_row}
-use Rattle.map_laws.proofs.Chosen.{IsIn, filter_has, covers_one, holds_from}
-use Rattle.map_laws.proofs.Places.{IsPlainKind, IsProper, begins_with}
+use Rattle.map_laws.proofs.TestsAndFilters.{IsIn, filter_has, covers_one, holds_from}
+use Rattle.map_laws.proofs.ProperPlaces.{IsPlainKind, IsProper, begins_with}
 use Rattle.map_laws.proofs.OutMoves.{with_in}
 use Rattle.std.proofs.lemmas.List.{length-replicate}
 use Rattle.std.proofs.lemmas.List.Sums.{sum_by-cons, sum_by-append}
@@ -22,7 +22,7 @@ use Rattle.vm_model.specs.declared.calls.Call.{Call}
 use Rattle.vm_model.specs.Calls.{Answered}
 use Rattle.vm_model.specs.History.{World, Local, started, opening_world, opening_answers, callers_from, with_callers}
 use Rattle.vm_model.specs.Carried.{held, flushed}
-use Rattle.map_laws.proofs.Frames.{append_cases}
+use Rattle.map_laws.proofs.KeptThroughSteps.{append_cases}
 use Rattle.map_laws.proofs.areas.AreaFacts.{IsHolding, IsMapFine, IsUnbearing, nothing_held, nothing_flushed, holds_nothing, guard_part}
 use Rattle.map_laws.proofs.areas.AreaWorlds.{IsAreaWorld, unbearing_begins}
 use Rattle.vm_model.specs.declared.areas.AreaKind.TheVariants as kind

@@ -17,9 +17,9 @@ use Rattle.vm_model.specs.Carried.{held, flushed}
 use Rattle.vm_model.specs.LegalHistory.{Meets, IsNext, IsRun, IsReached, AllOver, after_event, world_after}
 use Rattle.vm_model.specs.Laws.{uses}
 use Rattle.vm_model.proofs.OneNext.{one_next}
-use Rattle.map_laws.proofs.Frames.{set_cases, there, IsFramed, IsStep, IsOpening, IsLasting, framed_opening, framed_callers, framed_step, opening_step, not_over, has_call}
-use Rattle.map_laws.proofs.Chosen.{sum_has, covers_one, holds_from}
-use Rattle.map_laws.proofs.Places.{IsProper, OnNext, HaveBeginnings, AtOver, begins_with, answers_call, moved_setup}
+use Rattle.map_laws.proofs.KeptThroughSteps.{set_cases, there, IsFramed, IsStep, IsOpening, IsLasting, framed_opening, framed_callers, framed_step, opening_step, not_over, has_call}
+use Rattle.map_laws.proofs.TestsAndFilters.{sum_has, covers_one, holds_from}
+use Rattle.map_laws.proofs.ProperPlaces.{IsProper, OnNext, HaveBeginnings, AtOver, begins_with, answers_call, moved_setup}
 use Rattle.map_laws.proofs.areas.AreaFacts.{touch, IsSame, untouched, painted, unpainted, ungiven, in_row, IsHolding, IsMapFine, own_uses, next_uses, IsClaimed, holding_stays, holds_nothing, nothing_claimed, IsUnbearing}
 use Rattle.map_laws.proofs.PlaceMoves.{IsMoved, length-give_frames}
 use Rattle.map_laws.proofs.OutMoves.{sum_two}

@@ -6,8 +6,8 @@ use Rattle.vm_model.specs.Setup.{Setup}
 use Rattle.vm_model.specs.PlainMap.{PlainMap, Block, Part, Life, InHand, is_ended}
 use Rattle.vm_model.specs.Blocks.{PartAt, size_of, parts_size, dirty_of, change_block, with_life, set_life}
 use Rattle.vm_model.specs.Legal.{IsUnmapped}
-use Rattle.map_laws.proofs.Frames.{same_or}
-use Rattle.map_laws.proofs.Chosen.{IsIn, sum_without}
+use Rattle.map_laws.proofs.KeptThroughSteps.{same_or}
+use Rattle.map_laws.proofs.TestsAndFilters.{IsIn, sum_without}
 use Rattle.map_laws.proofs.chunks.ChunkFalls.{mapped_at}
 use Rattle.vm_model.proofs.RoundedPages.{rounded_some}
 use Rattle.map_laws.proofs.blocks.BlockFacts.{OnRow, AreStacked, IsPartFine, IsBlockFine, IsPartIn, block_starts, to_same, stacked_covers, size_cons, Stays}

@@ -10,7 +10,7 @@ use Rattle.vm_model.specs.Blocks.{PartAt, first_page, rounded, size_of, parts_si
 use Rattle.vm_model.specs.Legal.{IsUnmapped, IsMapped, IsBare}
 use Rattle.vm_model.specs.Places.{Place, PurgeFragmenting, PurgeUnlinking, UnlinkingBlock, AddingBlock, MappingPart, SettlingPart, UnmappingPart, Retiring}
 use Rattle.vm_model.specs.Carried.{count_of}
-use Rattle.map_laws.proofs.Chosen.{IsIn, in_more}
+use Rattle.map_laws.proofs.TestsAndFilters.{IsIn, in_more}
 use Rattle.vm_model.proofs.RoundedPages.{rounded_some}
 use Rattle.vm_model.specs.declared.areas.AreaKind.TheVariants as kind
 

@@ -13,9 +13,9 @@ use Rattle.vm_model.specs.Effects.{effect_as}
 use Rattle.vm_model.specs.Places.{Place}
 use Rattle.vm_model.specs.Next.{Next, Go, Answer}
 use Rattle.vm_model.specs.Carried.{count_of}
-use Rattle.map_laws.proofs.Frames.{same_or}
-use Rattle.map_laws.proofs.Chosen.{IsIn, holds_from}
-use Rattle.map_laws.proofs.Places.{OnNext}
+use Rattle.map_laws.proofs.KeptThroughSteps.{same_or}
+use Rattle.map_laws.proofs.TestsAndFilters.{IsIn, holds_from}
+use Rattle.map_laws.proofs.ProperPlaces.{OnNext}
 use Rattle.map_laws.proofs.OutMoves.{same_area}
 use Rattle.vm_model.proofs.RoundedPages.{rounded_some}
 use Rattle.map_laws.proofs.blocks.BlockFacts.{OnRow, IsStill, IsBlockArea, IsPartFine, IsBlockFine, IsPartIn, block_out, IsBlockAt, block_starts, block_count, same_block, stacked_at, stacked_apart, same_part, still_bare, part_stays, Stays, block_stays}

@@ -21,11 +21,11 @@ use Rattle.map_laws.proofs.PlaceRows.{place_row}
 use Rattle.map_laws.proofs.areas.AreaFacts.{painted_still, IsHolding, IsMapFine, own_uses}
 use Rattle.map_laws.proofs.blocks.BlockFacts.{IsBlockArea, IsBlockAt, IsBlockFine, IsPartIn, IsStill, block_out, block_starts, count_cons, counted_block, not_among, to_same}
 use Rattle.map_laws.proofs.blocks.BlockMoves.{IsBlockMoved, area_holds, next_out, outer_moved}
-use Rattle.map_laws.proofs.Chosen.{IsIn, filter_in, put_keeps, put_new, covers_one, holds_from, holds_to, times-one}
-use Rattle.map_laws.proofs.Frames.{there}
+use Rattle.map_laws.proofs.TestsAndFilters.{IsIn, filter_in, put_keeps, put_new, covers_one, holds_from, holds_to, times-one}
+use Rattle.map_laws.proofs.KeptThroughSteps.{there}
 use Rattle.map_laws.proofs.Quiet.{area_times}
 use Rattle.map_laws.proofs.OutMoves.{same_area}
-use Rattle.map_laws.proofs.Places.{IsPlainKind, OnNext}
+use Rattle.map_laws.proofs.ProperPlaces.{IsPlainKind, OnNext}
 use Rattle.vm_model.specs.declared.areas.AreaKind.TheVariants as kind
 use Rattle.vm_model.specs.declared.calls.Reply.TheVariants as reply
 

@@ -17,8 +17,8 @@ use Rattle.vm_model.specs.Places.{Place, Finding, FindingAgain, MappingArea, Set
 use Rattle.vm_model.specs.Next.{Go, next, after_fragments, Answer, Next}
 use Rattle.vm_model.specs.Carried.{count_of}
 use Rattle.vm_model.specs.LegalHistory.{Meets}
-use Rattle.map_laws.proofs.Chosen.{IsIn, filter_in, sum_has, or_false, or_right, covers_one, holds_from, InSpans, holds_to, in_spans, times-cons}
-use Rattle.map_laws.proofs.Places.{IsPlainKind, IsProper, HaveBeginnings, AtOver, OnNext, answers_call, begins_with}
+use Rattle.map_laws.proofs.TestsAndFilters.{IsIn, filter_in, sum_has, or_false, or_right, covers_one, holds_from, InSpans, holds_to, in_spans, times-cons}
+use Rattle.map_laws.proofs.ProperPlaces.{IsPlainKind, IsProper, HaveBeginnings, AtOver, OnNext, answers_call, begins_with}
 use Rattle.vm_model.proofs.RoundedPages.{rounded_high}
 use Rattle.map_laws.proofs.areas.AreaFacts.{painted, unpainted, ungiven, outside_row, IsHolding, IsMapFine, own_uses, mapped_within}
 use Rattle.map_laws.proofs.PlaceMoves.{given_all, held_in_row}
@@ -34,7 +34,7 @@ use Rattle.std.proofs.lemmas.List.Sums.{sum_by-cons, sum_by-set}
 use Rattle.std.proofs.lemmas.Option.{get_or_from_slice_get, slice_get_within}
 use Rattle.vm_model.specs.History.{Local, World, moved_to}
 use Rattle.map_laws.proofs.areas.AreaWorlds.{moved_caller}
-use Rattle.map_laws.proofs.Frames.{set_cases}
+use Rattle.map_laws.proofs.KeptThroughSteps.{set_cases}
 use Rattle.map_laws.proofs.Quiet.{area_times}
 
 -- of the area that is removed at a place

@@ -12,9 +12,9 @@ use Rattle.vm_model.specs.Next.{Next, Go, after_fragments}
 use Rattle.vm_model.specs.declared.areas.Span.{Span}
 use Rattle.map_laws.proofs.blocks.PartMoves.{sum_starts_of}
 use Rattle.vm_model.specs.Carried.{count_of}
-use Rattle.map_laws.proofs.Chosen.{IsIn, filter_has, filter_in, sum_without, sum_by-filter-le}
-use Rattle.map_laws.proofs.Fits.{and_both}
-use Rattle.map_laws.proofs.Places.{OnNext}
+use Rattle.map_laws.proofs.TestsAndFilters.{IsIn, filter_has, filter_in, sum_without, sum_by-filter-le}
+use Rattle.map_laws.proofs.SearchEnds.{and_both}
+use Rattle.map_laws.proofs.ProperPlaces.{OnNext}
 use Rattle.map_laws.proofs.GivenMeets.{flat_in, map_in}
 use Rattle.map_laws.proofs.blocks.BlockFacts.{IsPartFine, IsBlockFine, IsPartIn, IsOut, IsBlockAt, block_starts, count_append, same_test, to_same, among_count, count_among, counted_block, same_block, same_part, block_stays}
 use Rattle.map_laws.proofs.blocks.BlockChanges.{changed_starts, blocks_only, lived_blocks, lived_hand, own_lived, ended_unmapped, hand_not_ended}

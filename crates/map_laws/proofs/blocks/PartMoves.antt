@@ -13,9 +13,9 @@ use Rattle.vm_model.specs.Places.{CuttingPart, SettlingPart, MappingPart, Adding
 use Rattle.vm_model.specs.declared.calls.Reply.{Reply}
 use Rattle.vm_model.specs.Next.{Go, Answer}
 use Rattle.vm_model.specs.Carried.{count_of}
-use Rattle.map_laws.proofs.Frames.{same_or, append_cases, append_first}
-use Rattle.map_laws.proofs.Chosen.{IsIn, in_more, find_has, filter_has, filter_in, sum_without, sum_by-filter-le}
-use Rattle.map_laws.proofs.Fits.{and_both}
+use Rattle.map_laws.proofs.KeptThroughSteps.{same_or, append_cases, append_first}
+use Rattle.map_laws.proofs.TestsAndFilters.{IsIn, in_more, find_has, filter_has, filter_in, sum_without, sum_by-filter-le}
+use Rattle.map_laws.proofs.SearchEnds.{and_both}
 use Rattle.vm_model.proofs.RoundedPages.{rounded_some, rounded_low}
 use Rattle.map_laws.proofs.blocks.BlockFacts.{OnRow, IsStill, IsBlockArea, AreStacked, IsPartFine, IsBlockFine, IsPartIn, IsOut, block_starts, count_cons, count_append, to_same, same_block, same_part, size_cons, block_stays, block_out}
 use Rattle.map_laws.proofs.blocks.BlockChanges.{in_of, changed_is, changed_in, unchanged_in, changed_starts, blocks_only, lived_blocks, lived_hand, ended_unmapped, hand_not_ended}

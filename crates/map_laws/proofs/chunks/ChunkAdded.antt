@@ -12,13 +12,13 @@ use Rattle.vm_model.specs.Places.{AddingChunk, Populating, ChoosingAtomic, Settl
 use Rattle.vm_model.specs.PlainMap.{Chunk, PlainMap, Lives}
 use Rattle.vm_model.specs.Rules.{AreUnits}
 use Rattle.vm_model.specs.Setup.{Setup, unit_bits}
-use Rattle.map_laws.proofs.Chosen.{IsIn, count_at, filter_in, in_among, or_right, covers_append, holds_from}
+use Rattle.map_laws.proofs.TestsAndFilters.{IsIn, count_at, filter_in, in_among, or_right, covers_append, holds_from}
 use Rattle.map_laws.proofs.chunks.ChunkFacts.{AreSameRows, IsChunkAt, IsChunkFine, IsChunkOf, IsLacking, IsSameRow, chunk_stays, of_stays, unit_covered, IsPlacedAt, chunk_at_stays}
 use Rattle.map_laws.proofs.chunks.ChunkMoves.{AreGrown, IsChunkMoved, later_places, quiet_chunks}
 use Rattle.map_laws.proofs.chunks.ChunkRows.{fitting, object_low, placed_lacking, placement_is, AreNumbered, rows_changed, rows_numbered, same_row, IsFitting, fitting_bit, populated_at, plain_rows, plain_stays}
 use Rattle.map_laws.proofs.chunks.ChunkNoted.{bits_long}
-use Rattle.map_laws.proofs.Frames.{append_cases, there}
-use Rattle.map_laws.proofs.Places.{IsObjectSize, OnNext}
+use Rattle.map_laws.proofs.KeptThroughSteps.{append_cases, there}
+use Rattle.map_laws.proofs.ProperPlaces.{IsObjectSize, OnNext}
 use Rattle.std.proofs.lemmas.Bool.Decides.{nat_tests}
 use Rattle.vm_model.proofs.Paint.{length-paint_from}
 use Rattle.vm_model.specs.Areas.{spans_of}

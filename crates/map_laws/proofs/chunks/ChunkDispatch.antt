@@ -2,7 +2,7 @@
 use Rattle.std.proofs.Common.{◌≡◌, ◌≢◌, ℕ, zero, suc, ◌≤◌, Bool, true, false, not, List, [], ◌∷◌, slice_get, Some, refl, ap, sym, ◌∙◌, subst, arith, ◌⊎◌, inl, inr, ◌+◌, ◌<◌, ◌==◌, None, length}
 use Rattle.vm_model.specs.declared.areas.Area.{Area}
 use Rattle.vm_model.specs.declared.areas.Span.{Span}
-use Rattle.map_laws.proofs.Chosen.{IsIn, filter_in, filter_has, among_in, count_from-below, count_at, in_among, covers_one, holds_from, InSpans, Inside, Outside, in_spans, holds_to}
+use Rattle.map_laws.proofs.TestsAndFilters.{IsIn, filter_in, filter_has, among_in, count_from-below, count_at, in_among, covers_one, holds_from, InSpans, Inside, Outside, in_spans, holds_to}
 use Rattle.map_laws.proofs.chunks.ChunkFacts.{NumberStays, AreGroupsLive, start_of, IsChunkFine, IsChunkAt, chunk_stays, group_in, starts_at, live_stays, unit_page, group_page, page_in_units, unit_covered, chunk_at_stays}
 use Rattle.vm_model.specs.PlainMap.{Held, PlainMap, Chunk, Block}
 use Rattle.vm_model.specs.Events.{Remove, Unlink, Section, Depopulate, Spare, AddChunk, AreaNotLive, Enough, Fill, Filled, MapPages, NextPage, NoAtomic, NoFrames, NoPlace, NoSpare, PlaceAtomic, PlaceObject, Populate, Settle, SettleObject, Unmap, Unplace, Zero}
@@ -10,7 +10,7 @@ use Rattle.map_laws.proofs.blocks.BlockPlaces.{IsInChunk, in_one_kind}
 use Rattle.map_laws.proofs.areas.AreaFacts.{IsMapFine, IsHolding, mapped_within, touch, untouched, unpainted, in_row, painted}
 use Rattle.vm_model.specs.Legal.{IsMarked, IsUnmapped, OnEach, IsLegalAs}
 use Rattle.map_laws.proofs.blocks.BlockFacts.{IsOut, IsStill, IsBlockAt, IsBlockFine, IsPartIn}
-use Rattle.map_laws.proofs.Places.{IsPlainKind, OnNext, IsObjectSize, IsProper}
+use Rattle.map_laws.proofs.ProperPlaces.{IsPlainKind, OnNext, IsObjectSize, IsProper}
 use Rattle.vm_model.specs.Setup.{Setup, groups_at, pages_in_units}
 use Rattle.map_laws.proofs.blocks.BlockMoves.{area_holds, part_within, row_of}
 use Rattle.vm_model.specs.Effects.{effect_as}
@@ -25,7 +25,7 @@ use Rattle.map_laws.proofs.OutMoves.{IsUnlinked}
 use Rattle.vm_model.specs.Next.{Next, Go, next}
 use Rattle.map_laws.proofs.Quiet.{area_times}
 use Rattle.std.proofs.lemmas.Bool.Decides.{nat_tests}
-use Rattle.map_laws.proofs.Frames.{there as there_at}
+use Rattle.map_laws.proofs.KeptThroughSteps.{there as there_at}
 use Rattle.std.proofs.lemmas.Option.{get_or_from_slice_get}
 use Rattle.vm_model.specs.Chunks.{populated_pages, is_populated}
 use Rattle.vm_model.specs.declared.areas.AreaKind.TheVariants as kind

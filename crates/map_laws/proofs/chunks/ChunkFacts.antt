@@ -13,8 +13,8 @@ use Rattle.vm_model.specs.declared.areas.Area.{Area}
 use Rattle.vm_model.specs.declared.areas.Span.{Span}
 use Rattle.map_laws.proofs.blocks.BlockFacts.{IsStill, same_test, still_bare, still_mapped, still_unmapped, to_same}
 use Rattle.map_laws.proofs.blocks.BlockPlaces.{IsInChunk}
-use Rattle.map_laws.proofs.Chosen.{IsIn, or_assoc, or_either, or_right, holds_from}
-use Rattle.map_laws.proofs.Frames.{same_or}
+use Rattle.map_laws.proofs.TestsAndFilters.{IsIn, or_assoc, or_either, or_right, holds_from}
+use Rattle.map_laws.proofs.KeptThroughSteps.{same_or}
 use Rattle.vm_model.specs.declared.areas.AreaKind.TheVariants as kind
 
 -- the live area of a chunk's group

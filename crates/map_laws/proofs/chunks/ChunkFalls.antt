@@ -7,11 +7,11 @@ use Rattle.vm_model.specs.Events.{AddChunk, Section}
 use Rattle.vm_model.specs.PlainMap.{Chunk, Lives, PlainMap}
 use Rattle.vm_model.specs.Setup.{Setup, cpus, unit_bits}
 use Rattle.vm_model.specs.Space.{is_open, one_if, paint_from, count_from, covers, begins_free, fits, lowest, least_by}
-use Rattle.map_laws.proofs.Chosen.{one_if_le, IsIn, filter_has, filter_in, least_in, least_some, count_from-below}
+use Rattle.map_laws.proofs.TestsAndFilters.{one_if_le, IsIn, filter_has, filter_in, least_in, least_some, count_from-below}
 use Rattle.std.proofs.lemmas.Bool.Decides.{nat_tests}
 use Rattle.std.proofs.lemmas.Option.{get_or_from_slice_get, slice_get-map}
 use Rattle.vm_model.proofs.Search.{the_lowest_fits}
-use Rattle.map_laws.proofs.Frames.{there, append_cases}
+use Rattle.map_laws.proofs.KeptThroughSteps.{there, append_cases}
 use Rattle.std.proofs.lemmas.List.{length-replicate}
 use Rattle.vm_model.proofs.Paint.{length-paint_from}
 

@@ -16,19 +16,19 @@ use Rattle.vm_model.specs.Setup.{Setup, pages_in_units, groups_at, highest}
 use Rattle.vm_model.specs.Space.{count_from, is_among, times, span, holds, one_if, begins_free, free_from, one_longer}
 use Rattle.map_laws.proofs.blocks.BlockFacts.{IsStill, same_test, still_unmapped}
 use Rattle.map_laws.proofs.blocks.BlockPlaces.{IsInChunk}
-use Rattle.map_laws.proofs.Chosen.{IsIn, or_right, times-cons, holds_to, holds_from}
+use Rattle.map_laws.proofs.TestsAndFilters.{IsIn, or_right, times-cons, holds_to, holds_from}
 use Rattle.map_laws.proofs.chunks.ChunkFacts.{AreGroupsLive, AreSameRows, IsChunkAt, IsChunkFine, IsChunkOf, IsPlacedAt, NumberStays, OnUnits, chunk_at_stays, chunk_stays, group_page, page_in_units, same_page, unit_covered, unit_page}
 use Rattle.map_laws.proofs.chunks.ChunkRows.{AreNumbered, rows_kept, rows_numbered, same_row}
-use Rattle.map_laws.proofs.Frames.{same_or}
+use Rattle.map_laws.proofs.KeptThroughSteps.{same_or}
 use Rattle.map_laws.proofs.OutMoves.{same_area}
 use Rattle.map_laws.proofs.PlaceMoves.{given_all, given_still, free_row}
-use Rattle.map_laws.proofs.Places.{OnNext}
+use Rattle.map_laws.proofs.ProperPlaces.{OnNext}
 use Rattle.map_laws.proofs.areas.AreaFacts.{ungiven}
 use Rattle.std.specs.List.{list_all}
 use Rattle.std.proofs.lemmas.Bool.Decides.{nat_tests}
 use Rattle.vm_model.specs.declared.areas.Span.{Span}
 use Rattle.vm_model.specs.Laws.{as_free}
-use Rattle.map_laws.proofs.Fits.{and_both, highest_fit}
+use Rattle.map_laws.proofs.SearchEnds.{and_both, highest_fit}
 use Rattle.map_laws.proofs.Quiet.{free_one}
 
 -- the pages that the place behind a section is populating

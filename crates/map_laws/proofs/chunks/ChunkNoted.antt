@@ -1,6 +1,6 @@
 -- Chunks whose pages are populated and noted, and whose objects are settled.
 use Rattle.std.proofs.Common.{◌≡◌, ◌≢◌, ℕ, ◌⊎◌, inl, inr, Bool, true, false, List, length, slice_get, Option, Some, refl, ap, sym, ◌∙◌, subst, arith, [], map, suc, zero, ◌+◌, ◌<◌, ◌∷◌, ◌≤◌, ◌==◌}
-use Rattle.map_laws.proofs.Chosen.{IsIn, in_among, first_or, put_new}
+use Rattle.map_laws.proofs.TestsAndFilters.{IsIn, in_among, first_or, put_new}
 use Rattle.map_laws.proofs.chunks.ChunkFacts.{IsChunkFine, IsChunkAt, IsChunkOf, AreGroupsLive, IsSameRow, NumberStays, OnUnits, chunk_stays, IsLacking, of_stays, page_in_units}
 use Rattle.map_laws.proofs.chunks.ChunkMoves.{IsChunkMoved, AreGrown, later_places, next_busy, given_chunks, given_mapped, mapped_still, quiet_chunks}
 use Rattle.map_laws.proofs.chunks.ChunkRows.{AreNumbered, same_row, keyed_is, fitting, object_low, placed_lacking, placement_is, plain_rows, plain_stays, rows_kept}
@@ -9,7 +9,7 @@ use Rattle.vm_model.specs.PlainMap.{Chunk, PlainMap, Lives}
 use Rattle.vm_model.specs.Carried.{IsBeingPopulated, has_alloc}
 use Rattle.vm_model.specs.Legal.{IsMapped, IsUnmapped, OnEach, IsLegalAs}
 use Rattle.vm_model.specs.Next.{Next, Go, next}
-use Rattle.map_laws.proofs.Places.{OnNext, IsObjectSize}
+use Rattle.map_laws.proofs.ProperPlaces.{OnNext, IsObjectSize}
 use Rattle.vm_model.specs.Places.{Place, Choosing, Filling, NotingFilled, Populating, SettlingObject, AddingChunk, NextFill, SettlingGroups}
 use Rattle.vm_model.specs.Events.{Section, Fill, PlaceObject, Populate, Filled, NextPage, Settle, SettleObject}
 use Rattle.vm_model.specs.Setup.{Setup, groups_at, pages_in_units, unit_bits}
@@ -26,7 +26,7 @@ use Rattle.vm_model.specs.declared.areas.Span.{Span}
 use Rattle.map_laws.proofs.blocks.BlockFacts.{same_test, to_same}
 use Rattle.map_laws.proofs.blocks.BlockPlaces.{with_keeps}
 use Rattle.map_laws.proofs.chunks.ChunkFalls.{page_fillable}
-use Rattle.map_laws.proofs.Frames.{there}
+use Rattle.map_laws.proofs.KeptThroughSteps.{there}
 use Rattle.vm_model.specs.declared.areas.AreaKind.TheVariants as kind
 
 -- Pages that are noted as populated, and chunks that are added.

@@ -2,7 +2,7 @@
 use Rattle.std.proofs.Common.{◌≡◌, ◌≢◌, ℕ, ◌⊎◌, inl, inr, Bool, true, false, ◌==◌, if◌then◌else◌, List, map, Some, option_map, refl, ap, sym, ◌∙◌, arith, ◌<◌, slice_get, subst, None, Option, drop, filter, is_some, length, not, option_and_then, suc, unwrap_or, zero, ◌*◌, ◌+◌, ◌-◌, ◌/◌, ◌≤◌}
 use Rattle.std.proofs.lemmas.Bool.Decides.{nat_tests}
 use Rattle.std.proofs.lemmas.Option.{slice_get-map, get_or_from_slice_get, slice_get_within, unwrap_or-slice_get}
-use Rattle.map_laws.proofs.Chosen.{IsIn, among_in, filter_has, filter_in, in_among, least_in}
+use Rattle.map_laws.proofs.TestsAndFilters.{IsIn, among_in, filter_has, filter_in, in_among, least_in}
 use Rattle.map_laws.proofs.chunks.ChunkFalls.{mapped_at, hole_is}
 use Rattle.map_laws.proofs.chunks.ChunkFacts.{IsSameRow, AreSameRows, NumberStays, IsChunkOf, IsLacking}
 use Rattle.vm_model.specs.Events.{AddChunk, Depopulate, Fill, Filled, FreeObject, MapPages, PlaceAtomic, PlaceObject, Populate, Remove, SettleObject, Spare, Unlink, Unmap, Unplace, Section}
@@ -12,13 +12,13 @@ use Rattle.vm_model.specs.Setup.{Setup, unit_bits}
 use Rattle.vm_model.specs.Chunks.{change_chunk, with_object, without_object, ObjectAt, chosen, is_populated, missing_pages, offset_fit, pages_of_object, placed_at, placement, slot}
 use Rattle.vm_model.specs.Effects.{effect_as}
 use Rattle.map_laws.proofs.blocks.BlockPlaces.{with_keeps}
-use Rattle.map_laws.proofs.Frames.{same_or, there}
+use Rattle.map_laws.proofs.KeptThroughSteps.{same_or, there}
 use Rattle.map_laws.proofs.areas.AreaFacts.{painted_still, in_row}
 use Rattle.vm_model.specs.Space.{begins_free, count_from, is_among, lowest}
 use Rattle.vm_model.proofs.Elements.{slice_get-drop}
-use Rattle.map_laws.proofs.Fits.{lowest_fit}
+use Rattle.map_laws.proofs.SearchEnds.{lowest_fit}
 use Rattle.map_laws.proofs.PlaceMoves.{begins_free-at}
-use Rattle.map_laws.proofs.Places.{IsObjectSize}
+use Rattle.map_laws.proofs.ProperPlaces.{IsObjectSize}
 
 -- Lists in which the elements with one key are changed.
 

@@ -18,14 +18,14 @@ use Rattle.vm_model.specs.declared.areas.Area.{Area}
 use Rattle.vm_model.specs.declared.calls.Call.{Call}
 use Rattle.map_laws.proofs.blocks.BlockWorlds.{IsChunkSided, only_one}
 use Rattle.map_laws.proofs.blocks.BlockPlaces.{IsInChunk}
-use Rattle.map_laws.proofs.Chosen.{IsIn}
+use Rattle.map_laws.proofs.TestsAndFilters.{IsIn}
 use Rattle.map_laws.proofs.chunks.ChunkFacts.{AreGroupsLive, IsChunkAt, IsChunkFine, IsChunkOf, group_page, unit_covered, unit_page}
 use Rattle.map_laws.proofs.chunks.ChunkDispatch.{groups_no_block, groups_unlinked, IsUnchunked, unchunked_at}
 use Rattle.map_laws.proofs.chunks.ChunkMoves.{IsChunkMoved, next_busy, groups_free}
 use Rattle.map_laws.proofs.chunks.ChunkRows.{AreNumbered}
-use Rattle.map_laws.proofs.Frames.{append_cases, set_cases, there, SomeOther, other_or, others_still, someone_joins}
-use Rattle.map_laws.proofs.Places.{HaveBeginnings, AtOver, OnNext, answers_call, begins_with}
-use Rattle.map_laws.specs.Turns.{AreTurnsKept}
+use Rattle.map_laws.proofs.KeptThroughSteps.{append_cases, set_cases, there, SomeOther, other_or, others_still, someone_joins}
+use Rattle.map_laws.proofs.ProperPlaces.{HaveBeginnings, AtOver, OnNext, answers_call, begins_with}
+use Rattle.map_laws.specs.TwoTurns.{AreTurnsKept}
 
 module _ (c : Setup) (units : AreUnits c) (groups : AreGroups c) (m : PlainMap) (once : (page : ℕ) → times page (spans_of m.areas) ≤ 1) (full : (a : Area) → IsIn a m.areas → 1 ≤ a.span.pages) (some : 1 ≤ c.block_pages)
     (live_of : (h : Chunk) → IsIn h m.chunks → AreGroupsLive c m h.number h.base) where

@@ -12,10 +12,10 @@ use Rattle.vm_model.specs.Space.{holds, is_among, one_if, times}
 use Rattle.vm_model.specs.Told.{placed}
 use Rattle.map_laws.proofs.blocks.BlockFacts.{count_cons, same_test, to_same}
 use Rattle.map_laws.proofs.chunks.ChunkRows.{keyed_in, keyed_is, unkeyed_in, IsFitting, fitting_bit}
-use Rattle.map_laws.proofs.Chosen.{IsIn, filter_has, filter_in, in_more, sum_by-filter-le, sum_has, put_in, put_keeps, put_new, put_sum, holds_to}
-use Rattle.map_laws.proofs.Frames.{append_cases, append_first, same_or, there, there as there_at}
+use Rattle.map_laws.proofs.TestsAndFilters.{IsIn, filter_has, filter_in, in_more, sum_by-filter-le, sum_has, put_in, put_keeps, put_new, put_sum, holds_to}
+use Rattle.map_laws.proofs.KeptThroughSteps.{append_cases, append_first, same_or, there, there as there_at}
 use Rattle.map_laws.proofs.objects.ObjectFacts.{AreChunksFine, AreObjectsFine, IsObject, IsShaped, chunk_numbers, count_sum, object_only, same_chunk, times_map}
-use Rattle.map_laws.proofs.Places.{IsObjectSize}
+use Rattle.map_laws.proofs.ProperPlaces.{IsObjectSize}
 use Rattle.map_laws.proofs.chunks.ChunkFalls.{mapped_at}
 use Rattle.map_laws.proofs.areas.AreaFacts.{in_row, painted, painted_still}
 

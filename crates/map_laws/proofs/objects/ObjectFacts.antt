@@ -13,10 +13,10 @@ use Rattle.vm_model.specs.Setup.{Setup, unit_bits}
 use Rattle.vm_model.specs.Space.{holds, is_among, one_if, times}
 use Rattle.vm_model.specs.declared.areas.Span.{Span}
 use Rattle.map_laws.proofs.blocks.BlockFacts.{count_cons, same_test, to_same}
-use Rattle.map_laws.proofs.Chosen.{IsIn, filter_has, filter_in, find_has, holds_from, times-cons}
-use Rattle.map_laws.proofs.Fits.{and_both, find_some, flat_has}
+use Rattle.map_laws.proofs.TestsAndFilters.{IsIn, filter_has, filter_in, find_has, holds_from, times-cons}
+use Rattle.map_laws.proofs.SearchEnds.{and_both, find_some, flat_has}
 use Rattle.map_laws.proofs.GivenMeets.{flat_in}
-use Rattle.map_laws.proofs.Frames.{same_or, there}
+use Rattle.map_laws.proofs.KeptThroughSteps.{same_or, there}
 use Rattle.map_laws.proofs.OutMoves.{sum_two}
 
 pub record IsShaped (c : Setup) (o : Object) : Type 0 where

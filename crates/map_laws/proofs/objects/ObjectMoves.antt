@@ -16,16 +16,16 @@ use Rattle.vm_model.specs.Space.{covers, is_among, times}
 use Rattle.vm_model.specs.Told.{placed}
 use Rattle.map_laws.proofs.AskRows.{ask_row}
 use Rattle.map_laws.proofs.chunks.ChunkRows.{keyed_in, fitting, placement_is, AreNumbered}
-use Rattle.map_laws.proofs.Chosen.{IsIn, filter_has, or_none, covers_append, covers_none}
+use Rattle.map_laws.proofs.TestsAndFilters.{IsIn, filter_has, or_none, covers_append, covers_none}
 use Rattle.map_laws.proofs.chunks.ChunkAdded.{row_test}
 use Rattle.map_laws.proofs.chunks.ChunkFacts.{IsChunkAt, IsPlacedAt}
 use Rattle.map_laws.proofs.chunks.ChunkDispatch.{IsUnchunked, leads_chunked, leads_unchunked}
 use Rattle.map_laws.proofs.chunks.ChunkNoted.{bits_long}
-use Rattle.map_laws.proofs.Fits.{is_zero}
-use Rattle.map_laws.proofs.Frames.{there}
+use Rattle.map_laws.proofs.SearchEnds.{is_zero}
+use Rattle.map_laws.proofs.KeptThroughSteps.{there}
 use Rattle.map_laws.proofs.objects.ObjectChanges.{grown_fine, grown_keeps, lived_fine, lived_keeps, paged_fine, paged_keeps, placed_fine, placed_keeps, placed_object, removed_fine, removed_keeps, same_fine, spared_fine, spared_keeps}
 use Rattle.map_laws.proofs.objects.ObjectFacts.{AreChunksFine, IsBeingPlaced, IsObject, IsObjectAt, live_life, next_placed, object_only, same_chunk}
-use Rattle.map_laws.proofs.Places.{IsObjectSize, IsProper, OnNext}
+use Rattle.map_laws.proofs.ProperPlaces.{IsObjectSize, IsProper, OnNext}
 
 abbrev pub Kills : ℕ → Section → Life → Type 0
 Kills k (SettleObject at serial) life = life ≡ InHand k

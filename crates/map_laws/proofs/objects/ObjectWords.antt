@@ -11,14 +11,14 @@ use Rattle.vm_model.specs.Events.{AddWord, Section, MapPages, Populate, Fill, Un
 use Rattle.vm_model.specs.Legal.{OnPages, IsMapped, IsLegalAs}
 use Rattle.vm_model.specs.Effects.{effect_as}
 use Rattle.vm_model.specs.Laws.{object_at, copies_of, all_copies, word_of, is_word, grown_if}
-use Rattle.map_laws.proofs.Frames.{same_or}
-use Rattle.map_laws.proofs.Chosen.{sum_has, among_in, holds_from, holds_to, covers_one}
+use Rattle.map_laws.proofs.KeptThroughSteps.{same_or}
+use Rattle.map_laws.proofs.TestsAndFilters.{sum_has, among_in, holds_from, holds_to, covers_one}
 use Rattle.map_laws.proofs.OutMoves.{sum_two}
 use Rattle.map_laws.proofs.chunks.ChunkFacts.{page_in_units}
 use Rattle.map_laws.proofs.chunks.ChunkMoves.{counted}
 use Rattle.map_laws.proofs.objects.ObjectFacts.{IsObject, AreChunksFine, same_chunk, times_map}
 use Rattle.map_laws.proofs.MapLaws.{times_flat}
-use Rattle.map_laws.proofs.Words.{IsWord, AreCells, HasFrame, added_own, added_other, word_is, zeroed_within, within_zeroed, zero_words-own, zero_words-other}
+use Rattle.map_laws.proofs.FrameWords.{IsWord, AreCells, HasFrame, added_own, added_other, word_is, zeroed_within, within_zeroed, zero_words-own, zero_words-other}
 use Rattle.map_laws.proofs.chunks.ChunkFalls.{mapped_at}
 use Rattle.map_laws.proofs.areas.AreaFacts.{painted, unpainted, ungiven, in_row}
 use Rattle.vm_model.specs.declared.calls.Call.{Call}

@@ -5,8 +5,8 @@ use Rattle.vm_model.specs.PlainMap.{PlainMap, Chunk, Object, Life, Lives}
 use Rattle.vm_model.specs.Chunks.{ObjectAt, new_chunk, change_chunk, with_object, without_object, with_live_object, with_page}
 use Rattle.vm_model.specs.Events.{Section, PlaceObject, AddChunk, PlaceAtomic, SettleObject, Unplace, FreeObject, Spare, Filled}
 use Rattle.vm_model.specs.Effects.{effect_as}
-use Rattle.map_laws.proofs.Frames.{append_cases}
-use Rattle.map_laws.proofs.Chosen.{IsIn, filter_has, put_in}
+use Rattle.map_laws.proofs.KeptThroughSteps.{append_cases}
+use Rattle.map_laws.proofs.TestsAndFilters.{IsIn, filter_has, put_in}
 use Rattle.map_laws.proofs.chunks.ChunkRows.{keyed_is}
 use Rattle.map_laws.proofs.objects.ObjectFacts.{IsObject, AreChunksFine, same_chunk, object_only}
 

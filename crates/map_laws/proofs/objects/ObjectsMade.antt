@@ -20,14 +20,14 @@ use Rattle.vm_model.specs.declared.calls.Call.TheVariants.{FreePercpu}
 use Rattle.vm_model.specs.declared.calls.Reply.{Reply}
 use Rattle.vm_model.specs.declared.calls.Target.{Target}
 use Rattle.map_laws.proofs.blocks.BlockFacts.{same_test, to_same}
-use Rattle.map_laws.proofs.Chosen.{sum_has, one_if_le, or_assoc, or_false, or_none}
-use Rattle.map_laws.proofs.Frames.{append_cases, append_first, set_cases, set_other, there}
+use Rattle.map_laws.proofs.TestsAndFilters.{sum_has, one_if_le, or_assoc, or_false, or_none}
+use Rattle.map_laws.proofs.KeptThroughSteps.{append_cases, append_first, set_cases, set_other, there}
 use Rattle.map_laws.proofs.SizedCalls.{AreWellNamed, IsMakingNone, IsNoObject, IsNow, begun_now, flight, freeing_place, is_using, makes_object, making_none, next_made}
 use Rattle.map_laws.proofs.objects.ObjectChanges.{lived_object}
 use Rattle.map_laws.proofs.objects.ObjectFacts.{AreChunksFine, IsObject, IsObjectAt, same_place}
 use Rattle.map_laws.proofs.objects.ObjectMoves.{Kills}
 use Rattle.map_laws.proofs.OutMoves.{sum_two}
-use Rattle.map_laws.proofs.Places.{HaveBeginnings, AtOver, OnNext, answers_call, begins_with}
+use Rattle.map_laws.proofs.ProperPlaces.{HaveBeginnings, AtOver, OnNext, answers_call, begins_with}
 use Rattle.vm_model.specs.declared.calls.Reply.TheVariants as reply
 
 abbrev pub is_made : ℕ → Made → ℕ

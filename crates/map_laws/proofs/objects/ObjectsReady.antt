@@ -23,11 +23,11 @@ use Rattle.map_laws.proofs.areas.AreaFacts.{IsHolding}
 use Rattle.map_laws.proofs.areas.AreaWorlds.{IsLegalStep}
 use Rattle.map_laws.proofs.blocks.BlockFacts.{IsBlockAt, among_count, block_out, block_starts, same_test, to_same}
 use Rattle.map_laws.proofs.blocks.BlockWorlds.{only_one}
-use Rattle.map_laws.proofs.Chosen.{IsIn, filter_has, filter_in, in_more}
+use Rattle.map_laws.proofs.TestsAndFilters.{IsIn, filter_has, filter_in, in_more}
 use Rattle.map_laws.proofs.chunks.ChunkFacts.{AreGroupsLive, IsChunkAt, IsOpenPage, start_of, unit_covered, unit_page}
 use Rattle.map_laws.proofs.chunks.ChunkAdded.{IsNumberNext}
 use Rattle.map_laws.proofs.chunks.ChunkWorlds.{alone, chunks_here, none_populates}
-use Rattle.map_laws.proofs.Frames.{IsFramed, IsStep, there}
+use Rattle.map_laws.proofs.KeptThroughSteps.{IsFramed, IsStep, there}
 use Rattle.map_laws.proofs.GivenMeets.{given_meets}
 use Rattle.map_laws.proofs.MapLaws.{one_legal, object_done, populated_mapped}
 use Rattle.map_laws.proofs.SizedCalls.{IsNamedObject, IsNow}
@@ -40,7 +40,7 @@ use Rattle.map_laws.proofs.StepFalls.{has_room}
 use Rattle.vm_model.specs.declared.areas.AreaKind.TheVariants as kind
 use Rattle.vm_model.specs.Told.{had_frames}
 use Rattle.vm_model.specs.LegalHistory.{Meets}
-use Rattle.map_laws.proofs.Places.{OnNext, either_next}
+use Rattle.map_laws.proofs.ProperPlaces.{OnNext, either_next}
 use Rattle.map_laws.proofs.chunks.ChunkDispatch.{leads_unchunked}
 
 first_in : {X : Type 0} (x : X) (xs : List X) → IsIn x xs → (y : X) × (slice_get xs 0 ≡ Some y)

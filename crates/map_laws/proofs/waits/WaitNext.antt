@@ -13,8 +13,8 @@ use Rattle.vm_model.specs.Next.{Next, Go, next, with_span, with_base, after_coll
 use Rattle.vm_model.specs.LegalHistory.{Meets}
 use Rattle.vm_model.specs.Laws.{map_after}
 use Rattle.map_laws.proofs.PlaceRows.{place_row}
-use Rattle.map_laws.proofs.Places.{OnNext}
-use Rattle.map_laws.proofs.Chosen.{hull_is, covers_append, or_left}
+use Rattle.map_laws.proofs.ProperPlaces.{OnNext}
+use Rattle.map_laws.proofs.TestsAndFilters.{hull_is, covers_append, or_left}
 use Rattle.map_laws.proofs.areas.AreaFacts.{painted}
 use Rattle.map_laws.proofs.PlaceMoves.{place_free}
 use Rattle.map_laws.proofs.waits.WaitStories.{map_at-more, map_at-end, event_last, event_low, IsTakenSince, IsBehind, IsCarvedBy, IsStoried, taken_more, carved_more}

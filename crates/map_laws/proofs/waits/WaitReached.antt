@@ -15,9 +15,9 @@ use Rattle.vm_model.specs.LegalHistory.{Meets, IsReached}
 use Rattle.vm_model.specs.History.{World, Local, started, made_by, moved_to, placing_calls, opening_world, opening_answers, callers_from, with_callers}
 use Rattle.vm_model.specs.Rules.{IsTrace}
 use Rattle.vm_model.specs.Laws.{IsFreedAt, PagesWaitBeforeReuse}
-use Rattle.map_laws.specs.Waits.{FreedPagesHaveWaited}
-use Rattle.map_laws.proofs.Frames.{append_cases, append_first, IsFramed, not_over, has_call}
-use Rattle.map_laws.proofs.Places.{OnNext, HaveBeginnings, begins_with, moved_has}
+use Rattle.map_laws.specs.WaitingPages.{FreedPagesHaveWaited}
+use Rattle.map_laws.proofs.KeptThroughSteps.{append_cases, append_first, IsFramed, not_over, has_call}
+use Rattle.map_laws.proofs.ProperPlaces.{OnNext, HaveBeginnings, begins_with, moved_has}
 use Rattle.map_laws.proofs.areas.AreaWorlds.{IsAreaWorld, IsLegalStep, IsLegallyLasting, legally_lasts}
 use Rattle.map_laws.proofs.TraceWorlds.{IsTraceWorld, trace_lasts, trace_first}
 use Rattle.map_laws.proofs.waits.WaitStories.{map_at-end, IsStoried}

@@ -7,14 +7,14 @@ use Rattle.vm_model.specs.PlainMap.{PlainMap, Mark, Free, Held, Live, Waits, Flu
 use Rattle.vm_model.specs.Events.{Section, Event, Carve, CarveGroups, Drop, Return, Settle, Remove, Unlink, Wait, TakeWaiting, Flush}
 use Rattle.vm_model.specs.Effects.{effect, effect_as}
 use Rattle.vm_model.specs.Laws.{map_after, map_at, IsEvent, IsTakenFrom, IsFreedAt, IsReturned, IsDropped, Carves}
-use Rattle.map_laws.proofs.Frames.{append_first, append_cases}
+use Rattle.map_laws.proofs.KeptThroughSteps.{append_first, append_cases}
 use Rattle.vm_model.specs.declared.areas.Span.{Span}
 use Rattle.vm_model.specs.declared.areas.Area.{Area}
 use Rattle.vm_model.specs.Space.{holds, covers, paint}
 use Rattle.vm_model.specs.Areas.{areas_starting, spans_of, areas_of, mark_live}
 use Rattle.vm_model.specs.Legal.{IsMarked, IsUnmapped}
 use Rattle.vm_model.proofs.Paint.{slice_get-paint}
-use Rattle.map_laws.proofs.Chosen.{or_right, or_left, covers_append}
+use Rattle.map_laws.proofs.TestsAndFilters.{or_right, or_left, covers_append}
 use Rattle.map_laws.proofs.areas.AreaFacts.{unpainted}
 use Rattle.vm_model.specs.declared.areas.AreaKind.{AreaKind}
 use Rattle.vm_model.specs.Carried.{flushed}

@@ -15,11 +15,11 @@ use Rattle.vm_model.specs.Next.{Go, next}
 use Rattle.vm_model.specs.LegalHistory.{Meets}
 use Rattle.vm_model.specs.History.{World, Local}
 use Rattle.vm_model.specs.Laws.{map_after, map_at, IsEvent, IsTakenFrom, IsFreedAt, IsReturned, IsDropped}
-use Rattle.map_laws.specs.Waits.{IsWaitOf, HasWaited, IsFreedWell}
-use Rattle.map_laws.proofs.Frames.{same_or, set_cases, set_same, set_other}
-use Rattle.map_laws.proofs.Chosen.{covers_times, covers_one, sum_has}
+use Rattle.map_laws.specs.WaitingPages.{IsWaitOf, HasWaited, IsFreedWell}
+use Rattle.map_laws.proofs.KeptThroughSteps.{same_or, set_cases, set_same, set_other}
+use Rattle.map_laws.proofs.TestsAndFilters.{covers_times, covers_one, sum_has}
 use Rattle.map_laws.proofs.OutMoves.{sum_two}
-use Rattle.map_laws.proofs.Places.{OnNext}
+use Rattle.map_laws.proofs.ProperPlaces.{OnNext}
 use Rattle.map_laws.proofs.Deeds.{drops_at, returns_at, collects_at}
 use Rattle.map_laws.proofs.waits.WaitStories.{map_after-append, map_at-last, map_at-before, map_at-more, more_events, event_first, event_last, event_low, WhichEvent, Before, Last, which_event, IsFreed, Still, Dropped, Returned, freed, waiting_from, waiting_to, waits_now, IsBehind, behind_flushed, IsCarvedBy, IsStoried, behind_more, returned_more, taken_before, freed_before, dropped_more, storied_more}
 use Rattle.map_laws.proofs.areas.AreaFacts.{bare_at}

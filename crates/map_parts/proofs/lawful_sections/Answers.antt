@@ -1,4 +1,4 @@
-use Rattle.map_parts.proofs.SectionProofs.{stays_lawful, finds_together}
+use Rattle.map_parts.proofs.SectionRunProofs.{stays_lawful, finds_together}
 use Rattle.map_parts.proofs.lawful_sections.Goals as goal
 
 pub returns : goal.returns

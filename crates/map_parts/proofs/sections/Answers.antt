@@ -1,4 +1,4 @@
-use Rattle.map_parts.proofs.SectionProofs.{sections_run}
+use Rattle.map_parts.proofs.SectionRunProofs.{sections_run}
 use Rattle.map_parts.proofs.sections.Goals as goal
 
 pub returns : goal.returns

@@ -2,7 +2,7 @@
 //! from a chunk's base on.
 ghost use Rattle.std.specs.Prelude.{◌≡◌, ◌≤◌, ◌<◌, ◌+◌, ℕ, true, [], ◌∷◌, length, OnOk, OnErr, IfErr};
 ghost use Rattle.vm_model.specs.Space.{is_among};
-ghost use Rattle.page_pool.specs.Pages.{free_of, IsBare, IsMapped};
+ghost use Rattle.page_pool.specs.PageMap.{free_of, IsBare, IsMapped};
 ghost use Rattle.vm_model.specs.PageSets.{pages_in};
 ghost use Rattle.page_pool.specs.Units.{pages_in_unit, pages_at, AreDistinct, AreBareOnce, with_frames_for, without_frame, without_frames_for};
 

@@ -3,7 +3,7 @@ ghost use Rattle.std.specs.Prelude.{◌≡◌, ◌≤◌, ◌<◌, ◌+◌, ◌-
 ghost use Rattle.std.specs.Int.{w64};
 ghost use Rattle.vm_model.specs.Space.{is_among};
 ghost use Rattle.vm_model.specs.Frames.{cell_of, frame_of, zero_frame, zero_pages, pages_of_bytes, words_in_page};
-ghost use Rattle.page_pool.specs.Pages.{IsMapped};
+ghost use Rattle.page_pool.specs.PageMap.{IsMapped};
 ghost use Rattle.page_pool.specs.Units.{pages_in_unit, pages_at, bytes_at, with_zeroed, with_added, word_of, sum_of};
 
 use crate::page_side::PageSide;

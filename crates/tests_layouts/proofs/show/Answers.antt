@@ -1,5 +1,5 @@
 use Rattle.std.proofs.Common.{◌≡◌, refl, ap, arith}
-use Rattle.unit_layout.specs.Rule.{Numbers}
+use Rattle.unit_layout.specs.LayoutRule.{Numbers}
 use Rattle.unit_layout.proofs.Ceilings.{power_pos}
 use Rattle.tests_layouts.proofs.show.Goals as goal
 

@@ -4,10 +4,10 @@ use Rattle.vm_model.specs.Hints.{IsHintIn}
 use Rattle.chunk_bitmaps.specs.ChunkMap.{ChunkMap, taken_bits}
 use Rattle.vm_model.specs.declared.rows.Hint.{Hint}
 use Rattle.block_hints.specs.declared.block_scan.Block.{Block}
-use Rattle.block_hints.specs.Kept.{IsBlockIn, IsBlockOf}
+use Rattle.block_hints.specs.KeptHints.{IsBlockIn, IsBlockOf}
 use Rattle.block_hints.specs.Freed.{hint_with_run, scan_with_run, IsRunAround, AreHintsBefore}
 use Rattle.block_hints.proofs.Blocked.{length-taken}
-use Rattle.block_hints.proofs.Blocks.{no_block, block_from}
+use Rattle.block_hints.proofs.BlockHints.{no_block, block_from}
 use Rattle.block_hints.proofs.HintsFreed.{AreFreeNow, painted_free, freed_is_free, freed_hint, freed_block, run_of_chunk}
 use Rattle.block_hints.proofs.frees.mended_by_freeing.Goals as goal
 

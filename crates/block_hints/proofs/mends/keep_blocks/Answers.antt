@@ -1,7 +1,7 @@
 use Rattle.std.proofs.Common.{IfSome, subst, arith}
-use Rattle.block_hints.specs.Kept.{IsBlockOf}
+use Rattle.block_hints.specs.KeptHints.{IsBlockOf}
 use Rattle.chunk_bitmaps.specs.ChunkMap.{taken_bits}
-use Rattle.block_hints.proofs.Blocks.{block_put}
+use Rattle.block_hints.proofs.BlockHints.{block_put}
 use Rattle.block_hints.proofs.mends.keep_blocks.Goals as goal
 
 pub returns-in-Some-clause-blocks : goal.returns-in-Some-clause-blocks

@@ -2,12 +2,12 @@ use Rattle.std.proofs.Common.{◌≡◌, ◌≤◌, ◌<◌, ◌+◌, ◌*◌, �
 use Rattle.block_hints.specs.declared.block_scan.Block.{Block}
 use Rattle.vm_model.specs.Space.{fits}
 use Rattle.chunk_bitmaps.specs.ChunkMap.{taken_bits, first_fit}
-use Rattle.block_hints.specs.Kept.{AreHints}
+use Rattle.block_hints.specs.KeptHints.{AreHints}
 use Rattle.vm_model.specs.PageSets.{has_page}
 use Rattle.block_hints.specs.Populated.{blocked_bits}
-use Rattle.block_hints.proofs.Blocks.{no_block, hint_at, in_block}
+use Rattle.block_hints.proofs.BlockHints.{no_block, hint_at, in_block}
 use Rattle.block_hints.proofs.Blocked.{alike_page, taken_page, length-blocked, length-taken}
-use Rattle.block_hints.proofs.Fits.{IsSearched, IsSkip, skip_of, is_skip, before_skip, behind_skip, block_alike, searched_missing, searched_free, searched_block, found_over, multiple_none, multiple_found, inner_found, inner_none, inner_found_by, too_long, before_inner, is_none, searched_all}
+use Rattle.block_hints.proofs.LowestFit.{IsSearched, IsSkip, skip_of, is_skip, before_skip, behind_skip, block_alike, searched_missing, searched_free, searched_block, found_over, multiple_none, multiple_found, inner_found, inner_none, inner_found_by, too_long, before_inner, is_none, searched_all}
 use Rattle.block_hints.proofs.search.lowest_fit.Goals as goal
 use Rattle.block_hints.proofs.search.lowest_fit.Goals.{then-hint-lt-BLOCK_BITS, else-hint-lt-BLOCK_BITS, then-count-hint+else-is_some-2, else-count-hint}
 

@@ -2,8 +2,8 @@ use Rattle.std.proofs.Common.{◌≡◌, ◌+◌, ◌*◌, ◌/◌, true, get_or
 use Rattle.vm_model.specs.Space.{span, holds, paint}
 use Rattle.chunk_bitmaps.specs.ChunkMap.{taken_bits}
 use Rattle.block_hints.specs.declared.block_scan.Block.{Block}
-use Rattle.block_hints.specs.Kept.{IsBoundIn, IsBlockIn}
-use Rattle.block_hints.proofs.Blocks.{no_block, block_from}
+use Rattle.block_hints.specs.KeptHints.{IsBoundIn, IsBlockIn}
+use Rattle.block_hints.proofs.BlockHints.{no_block, block_from}
 use Rattle.block_hints.proofs.HintsAround.{painted_taken, bound_stays}
 use Rattle.block_hints.proofs.takes.block_with_taken.Goals as goal
 

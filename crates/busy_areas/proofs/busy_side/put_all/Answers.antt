@@ -1,8 +1,8 @@
 use Rattle.std.proofs.Common.{ap, sym, ◌∙◌, take}
 use Rattle.std.specs.Map.{values_of}
 use Rattle.vm_model.specs.Areas.{areas_elsewhere}
-use Rattle.busy_areas.specs.Kept.{asked_starts}
-use Rattle.busy_areas.proofs.Joined.{put_none, put_more, all_back, where_ok, where_err}
+use Rattle.busy_areas.specs.KeptAreas.{asked_starts}
+use Rattle.busy_areas.proofs.JoinedAreas.{put_none, put_more, all_back, where_ok, where_err}
 use Rattle.busy_areas.proofs.busy_side.put_all.Goals as goal
 
 pub loop-index-init : goal.loop-index-init

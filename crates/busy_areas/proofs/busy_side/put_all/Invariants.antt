@@ -1,4 +1,4 @@
-use Rattle.busy_areas.proofs.Joined.{IsPutUpTo}
+use Rattle.busy_areas.proofs.JoinedAreas.{IsPutUpTo}
 use Rattle.busy_areas.proofs.busy_side.put_all.Given as goal
 
 abbrev pub invariant-loop-index : goal.invariant-loop-index

@@ -1,9 +1,9 @@
 use Rattle.std.proofs.Common.{subst, sym}
 use Rattle.std.specs.BTreeMap.{values}
-use Rattle.busy_areas.specs.Kept.{AreApartFrom}
-use Rattle.busy_areas.proofs.Named.{apart_without}
+use Rattle.busy_areas.specs.KeptAreas.{AreApartFrom}
+use Rattle.busy_areas.proofs.NamedAreas.{apart_without}
 use Rattle.busy_areas.proofs.Elsewhere.{nowhere_else}
-use Rattle.busy_areas.proofs.Joined.{back_more}
+use Rattle.busy_areas.proofs.JoinedAreas.{back_more}
 use Rattle.busy_areas.proofs.busy_side.take_back.Goals as goal
 
 pub loop-span-init : goal.loop-span-init

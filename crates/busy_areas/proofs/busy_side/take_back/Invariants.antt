@@ -1,7 +1,7 @@
 use Rattle.std.proofs.Common.{◌≡◌, take}
 use Rattle.std.specs.BTreeMap.{values}
 use Rattle.vm_model.specs.Areas.{areas_elsewhere}
-use Rattle.busy_areas.specs.Kept.{AreApartFrom, asked_starts}
+use Rattle.busy_areas.specs.KeptAreas.{AreApartFrom, asked_starts}
 use Rattle.busy_areas.proofs.busy_side.take_back.Given as goal
 
 -- the areas that start elsewhere than the spans so far

@@ -2,17 +2,17 @@ use denote.Param.Send.{IsSync, sendable}
 use Rattle.std.proofs.Crossing.{crosses}
 use Rattle.std.proofs.Common.{All, rules, ◌≡◌, List, length, map, get_or, flat_map, sym, ap, ◌∙◌, subst, arith}
 use Rattle.section_table.proofs.sections.Sections.TheSendSync as tabling
-use Rattle.section_core.proofs.Sent.{region_send}
+use Rattle.section_core.proofs.RegionsSent.{region_send}
 use Rattle.percpu_counters.specs.contracts.counters.Counters as counters
 use Rattle.percpu_counters.proofs.counters.Counters.TheSendSync as counting
-use Rattle.section_table.specs.Views.{HasCaller}
+use Rattle.section_table.specs.PassViews.{HasCaller}
 use Rattle.count_lines.specs.declared.share.Share.{Share}
 use Rattle.count_lines.specs.Shares.{lines_in, HasSameLines, IsShareOf, IsFinished}
 use Rattle.caller_threads.specs.declared.worker.Worker.{Worker}
 use Rattle.caller_threads.specs.Workers.{HasOnly, share_of}
-use Rattle.caller_threads.proofs.Sent.{worker_send}
-use Rattle.caller_threads.proofs.Callers.{still_has, alone_has}
-use Rattle.caller_threads.proofs.Numbered.{still_numbered, same_lines, each_share}
+use Rattle.caller_threads.proofs.WorkersSent.{worker_send}
+use Rattle.caller_threads.proofs.CallersLeft.{still_has, alone_has}
+use Rattle.caller_threads.proofs.NumberedWorkers.{still_numbered, same_lines, each_share}
 use Rattle.caller_threads.proofs.driving.drive.Goals as goal
 
 counters_sync : IsSync counters.the_row

@@ -1,13 +1,13 @@
 use Rattle.std.proofs.Common.{All, ◌≡◌, ◌+◌, ◌<◌, ◌++◌, [], ◌∷◌, ℕ, List, length, map, sym, ap, ◌∙◌, subst, arith, length-append}
 use Rattle.std.proofs.lemmas.List.Elements.{All-rest, All-head}
 use Rattle.std.specs.Vec.Iter.{into_iter_items}
-use Rattle.section_table.specs.Views.{HasCaller}
+use Rattle.section_table.specs.PassViews.{HasCaller}
 use Rattle.count_lines.specs.declared.share.Share.{Share}
 use Rattle.count_lines.specs.Shares.{caller_of}
 use Rattle.caller_threads.specs.declared.worker.Worker.{Worker}
 use Rattle.caller_threads.specs.Workers.{AllEnded, IsDone, AreNumbered, share_of}
-use Rattle.caller_threads.proofs.Callers.{all_more, both_ended}
-use Rattle.caller_threads.proofs.Numbered.{first_is, rest_is, one_more}
+use Rattle.caller_threads.proofs.CallersLeft.{all_more, both_ended}
+use Rattle.caller_threads.proofs.NumberedWorkers.{first_is, rest_is, one_more}
 use Rattle.caller_threads.proofs.driving.gather.Goals as goal
 
 pub loop-worker-preserved : goal.loop-worker-preserved

@@ -1,6 +1,6 @@
 use Rattle.std.proofs.Common.{◌≡◌, ◌+◌, ◌++◌, All, length, map}
 use Rattle.std.specs.Vec.Iter.{into_iter_items}
-use Rattle.section_table.specs.Views.{HasAll}
+use Rattle.section_table.specs.PassViews.{HasAll}
 use Rattle.caller_threads.specs.Workers.{AllEnded, IsDone, AreNumbered, share_of}
 use Rattle.caller_threads.proofs.driving.gather.Given as goal
 

@@ -2,13 +2,13 @@ use Rattle.std.proofs.Common.{All, ◌≡◌, ◌+◌, ◌++◌, ℕ, List, leng
 use Rattle.std.proofs.lemmas.List.{length-map}
 use Rattle.std.proofs.lemmas.List.Elements.{All-rest, All-head, All-push, All-same}
 use Rattle.std.specs.Vec.Iter.{into_iter_items}
-use Rattle.section_table.specs.Views.{HasCaller, alone}
+use Rattle.section_table.specs.PassViews.{HasCaller, alone}
 use Rattle.count_lines.specs.declared.share.Share.{Share}
 use Rattle.count_lines.specs.Shares.{caller_of, IsShareOf}
 use Rattle.caller_threads.specs.declared.worker.Worker.{Worker}
 use Rattle.caller_threads.specs.Workers.{HasOnly, IsWorkerOf, AreNumbered, share_of}
-use Rattle.caller_threads.proofs.Callers.{still_has, alone_has}
-use Rattle.caller_threads.proofs.Numbered.{first_is, rest_is, one_more, pushed}
+use Rattle.caller_threads.proofs.CallersLeft.{still_has, alone_has}
+use Rattle.caller_threads.proofs.NumberedWorkers.{first_is, rest_is, one_more, pushed}
 use Rattle.caller_threads.proofs.driving.hand_out.Goals as goal
 
 pub loop-share-preserved : goal.loop-share-preserved

@@ -1,6 +1,6 @@
 use Rattle.std.proofs.Common.{◌≡◌, ◌+◌, ◌<◌, ◌≤◌, ◌++◌, ℕ, All, length, map}
 use Rattle.std.specs.Vec.Iter.{into_iter_items}
-use Rattle.section_table.specs.Views.{HasCaller}
+use Rattle.section_table.specs.PassViews.{HasCaller}
 use Rattle.count_lines.specs.Shares.{IsShareOf}
 use Rattle.caller_threads.specs.Workers.{IsWorkerOf, AreNumbered, share_of}
 use Rattle.caller_threads.proofs.driving.hand_out.Given as goal

@@ -3,12 +3,12 @@ use Rattle.vm_model.specs.declared.calls.Call.{Call}
 use Rattle.vm_model.specs.Setup.{Setup}
 use Rattle.unit_layout.specs.Config.{setup_of}
 use Rattle.kernel_steps.specs.Kernels.{KernelState, IsStanding, opening_of, callers_of, start_of}
-use Rattle.kernel_steps.specs.Parts.{kernel_of}
+use Rattle.kernel_steps.specs.KernelOfParts.{kernel_of}
 use Rattle.caller_threads.proofs.RunsEnded.{few, many, within_reach, as_many, numbered, end, stands, run_ended}
-use Rattle.kernel_steps.specs.Runs.{HasEnded}
+use Rattle.kernel_steps.specs.KernelRuns.{HasEnded}
 use Rattle.kernel_steps.proofs.Moves.{dropped}
-use Rattle.caller_threads.proofs.Callers.{starting_has}
-use Rattle.section_table.specs.Views.{HasCaller, HasAll}
+use Rattle.caller_threads.proofs.CallersLeft.{starting_has}
+use Rattle.section_table.specs.PassViews.{HasCaller, HasAll}
 use Rattle.caller_threads.proofs.live.live_kernel.Goals as goal
 
 abbrev Stands : Setup → List (List Call) → KernelState → Type 0

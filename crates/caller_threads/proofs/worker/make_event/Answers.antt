@@ -1,4 +1,4 @@
-use Rattle.caller_threads.proofs.Callers.{acts_only}
+use Rattle.caller_threads.proofs.CallersLeft.{acts_only}
 use Rattle.caller_threads.proofs.worker.make_event.Goals as goal
 
 pub returns-in-Ok-Moved-clause-only : goal.returns-in-Ok-Moved-clause-only

@@ -3,7 +3,7 @@ use Rattle.vm_model.specs.Space.{count_from, is_among}
 use Rattle.vm_model.specs.PageSets.{has_page}
 use Rattle.vm_model.proofs.Tabulated.{filter-same}
 use Rattle.vm_model.specs.PageSets.{pages_in}
-use Rattle.chunk_slots.proofs.PageBits.{inside, from_before, among_pages}
+use Rattle.chunk_slots.proofs.PagesInRow.{inside, from_before, among_pages}
 use Rattle.chunk_slots.proofs.kept_chunk.pages_of_object.Goals as goal
 
 pub returns-clause-pages : goal.returns-clause-pages

@@ -1,6 +1,6 @@
 use Rattle.std.proofs.Common.{◌++◌, ap, arith}
 use Rattle.chunk_slots.specs.KeptObjects.{holder_in}
-use Rattle.chunk_slots.proofs.LiveRows.{live_from_first}
+use Rattle.chunk_slots.proofs.LiveObjects.{live_from_first}
 use Rattle.chunk_slots.proofs.object_rows.push_rows.Goals as goal
 
 pub loop-span-init : goal.loop-span-init

@@ -1,8 +1,8 @@
 use Rattle.std.proofs.Common.{◌≡◌, ◌≤◌, ◌-◌}
 use Rattle.chunk_bitmaps.specs.ChunkMap.{objects_from}
 use Rattle.chunk_slots.specs.KeptObjects.{holder_in}
-use Rattle.chunk_slots.specs.LiveRows.{live_rows, seek}
-use Rattle.chunk_slots.proofs.LiveRows.{live_among}
+use Rattle.chunk_slots.specs.LiveObjectRows.{live_rows, seek}
+use Rattle.chunk_slots.proofs.LiveObjects.{live_among}
 use Rattle.chunk_slots.proofs.object_rows.seek_in.Given as goal
 
 abbrev pub invariant-loop-span : goal.invariant-loop-span

@@ -1,7 +1,7 @@
 use Rattle.std.proofs.Common.{◌≡◌, ℕ, ◌+◌, get_or, sym, ap, ◌∙◌}
 use Rattle.std.proofs.lemmas.Option.{slice_get-get_or}
 use Rattle.chunk_slots.specs.Rising.{rank_by}
-use Rattle.chunk_slots.specs.Slots.{key_of_slot, slot_key}
+use Rattle.chunk_slots.specs.ChunksBySlot.{key_of_slot, slot_key}
 use Rattle.chunk_slots.proofs.SlotRows.{no_slot}
 use Rattle.chunk_slots.proofs.InSlots.{found_in_slot, not_in_slot, past_slots}
 use Rattle.chunk_slots.proofs.slots.nth_in_slot.Goals as goal

@@ -2,7 +2,7 @@ use Rattle.std.proofs.Common.{◌≡◌, ℕ, Bool, true, not, List, Option, ◌
 use Rattle.std.specs.Option.{is_some}
 use Rattle.chunk_slots.specs.declared.slots.InSlot.{InSlot}
 use Rattle.chunk_slots.specs.Rising.{IsRising, index_by}
-use Rattle.chunk_slots.specs.Slots.{key_of_slot, slot_key, moved}
+use Rattle.chunk_slots.specs.ChunksBySlot.{key_of_slot, slot_key, moved}
 use Rattle.chunk_slots.proofs.RisingLists.{put_back, filter_rises, filter-index}
 use Rattle.chunk_slots.proofs.slots.relocate.Goals as goal
 

@@ -3,7 +3,7 @@ use Rattle.std.proofs.lemmas.List.Elements.{All-get_or}
 use Rattle.vm_model.specs.Space.{covers, paint, runs}
 use Rattle.unit_layout.specs.declared.layout.Group.{Group}
 use Rattle.augmented_tree.specs.FreeBlocks.{IsFree}
-use Rattle.congruent_areas.specs.Groups.{span_at, spans_at}
+use Rattle.congruent_areas.specs.GroupsAtBase.{span_at, spans_at}
 use Rattle.congruent_areas.proofs.Carving.{spans-more, paint-more, cover-more, still_free, paint-none, and_true}
 use Rattle.congruent_areas.proofs.search.carve_spans.Goals as goal
 

@@ -1,7 +1,7 @@
 use Rattle.std.proofs.Common.{◌≡◌, ℕ, ◌+◌, ◌&&◌, not, Bool, true, List, take}
 use Rattle.vm_model.specs.Space.{covers, paint}
 use Rattle.augmented_tree.specs.FreeBlocks.{AreFreeRuns}
-use Rattle.congruent_areas.specs.Groups.{spans_at}
+use Rattle.congruent_areas.specs.GroupsAtBase.{spans_at}
 use Rattle.congruent_areas.proofs.search.carve_spans.Given as goal
 
 abbrev pub invariant-loop-group : goal.invariant-loop-group

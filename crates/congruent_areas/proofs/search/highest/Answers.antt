@@ -2,7 +2,7 @@ use Rattle.std.proofs.Common.{◌≡◌, ℕ, ◌+◌, ◌<◌, ◌≤◌, inl, 
 use Rattle.std.proofs.lemmas.Bool.{cases_lt, both_ways}
 use Rattle.vm_model.specs.Space.{end_of, covers}
 use Rattle.congruent_areas.proofs.Lowering.{first_page, multiple_below, multiples_up_to, IfNone-anyway}
-use Rattle.congruent_areas.specs.Groups.{HasBase}
+use Rattle.congruent_areas.specs.GroupsAtBase.{HasBase}
 use Rattle.congruent_areas.proofs.Bases.{no_base, the_base}
 use Rattle.congruent_areas.proofs.search.highest.Goals as goal
 

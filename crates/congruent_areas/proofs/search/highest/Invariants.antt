@@ -1,5 +1,5 @@
 use Rattle.std.proofs.Common.{◌≡◌, ℕ, ◌%◌, ◌≤◌}
-use Rattle.congruent_areas.specs.Groups.{IsBase}
+use Rattle.congruent_areas.specs.GroupsAtBase.{IsBase}
 use Rattle.congruent_areas.proofs.search.highest.Given as goal
 
 -- no base above this one takes the groups

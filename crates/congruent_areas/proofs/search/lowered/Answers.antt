@@ -2,7 +2,7 @@ use Rattle.std.proofs.Common.{ℕ, ◌+◌, ◌≤◌, arith}
 use Rattle.std.proofs.lemmas.Bool.{both_ways}
 use Rattle.vm_model.specs.Space.{covers}
 use Rattle.augmented_tree.specs.FreeBlocks.{IsFree}
-use Rattle.congruent_areas.specs.Groups.{span_at}
+use Rattle.congruent_areas.specs.GroupsAtBase.{span_at}
 use Rattle.congruent_areas.proofs.Lowering.{first_free, ends_by, IfNone-anyway}
 use Rattle.congruent_areas.proofs.search.lowered.Goals as goal
 

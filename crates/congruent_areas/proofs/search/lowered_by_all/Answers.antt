@@ -3,7 +3,7 @@ use Rattle.std.proofs.lemmas.List.{take_all}
 use Rattle.std.proofs.lemmas.List.Elements.{All-more, All-get_or}
 use Rattle.unit_layout.specs.declared.layout.Group.{Group}
 use Rattle.augmented_tree.specs.FreeBlocks.{IsFree}
-use Rattle.congruent_areas.specs.Groups.{IsBase, span_at}
+use Rattle.congruent_areas.specs.GroupsAtBase.{IsBase, span_at}
 use Rattle.congruent_areas.proofs.Lowering.{multiple_below, multiples_up_to, IfNone-anyway}
 use Rattle.congruent_areas.proofs.search.lowered_by_all.Goals as goal
 

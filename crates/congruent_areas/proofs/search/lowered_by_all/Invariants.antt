@@ -1,7 +1,7 @@
 use Rattle.std.proofs.Common.{◌≡◌, ℕ, ◌%◌, ◌≤◌, All, take}
 use Rattle.unit_layout.specs.declared.layout.Group.{Group}
 use Rattle.augmented_tree.specs.FreeBlocks.{IsFree}
-use Rattle.congruent_areas.specs.Groups.{IsBase, span_at}
+use Rattle.congruent_areas.specs.GroupsAtBase.{IsBase, span_at}
 use Rattle.congruent_areas.proofs.search.lowered_by_all.Given as goal
 
 abbrev pub invariant-loop-group : goal.invariant-loop-group

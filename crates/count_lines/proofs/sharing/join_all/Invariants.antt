@@ -1,7 +1,7 @@
 use Rattle.std.proofs.Common.{All, ◌≡◌, ◌++◌, map, flat_map}
 use Rattle.std.specs.Vec.Iter.{into_iter_items}
 use Rattle.percpu_counters.specs.Passes.{adds_of, spare_of, IsPassOf}
-use Rattle.count_lines.specs.Lines.{added_by}
+use Rattle.count_lines.specs.LinesOfCaller.{added_by}
 use Rattle.count_lines.specs.Shares.{lines_in, IsShareOf, IsFinished}
 use Rattle.count_lines.proofs.sharing.join_all.Given as goal
 

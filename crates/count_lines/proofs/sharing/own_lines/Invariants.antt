@@ -1,5 +1,5 @@
 use Rattle.std.proofs.Common.{◌≡◌, take}
-use Rattle.count_lines.specs.Lines.{lines_by}
+use Rattle.count_lines.specs.LinesOfCaller.{lines_by}
 use Rattle.count_lines.proofs.sharing.own_lines.Given as goal
 
 abbrev pub invariant-loop-line : goal.invariant-loop-line

@@ -2,7 +2,7 @@ use Rattle.std.proofs.Common.{◌==◌}
 use Rattle.std.proofs.lemmas.List.Elements.{All-same, All-filter, All-weaker}
 use Rattle.vm_model.specs.declared.calls.CountLine.{CountLine}
 use Rattle.percpu_counters.specs.Passes.{shape_of}
-use Rattle.count_lines.specs.Lines.{lines_by}
+use Rattle.count_lines.specs.LinesOfCaller.{lines_by}
 use Rattle.count_lines.specs.Shares.{IsLineOf, HasCell}
 use Rattle.count_lines.proofs.sharing.share_of.Goals as goal
 

@@ -3,9 +3,9 @@ use Rattle.std.proofs.lemmas.List.Elements.{All-push, All-same, All-weaker}
 use Rattle.vm_model.specs.declared.calls.CountLine.{CountLine}
 use Rattle.percpu_counters.specs.Passes.{shape_of}
 use Rattle.count_lines.specs.declared.share.Share.{Share}
-use Rattle.count_lines.specs.Lines.{lines_by}
+use Rattle.count_lines.specs.LinesOfCaller.{lines_by}
 use Rattle.count_lines.specs.Shares.{done_in, IsLineOf, IsShareOf}
-use Rattle.count_lines.proofs.Shared.{lines_from, few_from, each_line_is_shared}
+use Rattle.count_lines.proofs.SharedLines.{lines_from, few_from, each_line_is_shared}
 use Rattle.count_lines.proofs.OneByOne.{callers_more, lines_more, count_more, room_for_next}
 use Rattle.count_lines.proofs.sharing.share_out.Goals as goal
 

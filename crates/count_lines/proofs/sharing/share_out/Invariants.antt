@@ -2,9 +2,9 @@ use Rattle.std.proofs.Common.{All, ◌≡◌, ◌+◌, ◌++◌, map, flat_map, 
 use Rattle.std.specs.List.{range_with_len}
 use Rattle.percpu_counters.specs.Passes.{adds_of, spare_of, IsPassOf}
 use Rattle.count_lines.specs.declared.share.Share.{Share}
-use Rattle.count_lines.specs.Lines.{added_by, lines_by}
+use Rattle.count_lines.specs.LinesOfCaller.{added_by, lines_by}
 use Rattle.count_lines.specs.Shares.{caller_of, lines_in, done_in, IsShareOf}
-use Rattle.count_lines.proofs.Shared.{lines_from}
+use Rattle.count_lines.proofs.SharedLines.{lines_from}
 use Rattle.count_lines.proofs.sharing.share_out.Given as goal
 
 -- so many callers have their shares, for which room left the pass

@@ -1,7 +1,7 @@
 use Rattle.std.proofs.Common.{◌++◌, take, ap, ◌∙◌, arith}
 use Rattle.std.proofs.lemmas.List.{take_all}
-use Rattle.history_book.specs.Entries.{places_of, entries_noted}
-use Rattle.history_book.proofs.Rows.{entries_noted-more, entries_noted-history}
+use Rattle.history_book.specs.BookEntries.{places_of, entries_noted}
+use Rattle.history_book.proofs.EntriesOfRows.{entries_noted-more, entries_noted-history}
 use Rattle.history_book.proofs.entries.number.Goals as goal
 
 pub loop-index-preserved : goal.loop-index-preserved

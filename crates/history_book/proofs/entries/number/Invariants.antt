@@ -1,5 +1,5 @@
 use Rattle.std.proofs.Common.{◌≡◌, ◌+◌, ◌-◌, ◌≤◌, ◌++◌, length, take, vec_len, vec_capacity}
-use Rattle.history_book.specs.Entries.{places_of, entries_noted}
+use Rattle.history_book.specs.BookEntries.{places_of, entries_noted}
 use Rattle.history_book.proofs.entries.number.Given as goal
 
 abbrev pub invariant-loop-index : goal.invariant-loop-index

@@ -1,6 +1,6 @@
 use Rattle.std.proofs.Common.{◌+◌, ◌<◌, length, subst, sym}
 use Rattle.history_book.specs.declared.entries.Passed.{Passed}
-use Rattle.history_book.proofs.Places.{HavePlaces, HavePlaces-own, HavePlaces-other, HavePlaces-rest}
+use Rattle.history_book.proofs.PlacesSoFar.{HavePlaces, HavePlaces-own, HavePlaces-other, HavePlaces-rest}
 use Rattle.history_book.proofs.entries.pass_to.Goals as goal
 use Rattle.history_book.proofs.entries.pass_to.Goals.{then-moved-passed, else-moved-passed}
 

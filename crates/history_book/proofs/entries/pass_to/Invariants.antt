@@ -1,5 +1,5 @@
 use Rattle.std.proofs.Common.{◌-◌, length}
-use Rattle.history_book.proofs.Places.{HavePlaces}
+use Rattle.history_book.proofs.PlacesSoFar.{HavePlaces}
 use Rattle.history_book.proofs.entries.pass_to.Given as goal
 
 abbrev pub invariant-loop-passed : goal.invariant-loop-passed

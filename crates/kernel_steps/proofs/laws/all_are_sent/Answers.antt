@@ -1,6 +1,6 @@
 use denote.Param.Send.{sendable}
-use Rattle.section_core.proofs.Sent.{region_send}
-use Rattle.kernel_steps.proofs.Sent.{kernel_send}
+use Rattle.section_core.proofs.RegionsSent.{region_send}
+use Rattle.kernel_steps.proofs.KernelsSent.{kernel_send}
 use Rattle.kernel_steps.proofs.laws.all_are_sent.Goals as goal
 
 pub is_sent-requires-send-T : goal.is_sent-requires-send-T

@@ -1,6 +1,6 @@
 use Rattle.std.proofs.Common.{rules}
 use Rattle.vm_model.specs.declared.areas.Span.{Span}
-use Rattle.kernel_steps.proofs.Sorted.{sorted_by_key_is}
+use Rattle.kernel_steps.proofs.StableSort.{sorted_by_key_is}
 use Rattle.kernel_steps.proofs.tables.waiting_spans.Goals as goal
 
 pub returns : goal.returns

@@ -3,8 +3,8 @@ use Rattle.std.specs.Option.{IsSome}
 use Rattle.std.proofs.lemmas.Bool.Decides.{nat_tests}
 use Rattle.std.proofs.lemmas.List.{drop_all}
 use Rattle.map_blocks.specs.KeptBlocks.{KeptRow}
-use Rattle.map_blocks.specs.KeptSides.{has_room, gives_room}
-use Rattle.map_blocks.proofs.Finds.{find_yes, find_no}
+use Rattle.map_blocks.specs.KeptBlockSides.{has_room, gives_room}
+use Rattle.map_blocks.proofs.FirstPassing.{find_yes, find_no}
 use Rattle.map_blocks.proofs.queues.first_with_room.Goals as goal
 
 pub loop-start-init : goal.loop-start-init

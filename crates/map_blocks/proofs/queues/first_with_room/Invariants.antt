@@ -1,5 +1,5 @@
 use Rattle.std.proofs.Common.{◌≡◌, find, drop}
-use Rattle.map_blocks.specs.KeptSides.{has_room}
+use Rattle.map_blocks.specs.KeptBlockSides.{has_room}
 use Rattle.map_blocks.proofs.queues.first_with_room.Given as goal
 
 abbrev pub invariant-loop-start : goal.invariant-loop-start

@@ -1,6 +1,6 @@
 use Rattle.std.proofs.Common.{◌≢◌, ◌++◌, ◌∷◌, [], filter, get_or, sym, ap, ◌∙◌}
 use Rattle.std.proofs.lemmas.List.{take_all}
-use Rattle.map_blocks.specs.KeptSides.{is_broken}
+use Rattle.map_blocks.specs.KeptBlockSides.{is_broken}
 use Rattle.map_blocks.proofs.Fragments.{taken_yes, taken_no, some_taken, on_err}
 use Rattle.map_blocks.proofs.queues.fragmented_starts.Goals.{then-is_fragmented_at+in_ok-push, else-is_fragmented_at}
 use Rattle.map_blocks.proofs.queues.fragmented_starts.Goals as goal

@@ -1,5 +1,5 @@
 use Rattle.std.proofs.Common.{◌≡◌, filter, take}
-use Rattle.map_blocks.specs.KeptSides.{is_broken}
+use Rattle.map_blocks.specs.KeptBlockSides.{is_broken}
 use Rattle.map_blocks.proofs.queues.fragmented_starts.Given as goal
 
 abbrev pub invariant-loop-start : goal.invariant-loop-start

@@ -1,6 +1,6 @@
 use Rattle.std.proofs.Common.{sym, ap, ◌∙◌}
-use Rattle.map_blocks.specs.KeptSides.{is_fragment}
-use Rattle.map_blocks.proofs.Rows.{same_bits}
+use Rattle.map_blocks.specs.KeptBlockSides.{is_fragment}
+use Rattle.map_blocks.proofs.LivePartRows.{same_bits}
 use Rattle.map_blocks.proofs.queues.is_fragmented_at.Goals as goal
 
 pub returns-in-Some : goal.returns-in-Some

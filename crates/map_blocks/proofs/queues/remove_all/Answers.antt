@@ -1,6 +1,6 @@
 use Rattle.std.proofs.Common.{◌+◌, drop, refl, sym, ap, ◌∙◌}
 use Rattle.std.proofs.lemmas.List.{drop_all}
-use Rattle.map_blocks.specs.KeptSides.{without_all}
+use Rattle.map_blocks.specs.KeptBlockSides.{without_all}
 use Rattle.map_blocks.proofs.Fragments.{without_more}
 use Rattle.map_blocks.proofs.queues.remove_all.Goals as goal
 

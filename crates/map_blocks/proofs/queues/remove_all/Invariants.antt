@@ -1,5 +1,5 @@
 use Rattle.std.proofs.Common.{◌≡◌, drop}
-use Rattle.map_blocks.specs.KeptSides.{without_all}
+use Rattle.map_blocks.specs.KeptBlockSides.{without_all}
 use Rattle.map_blocks.proofs.queues.remove_all.Given as goal
 
 abbrev pub invariant-loop-start : goal.invariant-loop-start

@@ -4,10 +4,10 @@ use Rattle.vm_model.specs.Setup.{Setup}
 use Rattle.vm_model.specs.PlainMap.{PlainMap}
 use Rattle.vm_model.specs.Chunks.{ObjectAt, copy_at}
 use Rattle.vm_model.specs.Frames.{free_frames, give_frames, sum_words}
-use Rattle.page_pool.specs.Pages.{Pages, free_of}
+use Rattle.page_pool.specs.PageMap.{Pages, free_of}
 use Rattle.page_pool.specs.Units.{pages_at, bytes_at, with_zeroed, with_added, word_of, sum_of}
-use Rattle.page_pool.specs.Sections.{pages_in, HasCells}
-use Rattle.page_pool.proofs.Shared.{setup}
+use Rattle.page_pool.specs.PlainMapPages.{pages_in, HasCells}
+use Rattle.page_pool.proofs.SharedFrames.{setup}
 use Rattle.page_pool.proofs.laws.sections.Goals as goal
 
 free_in : (c : Setup) (m : PlainMap) → HasCells c m → free_of (pages_in m) ≡ free_frames c m.frames

@@ -5,8 +5,8 @@ use Rattle.vm_model.proofs.Elements.{slice_get-set_other}
 use Rattle.vm_model.specs.Space.{count_from}
 use Rattle.vm_model.specs.Frames.{give_frames}
 use Rattle.page_pool.specs.FrameList.{FrameList, AreShared}
-use Rattle.page_pool.proofs.Shared.{shared_taken}
-use Rattle.page_pool.proofs.Kept.{give_frames-next, frames_left, none_left, all_left}
+use Rattle.page_pool.proofs.SharedFrames.{shared_taken}
+use Rattle.page_pool.proofs.KeptBesidePages.{give_frames-next, frames_left, none_left, all_left}
 use Rattle.page_pool.proofs.page_side.give_lowest.Goals as goal
 
 pub loop-page-init : goal.loop-page-init

@@ -2,11 +2,11 @@ use Rattle.std.proofs.Common.{◌≡◌, ◌-◌, ◌<◌, ℕ, List, Option, No
 use Rattle.std.proofs.lemmas.Bool.{false≢true}
 use Rattle.std.proofs.lemmas.Bool.Decides.{nat_tests}
 use Rattle.vm_model.proofs.Paint.{length-paint_from}
-use Rattle.page_pool.proofs.Kept.{read_at}
+use Rattle.page_pool.proofs.KeptBesidePages.{read_at}
 use Rattle.vm_model.specs.Space.{span, holds, paint, end_of}
 use Rattle.vm_model.specs.Frames.{joined_option}
 use Rattle.page_pool.specs.FrameList.{FrameList, AreShared}
-use Rattle.page_pool.proofs.Shared.{frame_of_page, shared_back, count-unmapped}
+use Rattle.page_pool.proofs.SharedFrames.{frame_of_page, shared_back, count-unmapped}
 use Rattle.page_pool.proofs.Painting.{paint-first, paint-next, paint-last, paint-ahead}
 use Rattle.page_pool.proofs.page_side.take_back.Goals as goal
 

@@ -1,5 +1,5 @@
 use Rattle.std.proofs.Common.{◌≡◌, FitsSigned, w32, w64, rules, arith}
-use Rattle.percpu_counters.specs.Rule.{bits_of}
+use Rattle.percpu_counters.specs.CounterRule.{bits_of}
 use Rattle.percpu_counters.proofs.Sizes.{tested}
 use Rattle.percpu_counters.proofs.WholeAdds.{has_stayed, has_folded}
 use Rattle.percpu_counters.proofs.adds.add_line.Goals as goal

@@ -1,6 +1,6 @@
 use Rattle.std.proofs.Common.{◌++◌, ◌∷◌, [], ap, sym, ◌∙◌, arith}
 use Rattle.std.specs.Slots.{slots_items}
-use Rattle.percpu_counters.proofs.Closing.{take_at}
+use Rattle.percpu_counters.proofs.ReadRows.{take_at}
 use Rattle.percpu_counters.proofs.close.closed_words.Goals as goal
 
 pub loop-i-preserved : goal.loop-i-preserved

@@ -1,7 +1,7 @@
 use Rattle.std.proofs.Common.{◌+◌, get_or, w64, FitsSigned, refl, rules, ◌∙◌}
 use Rattle.std.proofs.lemmas.Int.{to_z-of_z}
 use Rattle.std.specs.Int.{cast_signed}
-use Rattle.percpu_counters.proofs.Closing.{map_more, total_more}
+use Rattle.percpu_counters.proofs.ReadRows.{map_more, total_more}
 use Rattle.percpu_counters.proofs.close.row.Goals as goal
 
 pub loop-cpu-preserved : goal.loop-cpu-preserved

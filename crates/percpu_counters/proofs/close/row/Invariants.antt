@@ -1,7 +1,7 @@
 use Rattle.std.proofs.Common.{◌≡◌, ◌+◌, ◌%◌, map, get_or, w64}
 use Rattle.std.specs.List.{range_with_len}
 use Rattle.std.specs.Int.{cast_signed}
-use Rattle.percpu_counters.specs.Rule.{row_sum}
+use Rattle.percpu_counters.specs.CounterRule.{row_sum}
 use Rattle.percpu_counters.proofs.close.row.Given as goal
 
 abbrev pub invariant-loop-cpu : goal.invariant-loop-cpu

@@ -1,6 +1,6 @@
-use Rattle.percpu_counters.specs.Rule.{row_of}
-use Rattle.percpu_counters.specs.Rows.{row_at}
-use Rattle.percpu_counters.proofs.Closing.{map_more}
+use Rattle.percpu_counters.specs.CounterRule.{row_of}
+use Rattle.percpu_counters.specs.RowsFromWords.{row_at}
+use Rattle.percpu_counters.proofs.ReadRows.{map_more}
 use Rattle.percpu_counters.proofs.close.rows.Goals as goal
 
 pub loop-counter-preserved : goal.loop-counter-preserved

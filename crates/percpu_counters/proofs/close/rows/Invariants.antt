@@ -1,7 +1,7 @@
 use Rattle.std.proofs.Common.{◌≡◌, map}
 use Rattle.std.specs.List.{range_with_len}
-use Rattle.percpu_counters.specs.Rule.{row_of}
-use Rattle.percpu_counters.specs.Rows.{row_at}
+use Rattle.percpu_counters.specs.CounterRule.{row_of}
+use Rattle.percpu_counters.specs.RowsFromWords.{row_at}
 use Rattle.percpu_counters.proofs.close.rows.Given as goal
 
 abbrev pub invariant-loop-counter : goal.invariant-loop-counter

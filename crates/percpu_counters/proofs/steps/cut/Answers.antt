@@ -1,5 +1,5 @@
 use Rattle.std.proofs.Common.{arith}
-use Rattle.percpu_counters.proofs.Splits.{splits_as}
+use Rattle.percpu_counters.proofs.CounterSplits.{splits_as}
 use Rattle.percpu_counters.proofs.steps.cut.Goals as goal
 
 pub split_seat-requires : goal.split_seat-requires

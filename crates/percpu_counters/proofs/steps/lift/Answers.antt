@@ -1,5 +1,5 @@
 use Rattle.std.proofs.Common.{rules, ℕ, ◌<◌, refl, sym, subst}
-use Rattle.percpu_counters.specs.Rule.{cell_of}
+use Rattle.percpu_counters.specs.CounterRule.{cell_of}
 use Rattle.percpu_counters.proofs.Puts.{inside_all}
 use Rattle.percpu_counters.proofs.Folds.{lifts_as}
 use Rattle.percpu_counters.proofs.steps.lift.Goals as goal

@@ -1,5 +1,5 @@
 use Rattle.std.proofs.Common.{FitsSigned, w32, rules, ◌≡◌, ℕ, ◌<◌, refl, sym, subst}
-use Rattle.percpu_counters.specs.Rule.{bits_of, cell_of}
+use Rattle.percpu_counters.specs.CounterRule.{bits_of, cell_of}
 use Rattle.percpu_counters.proofs.Puts.{adds_as, inside_all}
 use Rattle.percpu_counters.proofs.steps.put.Goals as goal
 

@@ -1,5 +1,5 @@
 use Rattle.std.proofs.Common.{rules, ℕ, ◌<◌, refl, sym, subst}
-use Rattle.percpu_counters.specs.Rule.{row_of}
+use Rattle.percpu_counters.specs.CounterRule.{row_of}
 use Rattle.percpu_counters.proofs.Folds.{settles_as, first_inside}
 use Rattle.percpu_counters.proofs.steps.settle.Goals as goal
 

@@ -1,5 +1,5 @@
 use Rattle.std.proofs.Common.{arith, ◌∙◌}
-use Rattle.percpu_counters.proofs.Splits.{joins_as}
+use Rattle.percpu_counters.proofs.CounterSplits.{joins_as}
 use Rattle.percpu_counters.proofs.Folds.{learns}
 use Rattle.percpu_counters.proofs.steps.unite.Goals as goal
 

@@ -4,7 +4,7 @@ use Rattle.vm_model.specs.PlainMap.{Chunk}
 use Rattle.vm_model.specs.Chunks.{page_in}
 use Rattle.chunk_slots.specs.ChunkRegion.{ChunkRegion, setup_of}
 use Rattle.populate_balance.specs.Balance.{placed_page, told_page}
-use Rattle.populate_balance.proofs.Numbered.{chunk_by, no_chunk_by}
+use Rattle.populate_balance.proofs.NumberedChunks.{chunk_by, no_chunk_by}
 use Rattle.populate_balance.proofs.Unpopulated.{lowest_is}
 use Rattle.populate_balance.proofs.fill.lowest_unpopulated.Goals as goal
 

@@ -1,6 +1,6 @@
 use Rattle.std.proofs.Common.{◌≡◌, ◌<◌, length, option_map, ap, sym, ◌∙◌, arith}
 use Rattle.vm_model.specs.Chunks.{slot, empty_count}
-use Rattle.chunk_slots.specs.Slots.{slot_key}
+use Rattle.chunk_slots.specs.ChunksBySlot.{slot_key}
 use Rattle.chunk_slots.specs.ChunkRegion.{ChunkRegion, setup_of, in_order}
 use Rattle.chunk_slots.proofs.InSlots.{length_sorted}
 use Rattle.populate_balance.specs.Balance.{placed_page}

@@ -7,7 +7,7 @@ use Rattle.vm_model.proofs.Finds.{first_kept}
 use Rattle.chunk_slots.specs.ChunkRegion.{setup_of}
 use Rattle.chunk_slots.proofs.InOrder.{same_some}
 use Rattle.populate_balance.specs.Balance.{spare_in}
-use Rattle.populate_balance.proofs.Numbered.{number_of, chunk_by, no_chunk_by, spare_by}
+use Rattle.populate_balance.proofs.NumberedChunks.{number_of, chunk_by, no_chunk_by, spare_by}
 use Rattle.populate_balance.proofs.spare.take_spare_chunk.Goals as goal
 
 abbrev told : ℕ → ℕ → List ℕ → Option (ℕ × ℕ × List ℕ)

@@ -1,6 +1,6 @@
 use Rattle.std.proofs.Common.{refl}
 use Rattle.std.specs.Fmt.{signed_decimal}
-use Rattle.text_lines.proofs.Joined.{words_step}
+use Rattle.text_lines.proofs.JoinedFields.{words_step}
 use Rattle.report_text.proofs.audit_lines.put_cells.Goals as goal
 
 pub loop-cell-preserved : goal.loop-cell-preserved

@@ -1,7 +1,7 @@
 use Rattle.std.proofs.Common.{◌≡◌, ◌∙◌, ◌++◌, ◌∷◌, [], List, ℤ, ap, codes, decimal, map, subst, OnOk}
 use Rattle.std.specs.Fmt.{signed_decimal}
 use Rattle.vm_model.specs.Words.{fields}
-use Rattle.text_lines.proofs.Joined.{Puts, both, line_text}
+use Rattle.text_lines.proofs.JoinedFields.{Puts, both, line_text}
 use Rattle.report_text.proofs.audit_lines.put_counter_audit.Goals as goal
 
 pub returns : goal.returns

@@ -1,5 +1,5 @@
 use Rattle.report_text.specs.AuditLines.{counter_audit}
-use Rattle.report_text.proofs.Joined.{numbered_step}
+use Rattle.report_text.proofs.JoinedTexts.{numbered_step}
 use Rattle.report_text.proofs.audit_lines.put_counter_audits.Goals as goal
 
 pub loop-i-preserved : goal.loop-i-preserved

@@ -1,5 +1,5 @@
 use Rattle.report_text.specs.TableLines.{counter_line}
-use Rattle.report_text.proofs.Joined.{numbered_step}
+use Rattle.report_text.proofs.JoinedTexts.{numbered_step}
 use Rattle.report_text.proofs.table_lines.put_counters.Goals as goal
 
 pub loop-i-preserved : goal.loop-i-preserved

@@ -3,7 +3,7 @@ use Rattle.std.specs.List.{flat_map}
 use Rattle.vm_model.specs.declared.calls.Entry.{Entry}
 use Rattle.report_text.specs.Tally.{entry_line, tally_line}
 use Rattle.report_text.specs.TableLines.{events_line}
-use Rattle.report_text.proofs.Joined.{behind_both}
+use Rattle.report_text.proofs.JoinedTexts.{behind_both}
 use Rattle.report_text.proofs.writer.put_calls.Goals as goal
 
 pub returns : goal.returns

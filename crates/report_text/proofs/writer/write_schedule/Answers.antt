@@ -1,5 +1,5 @@
 use Rattle.std.proofs.Common.{codes, decimal, refl}
-use Rattle.text_lines.proofs.Joined.{words_step}
+use Rattle.text_lines.proofs.JoinedFields.{words_step}
 use Rattle.report_text.proofs.writer.write_schedule.Goals as goal
 
 pub loop-pick-preserved : goal.loop-pick-preserved

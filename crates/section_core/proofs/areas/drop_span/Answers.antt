@@ -5,7 +5,7 @@ use Rattle.vm_model.specs.Places.{MadeNothing}
 use Rattle.vm_model.specs.Next.{Answer}
 use Rattle.vm_model.specs.Parts.{FreeRuns}
 use Rattle.vm_model.proofs.PaintRuns.{same_paint}
-use Rattle.map_laws.proofs.Chosen.{covers_one}
+use Rattle.map_laws.proofs.TestsAndFilters.{covers_one}
 use Rattle.section_core.specs.MadeSections.{IsMoved}
 use Rattle.section_core.proofs.FreeSections.{drops, all_one}
 use Rattle.section_core.proofs.areas.drop_span.Goals as goal

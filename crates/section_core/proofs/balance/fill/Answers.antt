@@ -1,8 +1,8 @@
 use Rattle.std.proofs.Common.{◌≡◌, ◌<◌, ◌≤◌, true, ◌∷◌, [], length, ap, sym, ◌∙◌, subst, arith}
 use Rattle.vm_model.specs.Setup.{Setup, pages_in_units}
 use Rattle.vm_model.specs.Space.{is_among}
-use Rattle.page_pool.specs.Pages.{free_of}
-use Rattle.page_pool.specs.Pages as pool
+use Rattle.page_pool.specs.PageMap.{free_of}
+use Rattle.page_pool.specs.PageMap as pool
 use Rattle.page_pool.specs.Units.{AreDistinct, pages_at, with_frames_for}
 use Rattle.section_core.specs.RegionSides.{pages_region}
 use Rattle.section_core.specs.MadeSections.{IsMoved}

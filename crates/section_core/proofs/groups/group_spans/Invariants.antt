@@ -1,5 +1,5 @@
 use Rattle.std.proofs.Common.{◌≡◌, take}
-use Rattle.congruent_areas.specs.Groups.{spans_at}
+use Rattle.congruent_areas.specs.GroupsAtBase.{spans_at}
 use Rattle.section_core.proofs.groups.group_spans.Given as goal
 
 abbrev pub invariant-loop-group : goal.invariant-loop-group

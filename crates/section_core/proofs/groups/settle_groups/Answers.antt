@@ -1,5 +1,5 @@
 use Rattle.std.proofs.Common.{refl, ap, ◌∙◌}
-use Rattle.busy_areas.specs.LiveRows.{with_new}
+use Rattle.busy_areas.specs.LiveAreaRows.{with_new}
 use Rattle.section_core.proofs.GroupSections.{has_groups, starts_within, are_areas, settled_pages, settled_unused, settled_disjoint, settled_serials, settled_ends, settles_groups}
 use Rattle.section_core.proofs.groups.settle_groups.Goals as goal
 

@@ -1,7 +1,7 @@
 use Rattle.std.proofs.Common.{All, ◌++◌, ◌≤◌, refl, ap, sym, subst, ◌∙◌}
 use Rattle.vm_model.specs.Space.{times, sum_of_pages, HasEnd}
 use Rattle.vm_model.specs.Setup.{groups_at}
-use Rattle.lazy_purge.specs.Waits.{HasPage}
+use Rattle.lazy_purge.specs.WaitingSet.{HasPage}
 use Rattle.section_core.proofs.GroupSections.{has_groups, are_spans, starts_within, can_wait, waits_and_purges, waits_and_spares}
 use Rattle.section_core.proofs.groups.wait_for_groups.Goals as goal
 

@@ -3,8 +3,8 @@ use Rattle.vm_model.specs.Setup.{Setup, pages_in_units}
 use Rattle.vm_model.specs.Space.{is_among}
 use Rattle.vm_model.specs.PageSets.{pages_in}
 use Rattle.vm_model.specs.Frames.{pages_of_bytes}
-use Rattle.page_pool.specs.Pages.{free_of, IsMapped}
-use Rattle.page_pool.specs.Pages as pool
+use Rattle.page_pool.specs.PageMap.{free_of, IsMapped}
+use Rattle.page_pool.specs.PageMap as pool
 use Rattle.page_pool.specs.Units.{AreDistinct, pages_at, with_frames_for, with_zeroed}
 use Rattle.chunk_slots.specs.ChunkRegion.{at_of}
 use Rattle.section_core.specs.RegionSides.{pages_region}

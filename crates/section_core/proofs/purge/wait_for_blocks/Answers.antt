@@ -1,5 +1,5 @@
 use Rattle.std.proofs.Common.{All, sym, ◌∙◌, subst}
-use Rattle.lazy_purge.specs.Waits.{HasPage}
+use Rattle.lazy_purge.specs.WaitingSet.{HasPage}
 use Rattle.section_core.proofs.purge.wait_for_blocks.Goals as goal
 
 pub add-requires-clause-some : goal.add-requires-clause-some

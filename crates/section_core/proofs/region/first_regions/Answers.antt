@@ -1,10 +1,10 @@
 use Rattle.std.proofs.Common.{◌∙◌, sym, ap}
 use Rattle.vm_model.specs.Parts as parts
 use Rattle.vm_model.specs.Parts.{Region, FreeRuns, LiveAreas, WaitingSpans}
-use Rattle.page_pool.specs.Pages as pool
-use Rattle.busy_areas.specs.LiveRows.{LiveRows}
+use Rattle.page_pool.specs.PageMap as pool
+use Rattle.busy_areas.specs.LiveAreaRows.{LiveRows}
 use Rattle.section_core.specs.RegionSides.{percpu_region}
-use Rattle.section_core.proofs.Starts.{free_at_first, same_regions}
+use Rattle.section_core.proofs.RegionStarts.{free_at_first, same_regions}
 use Rattle.section_core.proofs.region.first_regions.Goals as goal
 
 pub returns : goal.returns

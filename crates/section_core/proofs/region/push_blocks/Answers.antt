@@ -3,7 +3,7 @@ use Rattle.unit_layout.specs.Config.{setup_of}
 use Rattle.vm_model.specs.Setup.{cpus}
 use Rattle.map_blocks.specs.BlockRows.{BlockRows}
 use Rattle.section_core.specs.RegionSides.{blocks_region}
-use Rattle.section_core.proofs.Starts.{blocks_pushed}
+use Rattle.section_core.proofs.RegionStarts.{blocks_pushed}
 use Rattle.section_core.proofs.region.push_blocks.Goals as goal
 
 pub loop-cpu-preserved : goal.loop-cpu-preserved

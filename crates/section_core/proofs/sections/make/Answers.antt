@@ -1,5 +1,5 @@
 use Rattle.std.proofs.Common.{refl}
-use Rattle.section_core.proofs.Standing.{row, row_as}
+use Rattle.section_core.proofs.StandingCallers.{row, row_as}
 use Rattle.section_core.proofs.SideRows.{row_here}
 use Rattle.section_core.proofs.sections.make.Goals as goal
 

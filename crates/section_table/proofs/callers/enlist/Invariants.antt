@@ -1,6 +1,6 @@
 use Rattle.std.proofs.Common.{◌≡◌, map}
 use Rattle.section_table.specs.Shown.{shown_of}
-use Rattle.section_table.specs.Views.{newcomer}
+use Rattle.section_table.specs.PassViews.{newcomer}
 use Rattle.section_table.proofs.callers.enlist.Given as goal
 
 abbrev pub invariant-loop-local : goal.invariant-loop-local

@@ -1,5 +1,5 @@
 use Rattle.std.proofs.Common.{rules, ◌≡◌, ◌≤◌, ℕ, length, [], ◌∷◌, refl, sym, ap, ◌∙◌, subst, arith, length-append}
-use Rattle.section_table.specs.Views.{merged, put_at}
+use Rattle.section_table.specs.PassViews.{merged, put_at}
 use Rattle.section_table.proofs.Placed.{merged_nil, merged_more, merged_long}
 use Rattle.section_table.proofs.callers.merge.Goals as goal
 

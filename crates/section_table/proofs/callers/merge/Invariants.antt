@@ -1,5 +1,5 @@
 use Rattle.std.proofs.Common.{◌≡◌, ◌≤◌, length, vec_capacity}
-use Rattle.section_table.specs.Views.{merged}
+use Rattle.section_table.specs.PassViews.{merged}
 use Rattle.section_table.proofs.callers.merge.Given as goal
 
 abbrev pub invariant-loop-other : goal.invariant-loop-other

@@ -1,5 +1,5 @@
 use Rattle.std.proofs.Common.{rules, ◌≡◌, ℕ, length, sym, ap, ◌∙◌}
-use Rattle.section_table.specs.Views.{put_at}
+use Rattle.section_table.specs.PassViews.{put_at}
 use Rattle.section_table.proofs.Placed.{put_end, put_empty, put_full}
 use Rattle.section_table.proofs.callers.put_in.Goals as goal
 

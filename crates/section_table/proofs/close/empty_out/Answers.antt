@@ -3,7 +3,7 @@ use mathlib.Core.Option.{some}
 use lib.ListN.{get_elem?}
 use Rattle.std.specs.Prelude.{slice_index_or}
 use Rattle.std.specs.Slots.{slots_items, slots_filled, slots_len, slots_counts}
-use Rattle.section_table.proofs.Slots.{take_more, still_full, now_empty}
+use Rattle.section_table.proofs.EmptiedSlots.{take_more, still_full, now_empty}
 use Rattle.section_table.proofs.close.empty_out.Goals as goal
 
 pub loop-i-preserved : goal.loop-i-preserved

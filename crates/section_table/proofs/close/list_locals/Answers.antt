@@ -1,5 +1,5 @@
 use Rattle.std.proofs.Common.{rules, ◌≡◌, [], ◌∷◌, ◌++◌, sym, ap, ◌∙◌}
-use Rattle.section_table.proofs.Picks.{locals_append, locals_stay}
+use Rattle.section_table.proofs.WrittenPicks.{locals_append, locals_stay}
 use Rattle.section_table.proofs.close.list_locals.Goals as goal
 
 pub loop-kept-preserved-in-Continue-1 : goal.loop-kept-preserved-in-Continue-1

@@ -1,6 +1,6 @@
 use Rattle.std.proofs.Common.{◌≡◌, map}
 use Rattle.section_table.specs.Shown.{shown_of}
-use Rattle.section_table.specs.Written.{locals_of}
+use Rattle.section_table.specs.WrittenLists.{locals_of}
 use Rattle.section_table.proofs.close.list_locals.Given as goal
 
 abbrev pub invariant-loop-kept : goal.invariant-loop-kept

@@ -1,10 +1,10 @@
 use Rattle.std.proofs.Common.{rules, ◌≡◌, ◌+◌, ◌<◌, ℕ, suc, length, map, take, replicate, Some, None, Option, slice_get, sym, ap, ◌∙◌, subst, arith}
 use Rattle.section_table.specs.declared.caller.Caller.{Caller}
 use Rattle.section_table.specs.Shown.{shown_of, held_of}
-use Rattle.section_table.specs.Places.{AreBelow}
-use Rattle.section_table.specs.Written.{written, all_written}
-use Rattle.section_table.proofs.Lists.{got_map}
-use Rattle.section_table.proofs.Picks.{got_at, written_some, written_none, written_length}
+use Rattle.section_table.specs.CallerPlaces.{AreBelow}
+use Rattle.section_table.specs.WrittenLists.{written, all_written}
+use Rattle.section_table.proofs.ElementsByPlace.{got_map}
+use Rattle.section_table.proofs.WrittenPicks.{got_at, written_some, written_none, written_length}
 use Rattle.section_table.proofs.close.picks_of.Goals as goal
 use Rattle.section_table.proofs.close.picks_of.Goals.{in-Some, in_default}
 

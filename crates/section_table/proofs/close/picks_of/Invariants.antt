@@ -1,6 +1,6 @@
 use Rattle.std.proofs.Common.{◌≡◌, map, take, length, replicate}
 use Rattle.section_table.specs.Shown.{shown_of}
-use Rattle.section_table.specs.Written.{all_written}
+use Rattle.section_table.specs.WrittenLists.{all_written}
 use Rattle.section_table.proofs.close.picks_of.Given as goal
 
 abbrev pub invariant-loop-caller : goal.invariant-loop-caller

@@ -1,6 +1,6 @@
 use Rattle.std.proofs.Common.{rules, ◌≡◌, ◌<◌, ℕ, length, take, set, slice_index_or, sym, ap, ◌∙◌, subst, length-set}
-use Rattle.section_table.specs.Written.{written}
-use Rattle.section_table.proofs.Picks.{below_at, written_take}
+use Rattle.section_table.specs.WrittenLists.{written}
+use Rattle.section_table.proofs.WrittenPicks.{below_at, written_take}
 use Rattle.section_table.proofs.close.write_picks.Goals as goal
 
 pub index_mut-requires : goal.index_mut-requires

@@ -1,5 +1,5 @@
 use Rattle.std.proofs.Common.{◌≡◌, take, length}
-use Rattle.section_table.specs.Written.{written}
+use Rattle.section_table.specs.WrittenLists.{written}
 use Rattle.section_table.proofs.close.write_picks.Given as goal
 
 abbrev pub invariant-loop-stamp : goal.invariant-loop-stamp

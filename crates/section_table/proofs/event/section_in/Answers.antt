@@ -3,8 +3,8 @@ use Rattle.atomic_table.specs.Table.{rest}
 use Rattle.section_table.specs.declared.parts.Turned.{Turned}
 use Rattle.section_table.specs.Turn.{Answers}
 use Rattle.section_table.specs.Shown.{held_of}
-use Rattle.section_table.specs.Views.{holding, with_event}
-use Rattle.section_table.proofs.Lists.{head_or}
+use Rattle.section_table.specs.PassViews.{holding, with_event}
+use Rattle.section_table.proofs.ElementsByPlace.{head_or}
 use Rattle.section_table.proofs.event.section_in.Goals as goal
 
 pub draw-stamp-requires-clause-ready : goal.draw-stamp-requires-clause-ready

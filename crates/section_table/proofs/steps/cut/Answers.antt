@@ -1,6 +1,6 @@
 use Rattle.std.proofs.Common.{rules, ◌≡◌, ℕ, sym, subst}
-use Rattle.section_table.specs.Views.{HasCaller}
-use Rattle.section_table.proofs.Splits.{cuts}
+use Rattle.section_table.specs.PassViews.{HasCaller}
+use Rattle.section_table.proofs.SplitPasses.{cuts}
 use Rattle.section_table.proofs.steps.cut.Goals as goal
 
 pub split_seat-requires : goal.split_seat-requires

@@ -1,5 +1,5 @@
 use Rattle.std.proofs.Common.{rules}
-use Rattle.section_table.proofs.Turns.{gives_turn}
+use Rattle.section_table.proofs.RegionTurns.{gives_turn}
 use Rattle.section_table.proofs.steps.release.Goals as goal
 
 pub swap-requires : goal.swap-requires

@@ -1,7 +1,7 @@
 use Rattle.std.proofs.Common.{rules, ◌≡◌, refl, ap, ◌∙◌, ◌∷◌, arith, Some}
 use Rattle.std.proofs.lemmas.Bool.Decides.{nat_tests}
-use Rattle.section_table.specs.Views.{holding}
-use Rattle.section_table.proofs.Turns.{takes_turn}
+use Rattle.section_table.specs.PassViews.{holding}
+use Rattle.section_table.proofs.RegionTurns.{takes_turn}
 use Rattle.section_table.proofs.steps.take.Goals as goal
 
 pub compare_exchange-requires : goal.compare_exchange-requires

@@ -1,5 +1,5 @@
 use Rattle.std.proofs.Common.{rules}
-use Rattle.section_table.proofs.Joins.{unites}
+use Rattle.section_table.proofs.JoinedPasses.{unites}
 use Rattle.section_table.proofs.steps.unite.Goals as goal
 
 pub join_seat-requires : goal.join_seat-requires

@@ -3,8 +3,8 @@ use lib.Seq.{map-set}
 use Rattle.section_table.specs.declared.caller.Caller.{Caller}
 use Rattle.section_table.specs.declared.views.Held.{Held}
 use Rattle.section_table.specs.Shown.{shown_of, held_of}
-use Rattle.section_table.specs.Views.{Has}
-use Rattle.section_table.proofs.Lists.{some_is, got_map}
+use Rattle.section_table.specs.PassViews.{Has}
+use Rattle.section_table.proofs.ElementsByPlace.{some_is, got_map}
 use Rattle.section_table.proofs.Tries.{found, set_twice, held_after, attempted}
 use Rattle.section_table.proofs.turn.try_caller.Goals as goal
 

@@ -1,10 +1,10 @@
 use Rattle.std.proofs.Common.{rules, ◌≡◌, ℕ, ◌<◌, ◌≤◌, Some, None, Ok, true, Bool, sym, ap, ◌∙◌, subst, lt_of_lt_of_le}
 use Rattle.std.specs.Prelude.{IfSome}
 use Rattle.section_table.specs.declared.views.View.{View}
-use Rattle.section_table.specs.Views.{IsWithin, flagged}
+use Rattle.section_table.specs.PassViews.{IsWithin, flagged}
 use Rattle.section_table.specs.Shown.{held_of}
 use Rattle.section_table.specs.Acts.{HasMoved}
-use Rattle.section_table.specs.Events.{IsEventOf}
+use Rattle.section_table.specs.Attempts.{IsEventOf}
 use Rattle.section_table.proofs.Tries.{not_seen, unflagged, has_caller, reaches_after, has_moved, event_of}
 use Rattle.section_table.proofs.turn.turn.Goals as goal
 

@@ -1,8 +1,8 @@
 use Rattle.std.proofs.Common.{◌≡◌, ◌≤◌, ◌<◌, ℕ, take}
 use Rattle.std.specs.List.{slice_index_or}
 use Rattle.unit_layout.specs.declared.request.GroupSpec.{GroupSpec}
-use Rattle.unit_layout.specs.Rule.{processors}
-use Rattle.unit_layout.specs.Ranges.{IsGroupInRange, IsAligned}
+use Rattle.unit_layout.specs.LayoutRule.{processors}
+use Rattle.unit_layout.specs.NumberRanges.{IsGroupInRange, IsAligned}
 use Rattle.tests_layouts.proofs.ranges.are_in_range.Given as goal
 
 -- the groups so far

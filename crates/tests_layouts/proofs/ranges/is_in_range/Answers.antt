@@ -4,8 +4,8 @@ use Rattle.std.specs.List.{All, slice_get, slice_index_or}
 use Rattle.vm_model.specs.Rules.{IsPower}
 use Rattle.vm_model.proofs.Powers.{power_with}
 use Rattle.unit_layout.specs.declared.request.GroupSpec.{GroupSpec}
-use Rattle.unit_layout.specs.Rule.{processors}
-use Rattle.unit_layout.specs.Ranges.{IsGroupInRange, IsAligned}
+use Rattle.unit_layout.specs.LayoutRule.{processors}
+use Rattle.unit_layout.specs.NumberRanges.{IsGroupInRange, IsAligned}
 use Rattle.tests_layouts.proofs.ranges.is_in_range.Goals as goal
 
 first_offset : (groups : List GroupSpec) (d g : GroupSpec) → slice_get groups 0 ≡ Some g → (slice_index_or groups 0 d).offset ≡ 0 → g.offset ≡ 0

@@ -4,12 +4,12 @@ use Rattle.vm_model.specs.declared.calls.Call.{Call}
 use Rattle.vm_model.specs.Setup.{Setup}
 use Rattle.percpu_counters.specs.Passes.{shape_of}
 use Rattle.kernel_steps.specs.Kernels.{KernelState, IsStanding, opening_of, callers_of, start_of}
-use Rattle.kernel_steps.specs.Parts.{kernel_of}
-use Rattle.section_table.specs.Views.{HasCaller}
-use Rattle.caller_threads.proofs.Callers.{starting_has}
+use Rattle.kernel_steps.specs.KernelOfParts.{kernel_of}
+use Rattle.section_table.specs.PassViews.{HasCaller}
+use Rattle.caller_threads.proofs.CallersLeft.{starting_has}
 use Rattle.caller_threads.proofs.RunsEnded.{few, many, within_reach, as_many, numbered}
 use Rattle.trace_replay.proofs.Replays.{starts_on}
-use Rattle.trace_replay.proofs.Counted.{units_told}
+use Rattle.trace_replay.proofs.TraceCounters.{units_told}
 use Rattle.trace_replay.proofs.LiveCounted.{shape_told, lines_within, callers_have}
 use Rattle.count_lines.specs.Shares.{caller_of}
 use Rattle.count_lines.specs.declared.share.Share.{Share}

@@ -1,6 +1,6 @@
 use Rattle.std.proofs.Common.{sym, subst}
-use Rattle.section_table.specs.Views.{HasAll}
-use Rattle.tests_turns.proofs.Kept.{both_have}
+use Rattle.section_table.specs.PassViews.{HasAll}
+use Rattle.tests_turns.proofs.PassKeepsCallers.{both_have}
 use Rattle.tests_turns.proofs.walks.close_both.Goals as goal
 
 pub close-requires-clause-all : goal.close-requires-clause-all

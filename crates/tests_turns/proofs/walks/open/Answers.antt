@@ -1,4 +1,4 @@
-use Rattle.tests_turns.proofs.Kept.{ok_map, starting_has}
+use Rattle.tests_turns.proofs.PassKeepsCallers.{ok_map, starting_has}
 use Rattle.tests_turns.proofs.walks.open.Goals as goal
 
 pub returns-clause-callers : goal.returns-clause-callers

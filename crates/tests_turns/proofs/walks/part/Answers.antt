@@ -1,5 +1,5 @@
 use Rattle.std.proofs.Common.{arith}
-use Rattle.tests_turns.proofs.Kept.{ok_map, alone_has}
+use Rattle.tests_turns.proofs.PassKeepsCallers.{ok_map, alone_has}
 use Rattle.tests_turns.proofs.walks.part.Goals as goal
 
 pub returns-clause-second : goal.returns-clause-second

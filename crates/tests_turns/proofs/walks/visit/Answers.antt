@@ -1,5 +1,5 @@
 use Rattle.tests_turns.specs.Walking.{walking}
-use Rattle.tests_turns.proofs.Kept.{acts_keep}
+use Rattle.tests_turns.proofs.PassKeepsCallers.{acts_keep}
 use Rattle.tests_turns.proofs.walks.visit.Goals as goal
 
 pub returns-clause-callers : goal.returns-clause-callers

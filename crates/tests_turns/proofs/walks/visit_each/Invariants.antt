@@ -1,5 +1,5 @@
 use Rattle.std.proofs.Common.{◌≡◌}
-use Rattle.tests_turns.specs.Callers.{KeepsCallers}
+use Rattle.tests_turns.specs.PassCallers.{KeepsCallers}
 use Rattle.tests_turns.proofs.walks.visit_each.Given as goal
 
 abbrev pub invariant-loop-caller : goal.invariant-loop-caller

@@ -1,5 +1,5 @@
 use Rattle.std.proofs.Common.{◌≡◌}
-use Rattle.section_table.specs.Views.{HasCaller}
+use Rattle.section_table.specs.PassViews.{HasCaller}
 use Rattle.tests_turns.proofs.walks.walk.Given as goal
 
 abbrev pub invariant-loop : goal.invariant-loop

@@ -1,6 +1,6 @@
 use Rattle.std.proofs.Common.{refl}
 use Rattle.text_lines.specs.Fields.{field_text}
-use Rattle.text_lines.proofs.Joined.{words_step}
+use Rattle.text_lines.proofs.JoinedFields.{words_step}
 use Rattle.text_lines.proofs.line.put_each.Goals as goal
 
 pub loop-word-preserved : goal.loop-word-preserved

@@ -1,6 +1,6 @@
 use Rattle.std.proofs.Common.{◌-◌}
 use Rattle.trace_maker.specs.Generated.{Making}
-use Rattle.trace_maker.specs.Written.{AreMade}
+use Rattle.trace_maker.specs.WrittenSections.{AreMade}
 use Rattle.trace_maker.proofs.Makings.{AreToMake}
 use Rattle.trace_maker.proofs.maker.add_lines.Given as goal
 

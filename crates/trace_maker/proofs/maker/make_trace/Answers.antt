@@ -1,5 +1,5 @@
 use Rattle.std.proofs.Common.{◌∙◌, ◌*◌, ◌++◌, ap, arith, replicate}
-use Rattle.trace_text.specs.Lines.{text_of}
+use Rattle.trace_text.specs.SpelledLines.{text_of}
 use Rattle.trace_maker.specs.Generated.{Making, generated, made, no_lines, header_lines, sections_from, order_lines, drawn_picks}
 use Rattle.trace_maker.proofs.Makings.{whole}
 use Rattle.trace_maker.proofs.maker.make_trace.Goals as goal

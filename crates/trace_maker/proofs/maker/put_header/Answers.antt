@@ -1,6 +1,6 @@
 use Rattle.std.proofs.Common.{◌≡◌, codes, refl, subst, OnOk, ◌++◌}
 use Rattle.std.specs.Fmt.{digits}
-use Rattle.trace_text.specs.Lines.{text_of}
+use Rattle.trace_text.specs.SpelledLines.{text_of}
 use Rattle.trace_maker.specs.Generated.{header_lines}
 use Rattle.trace_maker.proofs.maker.put_header.Goals as goal
 

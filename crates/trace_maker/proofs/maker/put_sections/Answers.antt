@@ -1,7 +1,7 @@
 use Rattle.std.proofs.Common.{arith, get_or, subst, sym}
 use Rattle.trace_maker.specs.declared.sections.SectionText.{SectionText}
 use Rattle.trace_maker.specs.Generated.{no_lines}
-use Rattle.trace_maker.specs.Written.{IsWritten}
+use Rattle.trace_maker.specs.WrittenSections.{IsWritten}
 use Rattle.trace_maker.proofs.Zips.{zip_at}
 use Rattle.trace_maker.proofs.Makings.{as_many, no_section_left, one_section}
 use Rattle.trace_maker.proofs.maker.put_sections.Goals as goal

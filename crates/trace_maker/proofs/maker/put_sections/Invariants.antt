@@ -1,7 +1,7 @@
 use Rattle.std.proofs.Common.{◌≡◌, ◌++◌, suc, ℕ, drop}
-use Rattle.trace_text.specs.Lines.{text_of}
+use Rattle.trace_text.specs.SpelledLines.{text_of}
 use Rattle.trace_maker.specs.Generated.{Making, sections_from}
-use Rattle.trace_maker.specs.Written.{AreMade}
+use Rattle.trace_maker.specs.WrittenSections.{AreMade}
 use Rattle.trace_maker.proofs.maker.put_sections.Given as goal
 
 abbrev pub invariant-loop-i : goal.invariant-loop-i

@@ -2,7 +2,7 @@ use Rattle.std.proofs.Common.{◌≡◌, ◌∙◌, ◌%◌, ℕ, refl, subst, s
 use Rattle.std.proofs.lemmas.Result.{on_ok_weaker}
 use Rattle.trace_maker.specs.declared.sections.SectionText.{SectionText}
 use Rattle.trace_maker.specs.Generated.{Section, Step, drawn, next, step_of}
-use Rattle.trace_maker.specs.Written.{IsStep}
+use Rattle.trace_maker.specs.WrittenSections.{IsStep}
 use Rattle.trace_maker.proofs.SectionLines.{drawn_kind, step_area, step_free_area, step_part, step_free_part, step_object, step_free_object, step_add, step_count}
 use Rattle.trace_maker.proofs.sections.add_line.Goals as goal
 

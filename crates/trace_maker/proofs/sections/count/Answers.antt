@@ -1,7 +1,7 @@
 use Rattle.std.proofs.Common.{◌∙◌, ◌++◌, ◌%◌, ap}
 use Rattle.std.specs.Prelude.{pos, ◌-ℤ◌}
 use Rattle.std.proofs.lemmas.Result.{on_ok_weaker}
-use Rattle.trace_text.specs.Lines.{Count}
+use Rattle.trace_text.specs.SpelledLines.{Count}
 use Rattle.trace_maker.specs.Generated.{drawn, next}
 use Rattle.trace_maker.proofs.SectionLines.{count_text, line_more}
 use Rattle.trace_maker.proofs.sections.count.Goals as goal

@@ -6,7 +6,7 @@ use Rattle.vm_model.specs.declared.tables.Tables.{Tables}
 use Rattle.unit_layout.specs.Config.{setup_of}
 use Rattle.vm_model.specs.History.{World, pick_all, finish, most_events}
 use Rattle.trace_text.specs.Reading.{Reading}
-use Rattle.trace_text.specs.Told.{Tells}
+use Rattle.trace_text.specs.ToldTraces.{Tells}
 use Rattle.kernel_steps.specs.Kernels.{IsStanding, start_of, opening_of, callers_of, tables_for}
 use Rattle.trace_rules.specs.RuledTraces.{IsRuledTrace}
 use Rattle.trace_replay.specs.Headline.{setup, history_of_trace}

@@ -1,5 +1,5 @@
 use Rattle.trace_replay.specs.Headline.{IsReport}
-use Rattle.trace_replay.proofs.Told.{room_for, commanded, faults_told, no_usage, not_silent}
+use Rattle.trace_replay.proofs.ToldToSink.{room_for, commanded, faults_told, no_usage, not_silent}
 use Rattle.trace_replay.proofs.commands.replay.Goals as goal
 
 pub tell-requires : goal.tell-requires

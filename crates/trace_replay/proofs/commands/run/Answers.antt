@@ -2,10 +2,10 @@ use Rattle.std.proofs.Common.{◌≡◌, ℕ, map, string_bytes, subst}
 use Rattle.trace_maker.specs.Generated.{generated}
 use Rattle.trace_replay.specs.declared.status.Status.TheVariants.{Done, Usage}
 use Rattle.trace_replay.specs.declared.words.Command.TheVariants as command
-use Rattle.trace_replay.specs.Words.{Name}
+use Rattle.trace_replay.specs.CommandWords.{Name}
 use Rattle.trace_replay.specs.Commands.{Sends}
 use Rattle.trace_replay.proofs.OneCommand.{at_numbers}
-use Rattle.trace_replay.proofs.Told.{faults_sent}
+use Rattle.trace_replay.proofs.ToldToSink.{faults_sent}
 use Rattle.trace_replay.proofs.commands.run.Goals as goal
 
 pub returns-in-Some-Make-clause-makes : goal.returns-in-Some-Make-clause-makes

@@ -6,9 +6,9 @@ use Rattle.vm_model.specs.declared.rows.CounterRow.{CounterRow}
 use Rattle.trace_rules.specs.RuledTraces.{IsCount}
 use Rattle.percpu_counters.specs.declared.table.Shape.{Shape}
 use Rattle.percpu_counters.specs.Passes.{adds_of, shape_of}
-use Rattle.percpu_counters.specs.Rows.{exact_rows}
+use Rattle.percpu_counters.specs.RowsFromWords.{exact_rows}
 use Rattle.report_text.specs.CounterTotals.{counter_rows}
-use Rattle.trace_replay.proofs.Counted.{rows-added, line_at, one_more, all_added, count_of-added}
+use Rattle.trace_replay.proofs.TraceCounters.{rows-added, line_at, one_more, all_added, count_of-added}
 use Rattle.trace_replay.proofs.counts.counter_rows.Goals as goal
 
 pub loop-line-init : goal.loop-line-init

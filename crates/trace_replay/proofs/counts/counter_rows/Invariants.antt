@@ -1,6 +1,6 @@
 use Rattle.std.proofs.Common.{◌≡◌, ◌+◌, true, map, take, length}
 use Rattle.percpu_counters.specs.Passes.{adds_of, spare_of, is_alone, IsPassOf}
-use Rattle.count_lines.specs.Lines.{added_by}
+use Rattle.count_lines.specs.LinesOfCaller.{added_by}
 use Rattle.trace_replay.proofs.counts.counter_rows.Given as goal
 
 -- the pass is alone, and has added the lines so far

@@ -3,9 +3,9 @@ use Rattle.std.proofs.lemmas.Result.{IfOk-weaker}
 use Rattle.vm_model.specs.declared.rows.CounterRow.{CounterRow}
 use Rattle.report_text.specs.CounterTotals.{counter_rows}
 use Rattle.trace_text.specs.Reading.{Reading, cpus_of}
-use Rattle.trace_text.specs.Told.{Tells}
+use Rattle.trace_text.specs.ToldTraces.{Tells}
 use Rattle.trace_rules.specs.RuledTraces.{IsRuledTrace}
-use Rattle.trace_replay.proofs.Counted.{units_told, lines_within, rows_told}
+use Rattle.trace_replay.proofs.TraceCounters.{units_told, lines_within, rows_told}
 use Rattle.trace_replay.proofs.counts.counters_of_trace.Goals as goal
 
 pub counter_rows-requires-clause-lines : goal.counter_rows-requires-clause-lines

@@ -1,5 +1,5 @@
 use Rattle.std.proofs.Common.{vec_len, ◌-◌}
-use Rattle.trace_replay.proofs.Gathered.{HasGathered}
+use Rattle.trace_replay.proofs.GivenAndTaken.{HasGathered}
 use Rattle.trace_replay.proofs.gather.gather_by.Given as goal
 
 abbrev pub invariant-loop-bytes : goal.invariant-loop-bytes

@@ -1,6 +1,6 @@
 use Rattle.std.proofs.lemmas.Result.{IfOk-weaker}
 use Rattle.trace_text.specs.Reading.{Reading}
-use Rattle.trace_text.specs.Told.{Tells}
+use Rattle.trace_text.specs.ToldTraces.{Tells}
 use Rattle.trace_replay.specs.declared.answer.Outcome.{Outcome}
 use Rattle.trace_rules.specs.RuledTraces.{IsRuledTrace}
 use Rattle.trace_rules.proofs.TracesRuled.{traces_keep_the_rules}

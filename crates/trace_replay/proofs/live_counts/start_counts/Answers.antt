@@ -2,9 +2,9 @@ use Rattle.std.proofs.Common.{◌≡◌, ◌+◌, ◌++◌, ℕ, List, length, m
 use Rattle.vm_model.specs.declared.calls.CountLine.{CountLine}
 use Rattle.percpu_counters.specs.declared.table.Shape.{Shape}
 use Rattle.percpu_counters.specs.Passes.{shape_of}
-use Rattle.count_lines.specs.Lines.{added_by, lines_by}
+use Rattle.count_lines.specs.LinesOfCaller.{added_by, lines_by}
 use Rattle.count_lines.specs.Shares.{AreSharesOf}
-use Rattle.trace_replay.proofs.Counted.{units_told}
+use Rattle.trace_replay.proofs.TraceCounters.{units_told}
 use Rattle.trace_replay.proofs.LiveCounted.{shape_told, lines_within}
 use Rattle.trace_replay.proofs.live_counts.start_counts.Goals as goal
 

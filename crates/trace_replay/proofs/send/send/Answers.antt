@@ -1,6 +1,6 @@
 use Rattle.std.proofs.Common.{sym, subst}
 use Rattle.trace_replay.specs.declared.source.Failed.{Failed}
-use Rattle.trace_replay.proofs.Gathered.{HasSent, prefix_sent, sends_more, on_err}
+use Rattle.trace_replay.proofs.GivenAndTaken.{HasSent, prefix_sent, sends_more, on_err}
 use Rattle.trace_replay.proofs.send.send.Goals as goal
 
 pub returns-in_err-count-clause-prefix : goal.returns-in_err-count-clause-prefix

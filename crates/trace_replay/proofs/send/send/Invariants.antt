@@ -1,5 +1,5 @@
 use Rattle.std.proofs.Common.{length}
-use Rattle.trace_replay.proofs.Gathered.{HasSent}
+use Rattle.trace_replay.proofs.GivenAndTaken.{HasSent}
 use Rattle.trace_replay.proofs.send.send.Given as goal
 
 abbrev pub invariant-loop-rest : goal.invariant-loop-rest

@@ -1,6 +1,6 @@
 use Rattle.std.proofs.Common.{◌≡◌, ◌∙◌, sym, ap, codes, [], ◌∷◌, map, string_bytes, subst, IfSome, IfNone}
 use Rattle.std.proofs.lemmas.Slice.Eq.{bytes_eq-Decides}
-use Rattle.trace_replay.specs.Words.{Name, NameNone}
+use Rattle.trace_replay.specs.CommandWords.{Name, NameNone}
 use Rattle.trace_replay.proofs.OneCommand.{three_words, of_three}
 use Rattle.trace_replay.proofs.words.find_command.Goals as goal
 

@@ -3,7 +3,7 @@ use Rattle.std.proofs.lemmas.Bool.{lt-ltb}
 use Rattle.vm_model.specs.declared.calls.Call.TheVariants as call
 use Rattle.trace_text.specs.Grammar.{is_cpu}
 use Rattle.trace_text.specs.Reading.{cpus_of}
-use Rattle.trace_text.specs.Lines.{MapRam}
+use Rattle.trace_text.specs.SpelledLines.{MapRam}
 use Rattle.trace_text.proofs.NamedLines.{map_ram_lines, no_cpu, is_named_text, no_named_text, named_refused, named_stands}
 use Rattle.trace_text.proofs.call_lines.read_map_ram.Goals as goal
 

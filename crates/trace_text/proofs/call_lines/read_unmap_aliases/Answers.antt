@@ -1,6 +1,6 @@
 use Rattle.std.proofs.Common.{sym, ◌∙◌, codes}
 use Rattle.vm_model.specs.declared.calls.Call.TheVariants as call
-use Rattle.trace_text.specs.Lines.{UnmapAliases}
+use Rattle.trace_text.specs.SpelledLines.{UnmapAliases}
 use Rattle.trace_text.proofs.BareLines.{unmap_aliases_line, bare_refused, bare_stands}
 use Rattle.trace_text.proofs.call_lines.read_unmap_aliases.Goals as goal
 

@@ -1,6 +1,6 @@
 use Rattle.std.proofs.Common.{◌≡◌, ◌∙◌, false, true, ap, sym, rules, slice_get}
 use Rattle.trace_text.specs.Names.{place_of}
-use Rattle.trace_text.specs.Held.{call_at, target_call}
+use Rattle.trace_text.specs.HeldLines.{call_at, target_call}
 use Rattle.trace_text.proofs.TargetCalls.{own_target, opening_target}
 use Rattle.trace_text.proofs.call_lines.target_call.Goals as goal
 

@@ -3,7 +3,7 @@ use Rattle.std.proofs.lemmas.Slice.Eq.{bytes_eq-Decides}
 use Rattle.trace_text.specs.LineWords.{one_of, words_of_header}
 use Rattle.trace_text.proofs.OtherLines.{no_header_line}
 use Rattle.trace_text.proofs.Pairs.{with_front}
-use Rattle.trace_text.proofs.Turns.{steps_in}
+use Rattle.trace_text.proofs.ReaderTurns.{steps_in}
 use Rattle.trace_text.proofs.header_lines.read_header_line.Goals as goal
 
 pub returns-in-Some : goal.returns-in-Some

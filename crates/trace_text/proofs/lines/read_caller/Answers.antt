@@ -1,6 +1,6 @@
 use Rattle.std.proofs.Common.{arith, refl, ap, ◌∙◌, replicate, ◌-◌, ◌∷◌, ◌++◌, []}
 use Rattle.trace_text.proofs.CallerLine.{caller_refused, caller_stands}
-use Rattle.trace_text.specs.Held.{header_of}
+use Rattle.trace_text.specs.HeldLines.{header_of}
 use Rattle.trace_text.specs.declared.progress.Progress.{Progress}
 use Rattle.trace_text.proofs.lines.read_caller.Goals as goal
 

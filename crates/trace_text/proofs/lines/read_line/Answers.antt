@@ -1,9 +1,9 @@
 use Rattle.std.proofs.Common.{◌≡◌, ◌++◌, codes, subst, sym, rules}
 use Rattle.std.proofs.lemmas.Slice.Eq.{bytes_eq-Decides}
-use Rattle.trace_text.specs.Held.{Steps}
+use Rattle.trace_text.specs.HeldLines.{Steps}
 use Rattle.trace_text.proofs.OtherLines.{steps_late_if_ok}
 use Rattle.trace_text.proofs.Pairs.{with_front}
-use Rattle.trace_text.proofs.Turns.{steps_if_ok}
+use Rattle.trace_text.proofs.ReaderTurns.{steps_if_ok}
 use Rattle.trace_text.proofs.lines.read_line.Goals as goal
 
 pub returns-in-Some : goal.returns-in-Some

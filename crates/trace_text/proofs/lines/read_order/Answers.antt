@@ -1,5 +1,5 @@
 use Rattle.std.proofs.Common.{arith, subst}
-use Rattle.trace_text.specs.Held.{AddsPicks}
+use Rattle.trace_text.specs.HeldLines.{AddsPicks}
 use Rattle.trace_text.proofs.OrderLine.{order_stands, order_stuck}
 use Rattle.trace_text.proofs.lines.read_order.Goals as goal
 use Rattle.trace_text.proofs.lines.read_order.Goals.{then-progress-lt-SPACE-via-then-progress-lt-SPACE, then-progress-lt-SPACE-via-else-progress-lt-SPACE+then-progress-gt-ORDER}

@@ -3,7 +3,7 @@ use Rattle.std.proofs.lemmas.Slice.Eq.{bytes_eq-Decides}
 use Rattle.trace_text.specs.LineWords.{is_percpu_or_header}
 use Rattle.trace_text.proofs.OtherLines.{steps_header}
 use Rattle.trace_text.proofs.Pairs.{with_front}
-use Rattle.trace_text.proofs.Turns.{steps_in_if_ok}
+use Rattle.trace_text.proofs.ReaderTurns.{steps_in_if_ok}
 use Rattle.trace_text.proofs.lines.read_percpu_line.Goals as goal
 
 pub returns-in-Some : goal.returns-in-Some

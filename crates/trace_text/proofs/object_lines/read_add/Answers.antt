@@ -2,7 +2,7 @@ use Rattle.std.proofs.Common.{◌≡◌, ◌≤◌, ◌<◌, sym, ◌∙◌, tru
 use Rattle.std.proofs.lemmas.Bool.{lt-ltb}
 use Rattle.std.proofs.lemmas.Int.{to_z-of_z}
 use Rattle.trace_text.specs.Grammar.{is_cpu}
-use Rattle.trace_text.specs.Held.{IsHeld}
+use Rattle.trace_text.specs.HeldLines.{IsHeld}
 use Rattle.trace_text.specs.Reading.{cpus_of, with_call}
 use Rattle.vm_model.specs.declared.calls.Call.TheVariants as call
 use Rattle.trace_text.proofs.NamedLines.{no_cpu}

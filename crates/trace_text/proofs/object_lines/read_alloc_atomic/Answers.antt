@@ -1,6 +1,6 @@
 use Rattle.std.proofs.Common.{sym, ◌∙◌, codes, refl, true}
 use Rattle.vm_model.specs.declared.calls.Call.TheVariants as call
-use Rattle.trace_text.specs.Lines.{AllocAtomic}
+use Rattle.trace_text.specs.SpelledLines.{AllocAtomic}
 use Rattle.trace_text.proofs.NamedLines.{alloc_atomic_lines, is_named_text, no_named_text, named_refused, named_stands}
 use Rattle.trace_text.proofs.object_lines.read_alloc_atomic.Goals as goal
 

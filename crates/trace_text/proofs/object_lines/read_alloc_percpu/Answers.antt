@@ -1,6 +1,6 @@
 use Rattle.std.proofs.Common.{sym, ◌∙◌, codes, refl, true}
 use Rattle.vm_model.specs.declared.calls.Call.TheVariants as call
-use Rattle.trace_text.specs.Lines.{AllocPercpu}
+use Rattle.trace_text.specs.SpelledLines.{AllocPercpu}
 use Rattle.trace_text.proofs.NamedLines.{alloc_percpu_lines, is_named_text, no_named_text, named_refused, named_stands}
 use Rattle.trace_text.proofs.object_lines.read_alloc_percpu.Goals as goal
 

@@ -1,6 +1,6 @@
 use Rattle.std.proofs.Common.{sym, ◌∙◌, codes}
 use Rattle.vm_model.specs.declared.calls.Call.TheVariants as call
-use Rattle.trace_text.specs.Lines.{Balance}
+use Rattle.trace_text.specs.SpelledLines.{Balance}
 use Rattle.trace_text.proofs.BareLines.{balance_line, bare_refused, bare_stands}
 use Rattle.trace_text.proofs.object_lines.read_balance.Goals as goal
 

@@ -1,5 +1,5 @@
 use Rattle.std.proofs.Common.{◌≡◌, sym, ◌∙◌, ap, refl, true, false, not}
-use Rattle.trace_text.specs.Lines.{TargetName}
+use Rattle.trace_text.specs.SpelledLines.{TargetName}
 use Rattle.trace_text.proofs.ObjectLines.{free_percpu_word, free_percpu_lines}
 use Rattle.trace_text.proofs.TargetLines.{same_target, target_alone, target_of_none, target_refused, target_ruled_out, target_stands, target_unplaced}
 use Rattle.trace_text.proofs.object_lines.read_free_percpu.Goals as goal

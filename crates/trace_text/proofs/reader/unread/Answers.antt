@@ -1,5 +1,5 @@
 use Rattle.std.proofs.Common.{refl}
-use Rattle.trace_text.proofs.Turns.{held_at_first}
+use Rattle.trace_text.proofs.ReaderTurns.{held_at_first}
 use Rattle.trace_text.proofs.reader.unread.Goals as goal
 
 pub returns : goal.returns

@@ -1,10 +1,10 @@
 use Rattle.std.proofs.Common.{◌≡◌, ◌≤◌, ◌∙◌, sym, ap, arith, suc}
-use Rattle.unit_layout.specs.Rule.{Numbers, layout_of}
+use Rattle.unit_layout.specs.LayoutRule.{Numbers, layout_of}
 use Rattle.unit_layout.specs.declared.config.Config.{Config}
 use Rattle.trace_text.specs.Reading.{Header}
-use Rattle.trace_text.specs.Told.{asked_layout, config_of}
-use Rattle.trace_text.specs.Held.{header_of, sections_below}
-use Rattle.trace_text.proofs.SectionProofs.{held_sections}
+use Rattle.trace_text.specs.ToldTraces.{asked_layout, config_of}
+use Rattle.trace_text.specs.HeldLines.{header_of, sections_below}
+use Rattle.trace_text.proofs.SectionCalls.{held_sections}
 use Rattle.trace_text.proofs.trace.trace_of.Goals as goal
 
 pub returns-clause-trace : goal.returns-clause-trace

@@ -1,5 +1,5 @@
 use Rattle.std.proofs.Common.{◌≡◌, ◌+◌, drop}
-use Rattle.unit_layout.specs.Rule as rule
+use Rattle.unit_layout.specs.LayoutRule as rule
 use Rattle.unit_layout.proofs.division.allocations.Given as goal
 
 -- what is counted and what is left

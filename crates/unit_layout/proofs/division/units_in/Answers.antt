@@ -1,7 +1,7 @@
 use Rattle.std.proofs.Common.{◌/◌, ◌≡◌, ◌<◌, ◌≤◌, ◌-◌, ◌+◌, refl, sym, ◌∙◌, ap, arith}
-use Rattle.unit_layout.specs.Rule as rule
+use Rattle.unit_layout.specs.LayoutRule as rule
 use Rattle.unit_layout.proofs.Ceilings.{few_units, allocations_one}
-use Rattle.unit_layout.proofs.Search.{kept_below, kept_here, undivided_here, passed_over_here, search_begins, search_ends, search_goes, little_here, much_here}
+use Rattle.unit_layout.proofs.UnitSearch.{kept_below, kept_here, undivided_here, passed_over_here, search_begins, search_ends, search_goes, little_here, much_here}
 use Rattle.unit_layout.proofs.division.units_in.Goals.{else-pages-units-eq0-via-then-pages-units-eq0+else-units-here, else-pages-units-eq0-via-else-pages-units-eq0}
 use Rattle.unit_layout.proofs.division.units_in.Goals as goal
 

@@ -1,7 +1,7 @@
 use Rattle.std.proofs.Common.{◌≡◌, ◌≤◌}
-use Rattle.unit_layout.specs.Rule as rule
-use Rattle.unit_layout.specs.Ranges.{IsCount}
-use Rattle.unit_layout.proofs.Search.{kept_below}
+use Rattle.unit_layout.specs.LayoutRule as rule
+use Rattle.unit_layout.specs.NumberRanges.{IsCount}
+use Rattle.unit_layout.proofs.UnitSearch.{kept_below}
 use Rattle.unit_layout.proofs.division.units_in.Given as goal
 
 -- what is left decides

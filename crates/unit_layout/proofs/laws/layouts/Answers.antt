@@ -1,4 +1,4 @@
-use Rattle.unit_layout.proofs.Standing.{layouts_stand}
+use Rattle.unit_layout.proofs.StandingLayouts.{layouts_stand}
 use Rattle.unit_layout.proofs.OwnGroups.{units_in_group}
 use Rattle.unit_layout.proofs.Overlaps.{overlaps_are_the_least}
 use Rattle.unit_layout.proofs.laws.layouts.Goals as goal

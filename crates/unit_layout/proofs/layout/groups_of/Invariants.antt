@@ -1,5 +1,5 @@
 use Rattle.std.proofs.Common.{◌≡◌, ◌++◌, drop, map}
-use Rattle.unit_layout.specs.Rule as rule
+use Rattle.unit_layout.specs.LayoutRule as rule
 use Rattle.unit_layout.proofs.layout.groups_of.Given as goal
 
 -- those that are laid, and those that are left

@@ -1,7 +1,7 @@
 use Rattle.std.proofs.Common.{ℕ, ◌+◌, ◌-◌, ◌*◌, ◌++◌, List, map, ap, ◌∙◌}
 use Rattle.vm_model.specs.Space.{count_from}
-use Rattle.unit_layout.specs.Rule as rule
-use Rattle.unit_layout.proofs.Places.{unit_pushed}
+use Rattle.unit_layout.specs.LayoutRule as rule
+use Rattle.unit_layout.proofs.GroupPlaces.{unit_pushed}
 use Rattle.unit_layout.proofs.layout.push_units.Goals as goal
 
 pub loop-index-preserved : goal.loop-index-preserved

@@ -1,6 +1,6 @@
 use Rattle.std.proofs.Common.{◌≡◌, ◌+◌, ◌-◌, ◌*◌, ◌++◌, map}
 use Rattle.vm_model.specs.Space.{count_from}
-use Rattle.unit_layout.specs.Rule as rule
+use Rattle.unit_layout.specs.LayoutRule as rule
 use Rattle.unit_layout.proofs.layout.push_units.Given as goal
 
 -- the units that are there, and those that are left

@@ -1,5 +1,5 @@
 use Rattle.std.proofs.Common.{arith}
-use Rattle.unit_layout.proofs.Places.{end_in_width}
+use Rattle.unit_layout.proofs.GroupPlaces.{end_in_width}
 use Rattle.unit_layout.proofs.layout.units_of.Goals as goal
 
 pub push_units-requires-clause-offset : goal.push_units-requires-clause-offset

@@ -1,6 +1,6 @@
 use Rattle.std.proofs.Common.{◌≡◌, ◌++◌, drop}
 use Rattle.std.specs.List.{flat_map}
-use Rattle.unit_layout.specs.Rule as rule
+use Rattle.unit_layout.specs.LayoutRule as rule
 use Rattle.unit_layout.proofs.layout.units_of.Given as goal
 
 -- the units that are there, and those that are left

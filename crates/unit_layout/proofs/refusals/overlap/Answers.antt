@@ -2,7 +2,7 @@ use Rattle.std.proofs.Common.{◌+◌, drop, sym, ◌∙◌, ap}
 use Rattle.std.specs.Option.{option_map}
 use Rattle.unit_layout.specs.declared.errors.LayoutError.TheVariants.{Overlap}
 use Rattle.unit_layout.specs.Refusals as rule
-use Rattle.unit_layout.proofs.Places.{overlap_at}
+use Rattle.unit_layout.proofs.GroupPlaces.{overlap_at}
 use Rattle.unit_layout.proofs.refusals.overlap.Goals as goal
 
 pub returns-in-Some : goal.returns-in-Some

@@ -1,5 +1,5 @@
 use Rattle.std.proofs.Common.{◌≡◌, drop}
-use Rattle.unit_layout.specs.Rule.{span_of}
+use Rattle.unit_layout.specs.LayoutRule.{span_of}
 use Rattle.unit_layout.specs.Refusals as rule
 use Rattle.unit_layout.proofs.refusals.overlapped.Given as goal
 

@@ -1,5 +1,5 @@
 use Rattle.std.proofs.Common.{arith, sym, ◌∙◌}
-use Rattle.unit_layout.proofs.Places.{groups_in_processors}
+use Rattle.unit_layout.proofs.GroupPlaces.{groups_in_processors}
 use Rattle.unit_layout.proofs.refusals.refusal.Goals as goal
 
 pub overflow_cast-result : goal.overflow_cast-result

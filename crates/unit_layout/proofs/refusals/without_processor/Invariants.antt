@@ -1,5 +1,5 @@
 use Rattle.std.proofs.Common.{◌≡◌, ◌≤◌, ◌+◌, drop}
-use Rattle.unit_layout.specs.Rule.{processors}
+use Rattle.unit_layout.specs.LayoutRule.{processors}
 use Rattle.unit_layout.specs.Refusals as rule
 use Rattle.unit_layout.proofs.refusals.without_processor.Given as goal
 

@@ -5,8 +5,8 @@ use Rattle.std.proofs.lemmas.Bool.Decides.{nat_tests}
 use Rattle.std.specs.Prelude.{count_ones}
 use Rattle.vm_model.proofs.Powers.{power_with}
 use Rattle.augmented_tree.proofs.Spread.{first_start-narrow}
-use Rattle.augmented_tree.proofs.Trees.{at_node}
-use Rattle.augmented_tree.proofs.Sides.{first_start-small}
+use Rattle.augmented_tree.proofs.NodeNumbers.{at_node}
+use Rattle.augmented_tree.proofs.SearchedSides.{first_start-small}
 use Rattle.augmented_tree.proofs.tree.Tree.may_fit.Goals as goal
 
 pub returns-then-node-pages : goal.returns-then-node-pages

@@ -1,6 +1,6 @@
 use Rattle.std.proofs.Common.{sym, ◌∙◌}
 use Rattle.std.specs.BTreeMap.{values}
-use Rattle.busy_areas.proofs.Looks.{told}
+use Rattle.busy_areas.proofs.PagesLookedUp.{told}
 use Rattle.busy_areas.proofs.Last.{last_up_to, none_holds, inside_is, outside_is}
 use Rattle.busy_areas.proofs.busy_side.BusySide.find.Goals as goal
 

@@ -1,7 +1,7 @@
 use Rattle.std.proofs.Common.{◌+◌, ◌^◌, ◌<◌, refl, sym, subst}
-use Rattle.busy_areas.specs.LiveRows.{LiveRows}
-use Rattle.busy_areas.specs.Kept.{IsUnused}
-use Rattle.busy_areas.proofs.Apart.{kept_with, rows_with}
+use Rattle.busy_areas.specs.LiveAreaRows.{LiveRows}
+use Rattle.busy_areas.specs.KeptAreas.{IsUnused}
+use Rattle.busy_areas.proofs.AreaInserted.{kept_with, rows_with}
 use Rattle.busy_areas.proofs.busy_side.BusySide.insert.Goals as goal
 
 pub invariant_of-self-2 : goal.invariant_of-self-2

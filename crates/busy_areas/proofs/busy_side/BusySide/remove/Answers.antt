@@ -1,8 +1,8 @@
 use Rattle.std.proofs.Common.{◌≡◌, false, ◌==◌, ap, sym, ◌∙◌, arith}
 use Rattle.std.proofs.lemmas.Bool.Decides.{nat_tests}
 use Rattle.std.specs.Map.{values_of}
-use Rattle.busy_areas.proofs.Apart.{rows}
-use Rattle.busy_areas.proofs.Named.{named_found, found_page, named_other, named_none, kept_without}
+use Rattle.busy_areas.proofs.AreaInserted.{rows}
+use Rattle.busy_areas.proofs.NamedAreas.{named_found, found_page, named_other, named_none, kept_without}
 use Rattle.busy_areas.proofs.busy_side.BusySide.remove.Goals as goal
 
 pub invariant_of-self : goal.invariant_of-self

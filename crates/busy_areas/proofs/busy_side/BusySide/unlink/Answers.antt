@@ -1,7 +1,7 @@
 use Rattle.std.proofs.Common.{get_or, ap, sym, ◌∙◌}
 use Rattle.std.specs.Map.{values_of}
-use Rattle.busy_areas.specs.LiveRows.{LiveRows}
-use Rattle.busy_areas.proofs.Named.{kept_without}
+use Rattle.busy_areas.specs.LiveAreaRows.{LiveRows}
+use Rattle.busy_areas.proofs.NamedAreas.{kept_without}
 use Rattle.busy_areas.proofs.Elsewhere.{behind_start, values_without, elsewhere_step, nowhere_else}
 use Rattle.busy_areas.proofs.busy_side.BusySide.unlink.Goals as goal
 

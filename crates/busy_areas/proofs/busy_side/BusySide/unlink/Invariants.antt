@@ -1,7 +1,7 @@
 use Rattle.std.proofs.Common.{◌≡◌, take}
 use Rattle.std.specs.BTreeMap.{values}
 use Rattle.vm_model.specs.Areas.{areas_elsewhere}
-use Rattle.busy_areas.specs.Kept.{AreKept}
+use Rattle.busy_areas.specs.KeptAreas.{AreKept}
 use Rattle.busy_areas.proofs.busy_side.BusySide.unlink.Given as goal
 
 -- the areas that start elsewhere than at the starts so far

@@ -1,7 +1,7 @@
 use Rattle.std.proofs.Common.{◌≡◌, ap, ◌∙◌, subst, arith}
 use Rattle.vm_model.specs.History.{Local}
 use Rattle.vm_model.specs.Parts.{Region}
-use Rattle.section_laws.specs.Turns.{reach}
+use Rattle.section_laws.specs.MovesInTurn.{reach}
 use Rattle.section_laws.proofs.KeptLawful.{reach_kept}
 use Rattle.section_core.specs.MadeSections.{Answers}
 use Rattle.caller_threads.proofs.parts.CorePartsParts.section.Goals as goal

@@ -1,6 +1,6 @@
 use Rattle.std.proofs.Common.{map, sym, ◌∙◌, ap, arith}
 use Rattle.vm_model.specs.History.{Local}
-use Rattle.history_book.specs.Entries.{note_of}
+use Rattle.history_book.specs.BookEntries.{note_of}
 use Rattle.callers.proofs.AnswersGiven.{noted_again}
 use Rattle.callers.proofs.local.Local.book.Goals as goal
 

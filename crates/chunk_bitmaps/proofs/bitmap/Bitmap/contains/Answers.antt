@@ -2,7 +2,7 @@ use Rattle.std.proofs.Common.{◌≡◌, ◌/◌, ◌%◌, ◌∙◌, ◌==◌, 
 use Rattle.std.proofs.lemmas.List.{get_or_read}
 use Rattle.std.proofs.lemmas.Nat.Bits.{shr_and_one}
 use Rattle.std.specs.Int.{bit_at}
-use Rattle.chunk_bitmaps.proofs.Words.{few_bits, value_at-bits_of}
+use Rattle.chunk_bitmaps.proofs.WordBits.{few_bits, value_at-bits_of}
 use Rattle.vm_model.specs.Bits.{value_at}
 use Rattle.chunk_bitmaps.proofs.bitmap.Bitmap.contains.Goals as goal
 

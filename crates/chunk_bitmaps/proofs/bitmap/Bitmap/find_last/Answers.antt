@@ -1,5 +1,5 @@
 use Rattle.std.proofs.Common.{arith}
-use Rattle.chunk_bitmaps.proofs.Words.{few_bits}
+use Rattle.chunk_bitmaps.proofs.WordBits.{few_bits}
 use Rattle.chunk_bitmaps.proofs.LastBits.{none_more_behind, last_found}
 use Rattle.chunk_bitmaps.proofs.bitmap.Bitmap.find_last.Goals as goal
 

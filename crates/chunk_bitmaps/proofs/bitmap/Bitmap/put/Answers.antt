@@ -2,7 +2,7 @@ use Rattle.std.proofs.Common.{◌≡◌, ◌<◌, ◌+◌, ◌-◌, ◌/◌, ◌
 use Rattle.std.proofs.lemmas.List.{get_or_read}
 use Rattle.std.specs.Int.{bit_at}
 use Rattle.vm_model.specs.Space.{span, holds, paint}
-use Rattle.chunk_bitmaps.proofs.Words.{few_bits}
+use Rattle.chunk_bitmaps.proofs.WordBits.{few_bits}
 use Rattle.chunk_bitmaps.proofs.Fills.{IsChanged, changed_more, changed_none, painted}
 use Rattle.chunk_bitmaps.proofs.bitmap.Bitmap.put.Goals as goal
 

@@ -2,7 +2,7 @@ use Rattle.std.proofs.Common.{◌≡◌, ◌+◌, ◌<◌, ◌^◌, ◌-◌, ◌
 use Rattle.std.proofs.lemmas.List.{get_or_read}
 use Rattle.std.specs.Int.{bit_at}
 use Rattle.vm_model.specs.Space.{one_if}
-use Rattle.chunk_bitmaps.proofs.Words.{in_words, bit_is, chosen_true, chosen_false, rest_set, rest_clear, rest_above}
+use Rattle.chunk_bitmaps.proofs.WordBits.{in_words, bit_is, chosen_true, chosen_false, rest_set, rest_clear, rest_above}
 use Rattle.chunk_bitmaps.proofs.bitmap.Bitmap.word_from.Goals as goal
 use Rattle.chunk_bitmaps.proofs.bitmap.Bitmap.word_from.Goals.{then-value, else-value}
 

@@ -3,7 +3,7 @@ use Rattle.std.proofs.lemmas.Bool.{eqb-true, eq-eqb}
 use Rattle.vm_model.specs.PageSets.{has_page}
 use Rattle.chunk_slots.specs.KeptChunks.{pages_as}
 use Rattle.chunk_slots.proofs.FreeBits.{left_is_free}
-use Rattle.chunk_slots.proofs.Checks.{never_both, not_true, page_below, page_of, page_within, not_populated, whole_page}
+use Rattle.chunk_slots.proofs.ObjectConditions.{never_both, not_true, page_below, page_of, page_within, not_populated, whole_page}
 use Rattle.chunk_slots.proofs.kept_chunk.KeptChunk.can_populate.Goals as goal
 use Rattle.chunk_slots.proofs.kept_chunk.KeptChunk.can_populate.Goals.{then-page-self, else-page-self}
 

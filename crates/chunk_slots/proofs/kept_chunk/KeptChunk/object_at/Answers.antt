@@ -2,7 +2,7 @@ use Rattle.std.proofs.Common.{◌≡◌, ◌*◌, ◌/◌, ◌%◌, option_map, 
 use Rattle.vm_model.specs.declared.areas.Span.{Span}
 use Rattle.chunk_bitmaps.specs.ChunkMap.{object_bits_at}
 use Rattle.chunk_slots.specs.KeptChunks.{bytes_at}
-use Rattle.chunk_slots.proofs.Views.{bytes_by_bits, no_odd_offset}
+use Rattle.chunk_slots.proofs.ChunkViews.{bytes_by_bits, no_odd_offset}
 use Rattle.chunk_slots.proofs.kept_chunk.KeptChunk.object_at.Goals as goal
 
 pub returns-then-off-ne0 : goal.returns-then-off-ne0

@@ -4,7 +4,7 @@ use Rattle.vm_model.specs.Frames.{pages_of_bytes}
 use Rattle.vm_model.specs.PageSets.{has_page}
 use Rattle.vm_model.proofs.Tabulated.{length-tabulated}
 use Rattle.chunk_slots.specs.KeptChunks.{KeptRow}
-use Rattle.chunk_slots.proofs.PageBits.{painted_alike}
+use Rattle.chunk_slots.proofs.PagesInRow.{painted_alike}
 use Rattle.chunk_slots.proofs.kept_chunk.KeptChunk.populate_object.Goals as goal
 
 pub returns : goal.returns

@@ -4,7 +4,7 @@ use Rattle.vm_model.specs.Space.{count_from}
 use Rattle.vm_model.specs.PageSets.{has_page}
 use Rattle.vm_model.proofs.Tabulated.{filter-same, length-tabulated}
 use Rattle.chunk_slots.specs.KeptChunks.{KeptRow, has_populated, populated_in}
-use Rattle.chunk_slots.proofs.PageBits.{not_missing, pages_not_missing}
+use Rattle.chunk_slots.proofs.PagesInRow.{not_missing, pages_not_missing}
 use Rattle.chunk_slots.proofs.FreeBits.{populated_by, row_with}
 use Rattle.chunk_slots.proofs.kept_chunk.KeptChunk.populated.Goals as goal
 

@@ -4,11 +4,11 @@ use Rattle.vm_model.specs.Space.{put_by}
 use Rattle.chunk_slots.specs.Rising.{index_by}
 use Rattle.chunk_slots.specs.KeptObjects.{holder_in, room_in}
 use Rattle.chunk_slots.specs.KeptChunks.{KeptRow, slot_in}
-use Rattle.chunk_slots.specs.KeptSides.{number_of, AreKept}
-use Rattle.chunk_slots.specs.Slots.{key_of_slot, slot_key, in_slot_of}
+use Rattle.chunk_slots.specs.KeptChunkSides.{number_of, AreKept}
+use Rattle.chunk_slots.specs.ChunksBySlot.{key_of_slot, slot_key, in_slot_of}
 use Rattle.chunk_slots.specs.ChunkRegion.{ChunkRegion}
 use Rattle.chunk_slots.proofs.SlotLists.{slot_unused}
-use Rattle.chunk_slots.proofs.Kept.{empty_of, lows_of, kept_added, fresh_empty, fresh_long}
+use Rattle.chunk_slots.proofs.SideStaysKept.{empty_of, lows_of, kept_added, fresh_empty, fresh_long}
 use Rattle.chunk_slots.proofs.pcpu_side.PcpuSide.add_chunk.Goals as goal
 
 pub put-requires-clause-new : goal.put-requires-clause-new

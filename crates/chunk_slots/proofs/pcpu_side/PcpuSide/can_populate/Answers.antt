@@ -1,10 +1,10 @@
 use Rattle.std.proofs.Common.{ℕ, length, ap, sym, subst, arith}
 use Rattle.chunk_slots.specs.KeptObjects.{holder_in}
 use Rattle.chunk_slots.specs.KeptChunks.{KeptRow}
-use Rattle.chunk_slots.specs.KeptSides.{IsKeptRow}
+use Rattle.chunk_slots.specs.KeptChunkSides.{IsKeptRow}
 use Rattle.chunk_slots.proofs.RowLists.{each_at}
-use Rattle.chunk_slots.proofs.Sides.{found_row, missing_row}
-use Rattle.chunk_slots.proofs.Checks.{IsUnusedPage, never_can, can_of, can_known}
+use Rattle.chunk_slots.proofs.SideCalls.{found_row, missing_row}
+use Rattle.chunk_slots.proofs.ObjectConditions.{IsUnusedPage, never_can, can_of, can_known}
 use Rattle.chunk_slots.proofs.pcpu_side.PcpuSide.can_populate.Goals as goal
 
 abbrev unused_by : ℕ → KeptRow → Type 0

@@ -4,10 +4,10 @@ use Rattle.vm_model.specs.declared.rows.ChunkRow.{ChunkRow}
 use Rattle.vm_model.specs.PlainMap.{Chunk}
 use Rattle.vm_model.specs.Tables.{chunk_row}
 use Rattle.chunk_slots.specs.KeptObjects.{holder_in}
-use Rattle.chunk_slots.specs.KeptSides.{chunk_in, chunks_in, IsKeptRow}
+use Rattle.chunk_slots.specs.KeptChunkSides.{chunk_in, chunks_in, IsKeptRow}
 use Rattle.chunk_slots.specs.ChunkRegion.{ChunkRegion, unit_of, chunk_table}
 use Rattle.chunk_slots.proofs.RowLists.{each_at, get_in_view, length_in_view}
-use Rattle.chunk_slots.proofs.Views.{row_in_view}
+use Rattle.chunk_slots.proofs.ChunkViews.{row_in_view}
 use Rattle.chunk_slots.proofs.pcpu_side.PcpuSide.chunk_at.Goals as goal
 
 get_mapped : (f : Chunk → ChunkRow) (i : ℕ) (cs : List Chunk) → slice_get (map f cs) i ≡ option_map f (slice_get cs i)

@@ -4,7 +4,7 @@ use Rattle.chunk_slots.specs.Rising.{IsRising}
 use Rattle.chunk_slots.specs.KeptObjects.{holder_in}
 use Rattle.chunk_slots.specs.ChunkRegion.{ChunkRegion}
 use Rattle.chunk_slots.proofs.RowLists.{rises_in_view, small_in_view}
-use Rattle.chunk_slots.proofs.Kept.{rows_few, are_low}
+use Rattle.chunk_slots.proofs.SideStaysKept.{rows_few, are_low}
 use Rattle.chunk_slots.proofs.pcpu_side.PcpuSide.chunks.Goals as goal
 
 pub overflow_cast-result : goal.overflow_cast-result

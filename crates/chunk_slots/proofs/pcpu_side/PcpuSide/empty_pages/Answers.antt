@@ -2,7 +2,7 @@ use Rattle.std.proofs.Common.{ap, ◌∙◌}
 use Rattle.vm_model.specs.Chunks.{empty_count}
 use Rattle.chunk_slots.specs.KeptObjects.{holder_in}
 use Rattle.chunk_slots.specs.ChunkRegion.{ChunkRegion, unit_of}
-use Rattle.chunk_slots.proofs.Views.{empty_total}
+use Rattle.chunk_slots.proofs.ChunkViews.{empty_total}
 use Rattle.chunk_slots.proofs.pcpu_side.PcpuSide.empty_pages.Goals as goal
 
 pub returns : goal.returns

@@ -4,8 +4,8 @@ use Rattle.chunk_slots.specs.Rising.{index_by, IsRising}
 use Rattle.chunk_slots.specs.KeptObjects.{holder_in}
 use Rattle.chunk_slots.specs.ChunkRegion.{ChunkRegion}
 use Rattle.chunk_slots.proofs.RowLists.{index_in_view, rises_in_view}
-use Rattle.chunk_slots.proofs.Kept.{rows_few}
-use Rattle.chunk_slots.proofs.Sides.{found_row, index_of_call}
+use Rattle.chunk_slots.proofs.SideStaysKept.{rows_few}
+use Rattle.chunk_slots.proofs.SideCalls.{found_row, index_of_call}
 use Rattle.chunk_slots.proofs.pcpu_side.PcpuSide.find.Goals as goal
 
 pub overflow_cast-result : goal.overflow_cast-result

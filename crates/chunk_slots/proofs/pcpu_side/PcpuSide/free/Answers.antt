@@ -4,10 +4,10 @@ use Rattle.vm_model.specs.PlainMap.{Object}
 use Rattle.vm_model.specs.Chunks.{find_object}
 use Rattle.chunk_slots.specs.KeptObjects.{object_key, object_by, holder_in}
 use Rattle.chunk_slots.specs.KeptChunks.{bytes_at}
-use Rattle.chunk_slots.specs.KeptSides.{chunks_in, IsKeptRow}
+use Rattle.chunk_slots.specs.KeptChunkSides.{chunks_in, IsKeptRow}
 use Rattle.chunk_slots.specs.ChunkRegion.{ChunkRegion, at_offset, live_bytes}
 use Rattle.chunk_slots.proofs.RowLists.{each_at}
-use Rattle.chunk_slots.proofs.Sides.{IsFoundObject, found_row, missing_row, object_in_chunk, object_in_row, mapped_none, held_never, starts_at, some_is}
+use Rattle.chunk_slots.proofs.SideCalls.{IsFoundObject, found_row, missing_row, object_in_chunk, object_in_row, mapped_none, held_never, starts_at, some_is}
 use Rattle.chunk_slots.proofs.Placing.{live_in_row, live_nowhere, find_living, find_no_living, find_absent, lives_by_serial, lives_by_no_serial}
 use Rattle.chunk_slots.proofs.pcpu_side.PcpuSide.free.Goals as goal
 use Rattle.chunk_slots.proofs.pcpu_side.PcpuSide.free.Goals.{then-serial-eq0-via-then-serial-eq0, then-serial-eq0-via-else-serial-eq0+then-holder-serial}

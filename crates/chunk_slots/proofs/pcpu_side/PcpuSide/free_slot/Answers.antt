@@ -2,7 +2,7 @@ use Rattle.std.proofs.Common.{◌≡◌, ◌+◌, ◌==◌, filter, length, ap, 
 use Rattle.vm_model.specs.PlainMap.{Chunk}
 use Rattle.vm_model.specs.Chunks.{slot}
 use Rattle.chunk_slots.specs.KeptObjects.{holder_in}
-use Rattle.chunk_slots.specs.KeptSides.{chunks_in}
+use Rattle.chunk_slots.specs.KeptChunkSides.{chunks_in}
 use Rattle.chunk_slots.specs.ChunkRegion.{ChunkRegion, unit_of, setup_of}
 use Rattle.chunk_slots.proofs.FreeSlots.{free_in_view}
 use Rattle.chunk_slots.proofs.pcpu_side.PcpuSide.free_slot.Goals as goal

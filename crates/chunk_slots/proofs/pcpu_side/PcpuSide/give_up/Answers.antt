@@ -5,12 +5,12 @@ use Rattle.vm_model.specs.PlainMap.{Chunk}
 use Rattle.vm_model.specs.Chunks.{ObjectAt, find_object, change_chunk, without_object}
 use Rattle.chunk_slots.specs.KeptObjects.{object_key, holder_in}
 use Rattle.chunk_slots.specs.KeptChunks.{KeptRow, slot_in, without_bits}
-use Rattle.chunk_slots.specs.KeptSides.{number_of, chunk_in, chunks_in, IsKeptRow}
+use Rattle.chunk_slots.specs.KeptChunkSides.{number_of, chunk_in, chunks_in, IsKeptRow}
 use Rattle.chunk_slots.specs.ChunkRegion.{ChunkRegion, at_offset, without_placed}
 use Rattle.chunk_slots.proofs.ObjectViews.{IsUpdate, length_filter}
 use Rattle.chunk_slots.proofs.RowLists.{chunks_changed}
-use Rattle.chunk_slots.proofs.Kept.{empty_of, are_low, empty_few, empty_within, kept_changed}
-use Rattle.chunk_slots.proofs.Sides.{found_row, missing_row, object_there, read_there, same_place, slot_there, slot_not_there, update_moved, moved_by, region_by, place_of, other_row, other_view, row_freed, view_freed}
+use Rattle.chunk_slots.proofs.SideStaysKept.{empty_of, are_low, empty_few, empty_within, kept_changed}
+use Rattle.chunk_slots.proofs.SideCalls.{found_row, missing_row, object_there, read_there, same_place, slot_there, slot_not_there, update_moved, moved_by, region_by, place_of, other_row, other_view, row_freed, view_freed}
 use Rattle.chunk_slots.proofs.pcpu_side.PcpuSide.give_up.Goals as goal
 
 abbrev object_at : ChunkRegion → ObjectAt → Type 0

@@ -8,14 +8,14 @@ use Rattle.chunk_slots.specs.declared.holders.Holder.{Holder}
 use Rattle.chunk_slots.specs.KeptObjects.{object_key, holder_in, room_in}
 use Rattle.chunk_slots.specs.KeptChunks.{KeptRow, slot_in, with_bits, has_populated}
 use Rattle.vm_model.specs.PageSets.{pages_in}
-use Rattle.chunk_slots.specs.KeptSides.{number_of, chunks_in, IsKeptRow, AreKept}
+use Rattle.chunk_slots.specs.KeptChunkSides.{number_of, chunks_in, IsKeptRow, AreKept}
 use Rattle.chunk_slots.specs.Choices.{IsTaken, chosen_row}
 use Rattle.chunk_slots.specs.ChunkRegion.{ChunkRegion, at_of, told_of, place_for, with_placed}
 use Rattle.chunk_slots.proofs.ObjectViews.{IsUpdate, start_of, length_put}
 use Rattle.chunk_slots.proofs.RowLists.{each_at, chunks_changed}
-use Rattle.chunk_slots.proofs.Kept.{empty_of, are_low, are_numbered, empty_few, empty_within, kept_changed}
+use Rattle.chunk_slots.proofs.SideStaysKept.{empty_of, are_low, are_numbered, empty_few, empty_within, kept_changed}
 use Rattle.chunk_slots.specs.SlotOrder.{AreNumbered}
-use Rattle.chunk_slots.proofs.Sides.{get_within, slot_there, slot_not_there, update_moved, moved_by, region_by, other_row, other_view, row_placed, view_placed, place_low}
+use Rattle.chunk_slots.proofs.SideCalls.{get_within, slot_there, slot_not_there, update_moved, moved_by, region_by, other_row, other_view, row_placed, view_placed, place_low}
 use Rattle.chunk_slots.proofs.Placing.{nowhere, somewhere, same_told, written_back, read_set}
 use Rattle.chunk_slots.proofs.pcpu_side.PcpuSide.hold.Goals as goal
 

@@ -3,7 +3,7 @@ use Rattle.chunk_slots.specs.declared.slots.InSlot.{InSlot}
 use Rattle.chunk_slots.specs.KeptObjects.{holder_in}
 use Rattle.chunk_slots.specs.ChunkRegion.{ChunkRegion, numbers_in_slot}
 use Rattle.chunk_slots.proofs.InSlots.{AreSmall, slots_small, numbers_in_view, of_one_slot}
-use Rattle.chunk_slots.proofs.Kept.{are_low}
+use Rattle.chunk_slots.proofs.SideStaysKept.{are_low}
 use Rattle.chunk_slots.proofs.pcpu_side.PcpuSide.in_slot.Goals as goal
 
 pub nth_in_slot-requires-clause-small : goal.nth_in_slot-requires-clause-small

@@ -2,11 +2,11 @@ use Rattle.std.proofs.Common.{length, ap, sym, ◌∙◌, arith}
 use Rattle.std.proofs.lemmas.Bool.{eqb-true, eq-eqb}
 use Rattle.chunk_slots.specs.KeptObjects.{holder_in}
 use Rattle.chunk_slots.specs.KeptChunks.{bytes_at}
-use Rattle.chunk_slots.specs.KeptSides.{IsKeptRow}
+use Rattle.chunk_slots.specs.KeptChunkSides.{IsKeptRow}
 use Rattle.chunk_slots.specs.ChunkRegion.{at_of}
 use Rattle.chunk_slots.proofs.RowLists.{each_at}
-use Rattle.chunk_slots.proofs.Sides.{found_row, missing_row, object_in_row, held_never}
-use Rattle.chunk_slots.proofs.Checks.{never_held, never_held_in, held_by, held_of, held_known}
+use Rattle.chunk_slots.proofs.SideCalls.{found_row, missing_row, object_in_row, held_never}
+use Rattle.chunk_slots.proofs.ObjectConditions.{never_held, never_held_in, held_by, held_of, held_known}
 use Rattle.chunk_slots.proofs.pcpu_side.PcpuSide.is_held.Goals as goal
 
 pub returns-in_default : goal.returns-in_default

@@ -1,6 +1,6 @@
 use Rattle.std.proofs.Common.{sym, ◌∙◌}
 use Rattle.chunk_slots.specs.ChunkRegion.{object_table}
-use Rattle.chunk_slots.proofs.LiveRows.{seek_get, seek_within}
+use Rattle.chunk_slots.proofs.LiveObjects.{seek_get, seek_within}
 use Rattle.chunk_slots.proofs.pcpu_side.PcpuSide.object_at.Goals as goal
 
 pub unreachable-requires : goal.unreachable-requires

@@ -1,7 +1,7 @@
 use Rattle.std.proofs.Common.{◌≡◌, ◌++◌, drop, flat_map}
 use Rattle.vm_model.specs.Tables.{object_rows}
 use Rattle.chunk_slots.specs.KeptObjects.{holder_in}
-use Rattle.chunk_slots.specs.KeptSides.{chunks_in}
+use Rattle.chunk_slots.specs.KeptChunkSides.{chunks_in}
 use Rattle.chunk_slots.proofs.pcpu_side.PcpuSide.object_rows.Given as goal
 
 abbrev pub invariant-loop-chunk : goal.invariant-loop-chunk

@@ -2,7 +2,7 @@ use Rattle.std.proofs.Common.{◌≡◌, ℕ, ◌-◌, length, ap, sym, ◌∙�
 use Rattle.chunk_slots.specs.declared.object_rows.Sought.TheVariants.{Found, Past}
 use Rattle.chunk_slots.specs.KeptObjects.{holder_in}
 use Rattle.chunk_slots.specs.ChunkRegion.{ChunkRegion, object_table}
-use Rattle.chunk_slots.proofs.LiveRows.{seek_past, table_few}
+use Rattle.chunk_slots.proofs.LiveObjects.{seek_past, table_few}
 use Rattle.chunk_slots.proofs.pcpu_side.PcpuSide.objects.Goals as goal
 
 past_same : (a b : ℕ) → Past a ≡ Past b → a ≡ b

@@ -5,10 +5,10 @@ use Rattle.vm_model.specs.PlainMap.{Chunk}
 use Rattle.vm_model.specs.PageSets.{pages_in, has_page}
 use Rattle.vm_model.specs.Chunks.{populated_pages, is_populated}
 use Rattle.chunk_slots.specs.KeptObjects.{holder_in}
-use Rattle.chunk_slots.specs.KeptSides.{chunk_in, IsKeptRow}
+use Rattle.chunk_slots.specs.KeptChunkSides.{chunk_in, IsKeptRow}
 use Rattle.chunk_slots.specs.ChunkRegion.{ChunkRegion, unit_of, setup_of}
 use Rattle.chunk_slots.proofs.RowLists.{each_at, get_in_view, length_in_view}
-use Rattle.chunk_slots.proofs.Views.{populated_in_view}
+use Rattle.chunk_slots.proofs.ChunkViews.{populated_in_view}
 use Rattle.chunk_slots.proofs.pcpu_side.PcpuSide.populated_at.Goals as goal
 
 pub returns-clause-pages : goal.returns-clause-pages

@@ -5,11 +5,11 @@ use Rattle.vm_model.specs.Chunks.{chunks_numbered}
 use Rattle.chunk_slots.specs.declared.slots.InSlot.{InSlot}
 use Rattle.chunk_slots.specs.KeptObjects.{holder_in, room_in}
 use Rattle.chunk_slots.specs.KeptChunks.{KeptRow, slot_in}
-use Rattle.chunk_slots.specs.KeptSides.{chunks_in, AreKept}
+use Rattle.chunk_slots.specs.KeptChunkSides.{chunks_in, AreKept}
 use Rattle.chunk_slots.specs.ChunkRegion.{ChunkRegion, without_chunk}
-use Rattle.chunk_slots.proofs.Kept.{empty_of, empty_within, kept_removed}
-use Rattle.chunk_slots.specs.Slots.{key_of_slot, slot_key}
-use Rattle.chunk_slots.proofs.Sides.{chunk_there, region_by, without_number}
+use Rattle.chunk_slots.proofs.SideStaysKept.{empty_of, empty_within, kept_removed}
+use Rattle.chunk_slots.specs.ChunksBySlot.{key_of_slot, slot_key}
+use Rattle.chunk_slots.proofs.SideCalls.{chunk_there, region_by, without_number}
 use Rattle.chunk_slots.proofs.pcpu_side.PcpuSide.remove_chunk.Goals as goal
 
 first_of : ℕ → ChunkRegion → Option Chunk

@@ -2,10 +2,10 @@ use Rattle.std.proofs.Common.{◌≡◌, ◌+◌, ◌<◌, List, length, flat_ma
 use Rattle.vm_model.specs.Tables.{object_rows}
 use Rattle.chunk_slots.specs.KeptObjects.{holder_in}
 use Rattle.chunk_slots.specs.KeptChunks.{KeptRow}
-use Rattle.chunk_slots.specs.KeptSides.{chunks_in}
+use Rattle.chunk_slots.specs.KeptChunkSides.{chunks_in}
 use Rattle.chunk_slots.specs.ChunkRegion.{ChunkRegion, object_table}
-use Rattle.chunk_slots.specs.LiveRows.{live_rows, seek}
-use Rattle.chunk_slots.proofs.LiveRows.{seek_found, seek_on, rest_of_rows}
+use Rattle.chunk_slots.specs.LiveObjectRows.{live_rows, seek}
+use Rattle.chunk_slots.proofs.LiveObjects.{seek_found, seek_on, rest_of_rows}
 use Rattle.chunk_slots.proofs.pcpu_side.PcpuSide.seek.Goals as goal
 
 pub returns-in-Found : goal.returns-in-Found

@@ -1,8 +1,8 @@
 use Rattle.std.proofs.Common.{◌≡◌, drop, flat_map}
 use Rattle.vm_model.specs.Tables.{object_rows}
 use Rattle.chunk_slots.specs.KeptObjects.{holder_in}
-use Rattle.chunk_slots.specs.KeptSides.{chunks_in}
-use Rattle.chunk_slots.specs.LiveRows.{seek}
+use Rattle.chunk_slots.specs.KeptChunkSides.{chunks_in}
+use Rattle.chunk_slots.specs.LiveObjectRows.{seek}
 use Rattle.chunk_slots.proofs.pcpu_side.PcpuSide.seek.Given as goal
 
 abbrev pub invariant-loop-chunk : goal.invariant-loop-chunk

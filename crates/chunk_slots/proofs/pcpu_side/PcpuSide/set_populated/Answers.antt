@@ -3,12 +3,12 @@ use Rattle.vm_model.specs.PlainMap.{Chunk}
 use Rattle.vm_model.specs.Chunks.{chunks_numbered, change_chunk, with_page}
 use Rattle.chunk_slots.specs.KeptObjects.{holder_in}
 use Rattle.chunk_slots.specs.KeptChunks.{KeptRow, slot_in, with_pages}
-use Rattle.chunk_slots.specs.KeptSides.{number_of, chunk_in, chunks_in, IsKeptRow}
+use Rattle.chunk_slots.specs.KeptChunkSides.{number_of, chunk_in, chunks_in, IsKeptRow}
 use Rattle.chunk_slots.specs.ChunkRegion.{ChunkRegion, with_populated}
 use Rattle.chunk_slots.proofs.RowLists.{chunks_changed}
-use Rattle.chunk_slots.proofs.Kept.{empty_of, are_low, empty_few, empty_within, kept_changed}
+use Rattle.chunk_slots.proofs.SideStaysKept.{empty_of, are_low, empty_few, empty_within, kept_changed}
 use Rattle.vm_model.specs.PageSets.{has_page}
-use Rattle.chunk_slots.proofs.Sides.{chunk_there, get_within, found_row, missing_row, same_place, slot_stays, region_by, row_populated, view_populated}
+use Rattle.chunk_slots.proofs.SideCalls.{chunk_there, get_within, found_row, missing_row, same_place, slot_stays, region_by, row_populated, view_populated}
 use Rattle.chunk_slots.proofs.pcpu_side.PcpuSide.set_populated.Goals as goal
 
 first_of : ℕ → ChunkRegion → Option Chunk

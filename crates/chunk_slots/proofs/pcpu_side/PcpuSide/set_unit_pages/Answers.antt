@@ -1,7 +1,7 @@
 use Rattle.std.proofs.Common.{sym, subst}
 use Rattle.chunk_slots.specs.KeptObjects.{holder_in}
 use Rattle.chunk_slots.specs.ChunkRegion.{ChunkRegion, AreOfUnits}
-use Rattle.chunk_slots.proofs.UnitPages.{kept_again}
+use Rattle.chunk_slots.proofs.ChunkPages.{kept_again}
 use Rattle.chunk_slots.proofs.pcpu_side.PcpuSide.set_unit_pages.Goals as goal
 
 pub invariant_of-self : goal.invariant_of-self

@@ -6,12 +6,12 @@ use Rattle.vm_model.specs.Chunks.{ObjectAt, change_chunk, with_live_object}
 use Rattle.chunk_slots.specs.declared.holders.Holder.{Holder}
 use Rattle.chunk_slots.specs.KeptObjects.{object_key, holder_in}
 use Rattle.chunk_slots.specs.KeptChunks.{KeptRow, slot_in, with_pages}
-use Rattle.chunk_slots.specs.KeptSides.{number_of, chunk_in, chunks_in, IsKeptRow}
+use Rattle.chunk_slots.specs.KeptChunkSides.{number_of, chunk_in, chunks_in, IsKeptRow}
 use Rattle.chunk_slots.specs.ChunkRegion.{ChunkRegion, at_of, with_settled, IsHeld}
 use Rattle.chunk_slots.proofs.ObjectViews.{IsUpdate}
 use Rattle.chunk_slots.proofs.RowLists.{chunks_changed}
-use Rattle.chunk_slots.proofs.Kept.{empty_of, are_low, empty_few, empty_within, kept_changed}
-use Rattle.chunk_slots.proofs.Sides.{IsThere, in_hand, some_is, found_row, missing_row, read_there, same_place, slot_stays, update_moved, region_by, other_row, other_view, row_settled, row_populated, view_settled}
+use Rattle.chunk_slots.proofs.SideStaysKept.{empty_of, are_low, empty_few, empty_within, kept_changed}
+use Rattle.chunk_slots.proofs.SideCalls.{IsThere, in_hand, some_is, found_row, missing_row, read_there, same_place, slot_stays, update_moved, region_by, other_row, other_view, row_settled, row_populated, view_settled}
 use Rattle.chunk_slots.proofs.pcpu_side.PcpuSide.settle.Goals as goal
 
 abbrev held_in : ChunkRegion → ObjectAt → Type 0

@@ -3,11 +3,11 @@ use Rattle.vm_model.specs.PlainMap.{Chunk}
 use Rattle.vm_model.specs.Chunks.{chunks_numbered, slot}
 use Rattle.chunk_slots.specs.KeptObjects.{holder_in}
 use Rattle.chunk_slots.specs.KeptChunks.{slot_in}
-use Rattle.chunk_slots.specs.KeptSides.{IsKeptRow}
+use Rattle.chunk_slots.specs.KeptChunkSides.{IsKeptRow}
 use Rattle.chunk_slots.specs.ChunkRegion.{ChunkRegion, unit_of}
-use Rattle.chunk_slots.proofs.Views.{slot_in_view}
+use Rattle.chunk_slots.proofs.ChunkViews.{slot_in_view}
 use Rattle.chunk_slots.proofs.RowLists.{each_at, numbered_none}
-use Rattle.chunk_slots.proofs.Sides.{found_row, missing_row, numbered_row}
+use Rattle.chunk_slots.proofs.SideCalls.{found_row, missing_row, numbered_row}
 use Rattle.chunk_slots.proofs.pcpu_side.PcpuSide.slot_of.Goals as goal
 
 first_slot : ℕ → List Chunk → Option ℕ

@@ -1,7 +1,7 @@
 use Rattle.std.proofs.Common.{subst}
 use Rattle.chunk_slots.specs.KeptObjects.{holder_in}
 use Rattle.chunk_slots.specs.ChunkRegion.{ChunkRegion, AreOfUnits}
-use Rattle.chunk_slots.proofs.UnitPages.{units_kept}
+use Rattle.chunk_slots.proofs.ChunkPages.{units_kept}
 use Rattle.chunk_slots.proofs.pcpu_side.PcpuSide.unit_pages.Goals as goal
 
 pub returns-clause-chunks : goal.returns-clause-chunks

@@ -8,7 +8,7 @@ use Rattle.vm_model.specs.History.{Local, started, opening_world}
 use Rattle.callers.specs.declared.answers.Answered.{Answered as Code}
 use Rattle.callers.specs.CallerParts.{answer_of, OpeningTellsFreed}
 use Rattle.callers.proofs.SoundCalls.{ruled_sound}
-use Rattle.kernel_steps.proofs.Starts.{stands_before}
+use Rattle.kernel_steps.proofs.KernelStarts.{stands_before}
 use Rattle.kernel_steps.proofs.kernel.Kernel.before.Goals as goal
 
 pub start-requires-clause-sound : goal.start-requires-clause-sound

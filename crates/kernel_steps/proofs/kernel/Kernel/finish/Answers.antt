@@ -2,8 +2,8 @@ use Rattle.std.proofs.Common.{IfSome, ◌≡◌, ◌<◌, ◌-◌, ◌+◌, suc,
 use Rattle.vm_model.specs.History.{step, finish, first_mover, most_events}
 use Rattle.kernel_steps.specs.Kernels.{IsStanding}
 use Rattle.map_laws.proofs.EndProofs.{finish_zero, finish_some, finish_stays}
-use Rattle.kernel_steps.proofs.Callers.{over_there}
-use Rattle.kernel_steps.proofs.Picks.{finish_next}
+use Rattle.kernel_steps.proofs.WorldCallers.{over_there}
+use Rattle.kernel_steps.proofs.PickSteps.{finish_next}
 use Rattle.kernel_steps.proofs.kernel.Kernel.finish.Goals as goal
 
 pub step-requires : goal.step-requires

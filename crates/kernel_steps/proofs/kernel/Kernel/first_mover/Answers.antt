@@ -1,6 +1,6 @@
 use Rattle.std.proofs.Common.{add-one, ◌≡◌, length, sym, ◌∙◌, ap, arith}
 use Rattle.kernel_steps.specs.Kernels.{KernelState}
-use Rattle.kernel_steps.proofs.Callers.{few_callers, mover_from, mover_here, mover_later, mover_none}
+use Rattle.kernel_steps.proofs.WorldCallers.{few_callers, mover_from, mover_here, mover_later, mover_none}
 use Rattle.kernel_steps.proofs.kernel.Kernel.first_mover.Goals as goal
 
 pub overflow_cast-caller-end : goal.overflow_cast-caller-end

@@ -3,7 +3,7 @@ use Rattle.vm_model.specs.declared.calls.Call.{Call}
 use Rattle.vm_model.specs.Setup.{Setup}
 use Rattle.vm_model.specs.History.{World, first_mover}
 use Rattle.kernel_steps.specs.Kernels.{IsStanding}
-use Rattle.kernel_steps.proofs.Callers.{mover_from}
+use Rattle.kernel_steps.proofs.WorldCallers.{mover_from}
 use Rattle.kernel_steps.proofs.kernel.Kernel.first_mover.Given as goal
 
 abbrev pub invariant-loop-caller : goal.invariant-loop-caller

@@ -1,6 +1,6 @@
 use Rattle.std.proofs.Common.{◌++◌, ◌∙◌, ap}
 use Rattle.kernel_steps.specs.Kernels.{KernelState, start_of, opening_of, callers_of}
-use Rattle.kernel_steps.proofs.Starts.{stands_joined}
+use Rattle.kernel_steps.proofs.KernelStarts.{stands_joined}
 use Rattle.kernel_steps.proofs.kernel.Kernel.join.Goals as goal
 
 pub invariant_of-self-2 : goal.invariant_of-self-2

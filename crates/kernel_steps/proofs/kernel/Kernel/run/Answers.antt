@@ -2,7 +2,7 @@ use Rattle.std.proofs.Common.{take, ◌∙◌, subst}
 use Rattle.std.proofs.lemmas.List.{take_all}
 use Rattle.vm_model.specs.History.{pick_all}
 use Rattle.kernel_steps.specs.Kernels.{IsStanding}
-use Rattle.kernel_steps.proofs.Picks.{pick_all-next}
+use Rattle.kernel_steps.proofs.PickSteps.{pick_all-next}
 use Rattle.kernel_steps.proofs.kernel.Kernel.run.Goals as goal
 
 pub loop-pick-preserved : goal.loop-pick-preserved

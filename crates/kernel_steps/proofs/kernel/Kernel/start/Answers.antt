@@ -8,7 +8,7 @@ use Rattle.callers.specs.CallerParts.{answer_of, OpeningTellsFreed}
 use Rattle.callers.proofs.SoundCalls.{ruled_sound}
 use Rattle.kernel_steps.specs.Kernels.{KernelState, IsStanding, CanStart, IsBefore, start_of, opening_of, callers_of}
 use Rattle.callers.proofs.CallersStarted.{removed_first}
-use Rattle.kernel_steps.proofs.Starts.{section_short, few_together, can_join}
+use Rattle.kernel_steps.proofs.KernelStarts.{section_short, few_together, can_join}
 use Rattle.std.proofs.Common.{remove}
 use Rattle.std.proofs.lemmas.Option.{slice_get_read}
 use Rattle.kernel_steps.proofs.kernel.Kernel.start.Goals as goal

@@ -3,11 +3,11 @@ use Rattle.vm_model.specs.declared.areas.Span.{Span}
 use Rattle.vm_model.specs.Space.{longest_of, sort_by}
 use Rattle.vm_model.specs.Setup.{Setup}
 use Rattle.unit_layout.specs.Config.{setup_of}
-use Rattle.page_pool.specs.Pages as pool
+use Rattle.page_pool.specs.PageMap as pool
 use Rattle.vm_model.specs.Parts.{Region, regions_of}
 use Rattle.vm_model.specs.Tables.{chunk_row, object_rows, chunk_audit, hint_rows}
 use Rattle.chunk_slots.specs.ChunkRegion.{AreOfUnits}
-use Rattle.chunk_slots.proofs.UnitPages.{rows_of_machine, audits_of_machine, hints_of_machine}
+use Rattle.chunk_slots.proofs.ChunkPages.{rows_of_machine, audits_of_machine, hints_of_machine}
 use Rattle.kernel_steps.specs.Kernels.{KernelState, tables_for}
 use Rattle.kernel_steps.proofs.TablesTold.{same_tables, chunks_are, world_units, region_at, all_regions, free_is, pages_are, areas_are, waiting_is, free_count, length-movers, behind, blocks_behind}
 use Rattle.kernel_steps.proofs.kernel.Kernel.tables.Goals as goal

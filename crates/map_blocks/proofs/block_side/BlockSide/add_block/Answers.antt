@@ -2,7 +2,7 @@ use Rattle.std.proofs.Common.{◌≤◌, ◌<◌, ◌++◌, ◌∷◌, [], sym, 
 use Rattle.std.specs.Map.{values_of}
 use Rattle.map_blocks.specs.BlockRows.{BlockRows, IsUnused}
 use Rattle.vm_model.specs.Space.{span}
-use Rattle.map_blocks.specs.KeptSides.{blocks_in}
+use Rattle.map_blocks.specs.KeptBlockSides.{blocks_in}
 use Rattle.vm_model.specs.Blocks.{with_part}
 use Rattle.map_blocks.proofs.Added.{bare_room, added_blocks, added_queued, added_full, bare_offset}
 use Rattle.map_blocks.proofs.block_side.BlockSide.add_block.Goals as goal

@@ -6,10 +6,10 @@ use Rattle.vm_model.specs.Blocks as model
 use Rattle.vm_model.specs.Blocks.{PartAt, named_in, dirty_of, is_spent}
 use Rattle.map_blocks.specs.BlockRows.{sized}
 use Rattle.map_blocks.specs.KeptBlocks.{KeptRow, with_life_at}
-use Rattle.map_blocks.specs.KeptSides.{AreKept, blocks_in}
-use Rattle.map_blocks.proofs.Entries.{at_key, found}
-use Rattle.map_blocks.proofs.Written.{life_kept, written_blocks}
-use Rattle.map_blocks.proofs.Named.{last_up_to, nothing_named, block_named, named_at}
+use Rattle.map_blocks.specs.KeptBlockSides.{AreKept, blocks_in}
+use Rattle.map_blocks.proofs.BlocksByStart.{at_key, found}
+use Rattle.map_blocks.proofs.WrittenBlocks.{life_kept, written_blocks}
+use Rattle.map_blocks.proofs.NamedParts.{last_up_to, nothing_named, block_named, named_at}
 use Rattle.map_blocks.proofs.block_side.BlockSide.begin_unmap.Goals as goal
 
 pub returns-in_err-block-clause-none : goal.returns-in_err-block-clause-none

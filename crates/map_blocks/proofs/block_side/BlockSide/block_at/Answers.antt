@@ -1,5 +1,5 @@
 use Rattle.std.proofs.Common.{length, map, slice_get, refl, sym, ap, ◌∙◌, arith}
-use Rattle.map_blocks.proofs.Lists.{own_row, same_rows, row_here, row_later, row_none}
+use Rattle.map_blocks.proofs.RowsByBlock.{own_row, same_rows, row_here, row_later, row_none}
 use Rattle.map_blocks.proofs.TableRows.{block_table_is}
 use Rattle.map_blocks.proofs.block_side.BlockSide.block_at.Goals as goal
 

@@ -1,6 +1,6 @@
 use Rattle.std.proofs.Common.{◌++◌, ◌∷◌, [], map, sym, ap, ◌∙◌, arith}
 use Rattle.std.proofs.lemmas.List.{append-nil}
-use Rattle.map_blocks.proofs.Lists.{own_row, same_rows, rows_more}
+use Rattle.map_blocks.proofs.RowsByBlock.{own_row, same_rows, rows_more}
 use Rattle.map_blocks.proofs.TableRows.{block_table_is}
 use Rattle.map_blocks.proofs.block_side.BlockSide.block_rows.Goals as goal
 

@@ -3,7 +3,7 @@ use Rattle.std.proofs.lemmas.List.Sums.{length-filter}
 use Rattle.std.specs.Map.{values_of}
 use Rattle.vm_model.specs.Blocks.{fragmented}
 use Rattle.map_blocks.specs.BlockRows.{sized}
-use Rattle.map_blocks.specs.KeptSides.{is_broken, blocks_in}
+use Rattle.map_blocks.specs.KeptBlockSides.{is_broken, blocks_in}
 use Rattle.map_blocks.proofs.Fragments.{gone_model}
 use Rattle.map_blocks.proofs.block_side.BlockSide.fragmented.Goals as goal
 

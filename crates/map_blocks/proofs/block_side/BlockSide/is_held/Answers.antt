@@ -1,5 +1,5 @@
 use Rattle.std.proofs.Common.{sym, arith}
-use Rattle.map_blocks.proofs.Checks.{held_of, held_known, never_held}
+use Rattle.map_blocks.proofs.BlockConditions.{held_of, held_known, never_held}
 use Rattle.map_blocks.proofs.block_side.BlockSide.is_held.Goals as goal
 
 pub returns-in-Some : goal.returns-in-Some

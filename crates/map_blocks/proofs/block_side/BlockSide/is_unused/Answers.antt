@@ -2,8 +2,8 @@ use Rattle.std.proofs.Common.{◌≡◌, ℕ, List, ap, sym, subst, ◌∙◌, a
 use Rattle.std.specs.Map.{values_of}
 use Rattle.map_blocks.specs.BlockRows.{BlockRows}
 use Rattle.map_blocks.specs.KeptBlocks.{KeptRow}
-use Rattle.map_blocks.proofs.Sorted.{Holds}
-use Rattle.map_blocks.proofs.Checks.{IsApart, IsClear, unused_of, clear_of, clear_apart}
+use Rattle.map_blocks.proofs.SortedByNumber.{Holds}
+use Rattle.map_blocks.proofs.BlockConditions.{IsApart, IsClear, unused_of, clear_of, clear_apart}
 use Rattle.map_blocks.proofs.block_side.BlockSide.is_unused.Goals as goal
 
 pub loop-block-init : goal.loop-block-init

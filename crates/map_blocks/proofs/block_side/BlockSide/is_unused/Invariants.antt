@@ -1,5 +1,5 @@
-use Rattle.map_blocks.proofs.Sorted.{Holds}
-use Rattle.map_blocks.proofs.Checks.{IsApart, IsClear}
+use Rattle.map_blocks.proofs.SortedByNumber.{Holds}
+use Rattle.map_blocks.proofs.BlockConditions.{IsApart, IsClear}
 use Rattle.map_blocks.proofs.block_side.BlockSide.is_unused.Given as goal
 
 abbrev pub invariant-loop-block : goal.invariant-loop-block

@@ -1,5 +1,5 @@
 use Rattle.std.proofs.Common.{length, flat_map, slice_get, refl, sym, ap, ◌∙◌, arith}
-use Rattle.map_blocks.proofs.Lists.{own_parts, part_here, part_later, part_none}
+use Rattle.map_blocks.proofs.RowsByBlock.{own_parts, part_here, part_later, part_none}
 use Rattle.map_blocks.proofs.TableRows.{part_table_is}
 use Rattle.map_blocks.proofs.block_side.BlockSide.part_at.Goals as goal
 

@@ -1,5 +1,5 @@
 use Rattle.std.proofs.Common.{flat_map}
-use Rattle.map_blocks.proofs.Lists.{own_parts, IsLeftIn}
+use Rattle.map_blocks.proofs.RowsByBlock.{own_parts, IsLeftIn}
 use Rattle.map_blocks.proofs.block_side.BlockSide.part_at.Given as goal
 
 abbrev pub invariant-loop-block : goal.invariant-loop-block

@@ -1,6 +1,6 @@
 use Rattle.std.proofs.Common.{◌++◌, flat_map, sym, ap, ◌∙◌}
 use Rattle.std.proofs.lemmas.List.{append-nil}
-use Rattle.map_blocks.proofs.Lists.{own_parts, parts_more}
+use Rattle.map_blocks.proofs.RowsByBlock.{own_parts, parts_more}
 use Rattle.map_blocks.proofs.TableRows.{part_table_is}
 use Rattle.map_blocks.proofs.block_side.BlockSide.part_rows.Goals as goal
 

@@ -1,5 +1,5 @@
 use Rattle.std.proofs.Common.{◌≡◌, ◌+◌, length, flat_map, sym, ap, ◌∙◌, arith}
-use Rattle.map_blocks.proofs.Lists.{own_parts, few_rows, count_more}
+use Rattle.map_blocks.proofs.RowsByBlock.{own_parts, few_rows, count_more}
 use Rattle.map_blocks.proofs.TableRows.{part_table_is}
 use Rattle.map_blocks.proofs.block_side.BlockSide.parts.Goals as goal
 

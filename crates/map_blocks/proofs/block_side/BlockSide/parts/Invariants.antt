@@ -1,5 +1,5 @@
 use Rattle.std.proofs.Common.{◌≡◌, ◌+◌, length, flat_map}
-use Rattle.map_blocks.proofs.Lists.{own_parts}
+use Rattle.map_blocks.proofs.RowsByBlock.{own_parts}
 use Rattle.map_blocks.proofs.block_side.BlockSide.parts.Given as goal
 
 abbrev pub invariant-loop-block : goal.invariant-loop-block

@@ -5,11 +5,11 @@ use Rattle.vm_model.specs.Blocks as model
 use Rattle.vm_model.specs.Blocks.{parts_size, is_spent}
 use Rattle.map_blocks.specs.BlockRows.{sized, at_of}
 use Rattle.map_blocks.specs.KeptBlocks.{KeptRow, IsInHand, with_life_at}
-use Rattle.map_blocks.specs.KeptSides.{AreKept, blocks_in}
-use Rattle.map_blocks.proofs.Rows.{same_bits}
-use Rattle.map_blocks.proofs.Entries.{at_key, found}
-use Rattle.map_blocks.proofs.Chosen.{hand_in}
-use Rattle.map_blocks.proofs.Written.{life_kept, written_blocks}
+use Rattle.map_blocks.specs.KeptBlockSides.{AreKept, blocks_in}
+use Rattle.map_blocks.proofs.LivePartRows.{same_bits}
+use Rattle.map_blocks.proofs.BlocksByStart.{at_key, found}
+use Rattle.map_blocks.proofs.BlocksInOrder.{hand_in}
+use Rattle.map_blocks.proofs.WrittenBlocks.{life_kept, written_blocks}
 use Rattle.map_blocks.proofs.Retired.{passes_changed, remove_set, removed_kept, without_one, without_none, spent_full}
 use Rattle.map_blocks.proofs.block_side.BlockSide.retire.Goals as goal
 

@@ -4,9 +4,9 @@ use Rattle.vm_model.specs.Blocks as model
 use Rattle.vm_model.specs.Blocks.{parts_size, is_spent}
 use Rattle.map_blocks.specs.BlockRows.{sized, at_of}
 use Rattle.map_blocks.specs.KeptBlocks.{KeptRow, IsInHand, with_life_at}
-use Rattle.map_blocks.proofs.Entries.{found}
-use Rattle.map_blocks.proofs.Chosen.{hand_in}
-use Rattle.map_blocks.proofs.Written.{open_of, lived_dirty, life_kept, written_blocks}
+use Rattle.map_blocks.proofs.BlocksByStart.{found}
+use Rattle.map_blocks.proofs.BlocksInOrder.{hand_in}
+use Rattle.map_blocks.proofs.WrittenBlocks.{open_of, lived_dirty, life_kept, written_blocks}
 use Rattle.map_blocks.proofs.block_side.BlockSide.settle.Goals as goal
 
 pub unreachable-requires : goal.unreachable-requires

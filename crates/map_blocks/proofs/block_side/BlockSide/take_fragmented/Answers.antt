@@ -4,7 +4,7 @@ use Rattle.vm_model.specs.Space.{is_among}
 use Rattle.vm_model.specs.PlainMap.{Block}
 use Rattle.vm_model.specs.Blocks.{fragmented}
 use Rattle.map_blocks.specs.BlockRows.{sized}
-use Rattle.map_blocks.specs.KeptSides.{is_broken, without_all, blocks_in}
+use Rattle.map_blocks.specs.KeptBlockSides.{is_broken, without_all, blocks_in}
 use Rattle.map_blocks.proofs.Fragments.{gone_model, gone_blocks, gone_kept, on_err, err_says}
 use Rattle.map_blocks.proofs.block_side.BlockSide.take_fragmented.Goals as goal
 

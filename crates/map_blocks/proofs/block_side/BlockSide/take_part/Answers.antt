@@ -4,8 +4,8 @@ use Rattle.vm_model.specs.Blocks as model
 use Rattle.vm_model.specs.Blocks.{rounded, free_of, cut_from, with_part}
 use Rattle.map_blocks.specs.BlockRows.{sized}
 use Rattle.map_blocks.specs.KeptBlocks.{KeptRow}
-use Rattle.map_blocks.specs.KeptSides.{AreKnown, blocks_in}
-use Rattle.map_blocks.proofs.Written.{written_blocks}
+use Rattle.map_blocks.specs.KeptBlockSides.{AreKnown, blocks_in}
+use Rattle.map_blocks.proofs.WrittenBlocks.{written_blocks}
 use Rattle.map_blocks.proofs.Taken.{known, first_is, first_none, cut_stays, cut_falls, found_in, cut_is, cut_free}
 use Rattle.map_blocks.proofs.block_side.BlockSide.take_part.Goals as goal
 

@@ -1,6 +1,6 @@
 use Rattle.std.proofs.Common.{◌≤◌, ◌<◌, ◌++◌, ◌∷◌, [], length, vec_capacity, rules, ap, ◌∙◌, arith}
 use Rattle.vm_model.specs.Blocks.{rounded}
-use Rattle.map_blocks.proofs.Cuts.{room_more, few_pages, cut_kept}
+use Rattle.map_blocks.proofs.OneMorePart.{room_more, few_pages, cut_kept}
 use Rattle.map_blocks.proofs.kept_block.KeptBlock.cut.Goals as goal
 
 pub push_reserved-requires : goal.push_reserved-requires

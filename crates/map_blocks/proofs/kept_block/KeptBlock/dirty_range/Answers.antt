@@ -1,5 +1,5 @@
 use Rattle.std.proofs.Common.{arith}
-use Rattle.map_blocks.proofs.Ranges.{range_before}
+use Rattle.map_blocks.proofs.EndedHull.{range_before}
 use Rattle.map_blocks.proofs.kept_block.KeptBlock.dirty_range.Goals as goal
 
 pub overflow_add-result : goal.overflow_add-result

@@ -2,7 +2,7 @@ use Rattle.std.proofs.Common.{◌≡◌, ap, ◌∙◌, arith}
 use Rattle.vm_model.specs.PlainMap.{Ended}
 use Rattle.vm_model.specs.Blocks.{size_of}
 use Rattle.map_blocks.proofs.Between.{same_read}
-use Rattle.map_blocks.proofs.Ranges.{range_before}
+use Rattle.map_blocks.proofs.EndedHull.{range_before}
 use Rattle.map_blocks.proofs.Lives.{some_in, some_parts, hand_at, open_some, open_most, open_end, dirty_more, ended_kept, lived_is}
 use Rattle.map_blocks.proofs.kept_block.KeptBlock.end.Goals as goal
 

@@ -1,5 +1,5 @@
 use Rattle.std.proofs.Common.{arith}
-use Rattle.map_blocks.proofs.Ranges.{dirty_within}
+use Rattle.map_blocks.proofs.EndedHull.{dirty_within}
 use Rattle.map_blocks.proofs.kept_block.KeptBlock.is_fragmented.Goals as goal
 
 pub overflow_add-self-inside : goal.overflow_add-self-inside

@@ -1,9 +1,9 @@
 use Rattle.std.proofs.Common.{◌≡◌, ◌==◌, true, false, find, Some, refl, sym, ap, ◌∙◌}
 use Rattle.vm_model.specs.PlainMap.{Block, Part}
-use Rattle.map_blocks.proofs.Rows.{same_bits}
-use Rattle.map_blocks.proofs.Parts.{same_test, other_test}
-use Rattle.map_blocks.proofs.Finds.{find_yes, find_no}
-use Rattle.map_blocks.proofs.Checks.{in_hand_of, hand_known}
+use Rattle.map_blocks.proofs.LivePartRows.{same_bits}
+use Rattle.map_blocks.proofs.PartsInRow.{same_test, other_test}
+use Rattle.map_blocks.proofs.FirstPassing.{find_yes, find_no}
+use Rattle.map_blocks.proofs.BlockConditions.{in_hand_of, hand_known}
 use Rattle.map_blocks.proofs.kept_block.KeptBlock.is_in_hand.Goals as goal
 
 pub loop-part-init : goal.loop-part-init

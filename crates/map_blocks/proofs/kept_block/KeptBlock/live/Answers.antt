@@ -2,8 +2,8 @@ use Rattle.std.proofs.Common.{◌≡◌, ◌+◌, take, length, sym, ap, ◌∙�
 use Rattle.std.proofs.lemmas.List.{length-append, take_all}
 use Rattle.vm_model.specs.PlainMap.{is_live}
 use Rattle.map_blocks.specs.KeptBlocks.{KeptRow}
-use Rattle.map_blocks.proofs.Parts.{length_le_size}
-use Rattle.map_blocks.proofs.Rows.{rows_of, same_bits, taken_yes, taken_no, taken_few}
+use Rattle.map_blocks.proofs.PartsInRow.{length_le_size}
+use Rattle.map_blocks.proofs.LivePartRows.{rows_of, same_bits, taken_yes, taken_no, taken_few}
 use Rattle.map_blocks.proofs.kept_block.KeptBlock.live.Goals.{then-is_live, else-is_live}
 use Rattle.map_blocks.proofs.kept_block.KeptBlock.live.Goals as goal
 

@@ -1,7 +1,7 @@
 use Rattle.std.proofs.Common.{◌≡◌, ◌<◌, ◌+◌, length, slice_get, Some, sym, ap, subst, ◌∙◌}
 use Rattle.vm_model.specs.PlainMap.{is_live}
 use Rattle.map_blocks.specs.KeptBlocks.{KeptRow}
-use Rattle.map_blocks.proofs.Rows.{rows_of, same_bits, offset_few, IsLeft, left_first, left_here, left_yes, left_no, left_none}
+use Rattle.map_blocks.proofs.LivePartRows.{rows_of, same_bits, offset_few, IsLeft, left_first, left_here, left_yes, left_no, left_none}
 use Rattle.map_blocks.proofs.kept_block.KeptBlock.live_at.Goals.{then-is_live+else-left-eq0, else-is_live}
 use Rattle.map_blocks.proofs.kept_block.KeptBlock.live_at.Goals as goal
 

@@ -1,4 +1,4 @@
-use Rattle.map_blocks.proofs.Rows.{IsLeft}
+use Rattle.map_blocks.proofs.LivePartRows.{IsLeft}
 use Rattle.map_blocks.proofs.kept_block.KeptBlock.live_at.Given as goal
 
 abbrev pub invariant-loop-part : goal.invariant-loop-part

@@ -2,7 +2,7 @@ use Rattle.std.proofs.Common.{◌≡◌, ◌++◌, ◌∷◌, [], take, sym, ap,
 use Rattle.std.proofs.lemmas.List.{append-nil, append_assoc, take_all}
 use Rattle.vm_model.specs.PlainMap.{is_live}
 use Rattle.map_blocks.specs.KeptBlocks.{KeptRow}
-use Rattle.map_blocks.proofs.Rows.{rows_of, same_bits, taken_yes, taken_no, offset_few}
+use Rattle.map_blocks.proofs.LivePartRows.{rows_of, same_bits, taken_yes, taken_no, offset_few}
 use Rattle.map_blocks.proofs.kept_block.KeptBlock.put_rows.Goals.{then-is_live+in_ok-push, else-is_live}
 use Rattle.map_blocks.proofs.kept_block.KeptBlock.put_rows.Goals as goal
 

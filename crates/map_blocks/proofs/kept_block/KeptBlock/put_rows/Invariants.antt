@@ -1,5 +1,5 @@
 use Rattle.std.proofs.Common.{◌≡◌, ◌++◌, take}
-use Rattle.map_blocks.proofs.Rows.{rows_of}
+use Rattle.map_blocks.proofs.LivePartRows.{rows_of}
 use Rattle.map_blocks.proofs.kept_block.KeptBlock.put_rows.Given as goal
 
 abbrev pub invariant-loop-part : goal.invariant-loop-part

@@ -1,6 +1,6 @@
 use Rattle.std.proofs.Common.{◌≡◌, [], ◌∷◌, refl, sym, ap, ◌∙◌}
 use Rattle.vm_model.specs.PlainMap.{Part, InHand, lives_as}
-use Rattle.map_blocks.proofs.Rows.{same_bits}
+use Rattle.map_blocks.proofs.LivePartRows.{same_bits}
 use Rattle.map_blocks.proofs.Lives.{none_named, one_named, live_at, lived_kept, lived_is, open_some, open_most}
 use Rattle.map_blocks.specs.KeptBlocks.{part_of}
 use Rattle.map_blocks.proofs.kept_block.KeptBlock.take_up.Goals as goal

@@ -2,8 +2,8 @@ use Rattle.std.proofs.Common.{◌≡◌, ◌+◌, ◌*◌, ◌/◌, ◌%◌, ◌
 use Rattle.std.proofs.lemmas.List.{get_or_read, with_items_is}
 use Rattle.vm_model.specs.Space.{span, holds, paint}
 use Rattle.vm_model.proofs.Paint.{length-paint_from}
-use Rattle.page_pool.specs.Groups.{with_groups, AreGroups}
-use Rattle.page_pool.proofs.Groups.{length-with_groups, cleared_unwritten, groups_cleared, cleared_in_group}
+use Rattle.page_pool.specs.GroupedLists.{with_groups, AreGroups}
+use Rattle.page_pool.proofs.WrittenGroups.{length-with_groups, cleared_unwritten, groups_cleared, cleared_in_group}
 use Rattle.page_pool.proofs.cells.Cells.clear_in_group.Goals as goal
 
 pub index-requires : goal.index-requires

@@ -1,7 +1,7 @@
 use Rattle.std.proofs.Common.{◌≡◌, ◌*◌, pos, vec_capacity, subst, arith}
 use Rattle.std.proofs.lemmas.Bool.Decides.{nat_tests}
-use Rattle.page_pool.specs.Words.{AreBlank}
-use Rattle.page_pool.proofs.Groups.{length-with_groups, none_written}
+use Rattle.page_pool.specs.MemoryWords.{AreBlank}
+use Rattle.page_pool.proofs.WrittenGroups.{length-with_groups, none_written}
 use Rattle.page_pool.proofs.cells.Cells.is_blank.Goals as goal
 
 pub returns : goal.returns

@@ -1,5 +1,5 @@
 use Rattle.std.proofs.Common.{◌*◌, pos, length, ap, sym, ◌∙◌}
-use Rattle.page_pool.proofs.Groups.{length-with_groups}
+use Rattle.page_pool.proofs.WrittenGroups.{length-with_groups}
 use Rattle.page_pool.proofs.cells.Cells.len.Goals as goal
 
 pub returns : goal.returns

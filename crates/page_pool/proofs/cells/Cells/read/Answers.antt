@@ -1,7 +1,7 @@
 use Rattle.std.proofs.Common.{◌≡◌, ◌+◌, ◌*◌, ◌/◌, ◌%◌, ◌<◌, pos, length, get_or, to_z, of_z, w64, ap, sym, ◌∙◌, arith}
 use Rattle.std.proofs.lemmas.Int.{ints}
 use Rattle.std.proofs.lemmas.List.{get_or_read}
-use Rattle.page_pool.proofs.Groups.{length-with_groups, read_group}
+use Rattle.page_pool.proofs.WrittenGroups.{length-with_groups, read_group}
 use Rattle.page_pool.proofs.cells.Cells.read.Goals as goal
 
 pub index-requires : goal.index-requires

@@ -1,7 +1,7 @@
 use Rattle.std.proofs.Common.{◌≡◌, ◌+◌, ◌*◌, ◌/◌, ◌%◌, ℤ, pos, vec_capacity, length, get_or, slice_set, to_z, of_z, w64, ap, sym, ◌∙◌, subst, arith}
 use Rattle.std.proofs.lemmas.Int.{ints}
-use Rattle.page_pool.specs.Groups.{with_groups, AreGroups}
-use Rattle.page_pool.proofs.Groups.{length-with_groups, groups_set, written_in_group, same_view}
+use Rattle.page_pool.specs.GroupedLists.{with_groups, AreGroups}
+use Rattle.page_pool.proofs.WrittenGroups.{length-with_groups, groups_set, written_in_group, same_view}
 use Rattle.page_pool.proofs.cells.Cells.write.Goals as goal
 
 pub own_group-first-requires-clause-within : goal.own_group-first-requires-clause-within

@@ -1,6 +1,6 @@
 use Rattle.std.proofs.Common.{◌∙◌, ap, arith}
 use Rattle.page_pool.specs.FrameList.{lowest_first}
-use Rattle.page_pool.proofs.FreeBits.{lowest_first-all, counted_first}
+use Rattle.page_pool.proofs.FreeFrames.{lowest_first-all, counted_first}
 use Rattle.page_pool.proofs.free_frames.FreeFrames.all.Goals as goal
 
 pub invariant_of-result : goal.invariant_of-result

@@ -1,7 +1,7 @@
 use Rattle.std.proofs.Common.{◌≡◌, ◌+◌, ◌∙◌, ap, sym, subst, arith, List, Bool, false}
 use Rattle.vm_model.specs.Space.{is_among, put_by}
 use Rattle.page_pool.specs.FrameList.{FrameList, lowest_first, AreCounted}
-use Rattle.page_pool.proofs.FreeBits.{freed_from, counted_freed, fewer_free, frame_list}
+use Rattle.page_pool.proofs.FreeFrames.{freed_from, counted_freed, fewer_free, frame_list}
 use Rattle.page_pool.proofs.free_frames.FreeFrames.put_back.Goals as goal
 
 pub put-requires : goal.put-requires

@@ -1,7 +1,7 @@
 use Rattle.std.proofs.Common.{◌≡◌, ◌<◌, ◌+◌, ◌-◌, ◌∙◌, ap, sym, subst, arith, length, List, Bool, false, ℕ}
 use Rattle.page_pool.specs.FrameList.{FrameList, lowest_first, AreCounted}
 use Rattle.chunk_bitmaps.specs.Bitmap.{IsNextBit}
-use Rattle.page_pool.proofs.FreeBits.{IsLowest, is_lowest, taken_from, counted_taken}
+use Rattle.page_pool.proofs.FreeFrames.{IsLowest, is_lowest, taken_from, counted_taken}
 use Rattle.page_pool.proofs.free_frames.FreeFrames.take_lowest.Goals as goal
 
 -- the bit that the search finds is that of the lowest free frame

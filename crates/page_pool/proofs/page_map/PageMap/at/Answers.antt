@@ -1,6 +1,6 @@
 use Rattle.std.proofs.Common.{◌≡◌, ◌+◌, ◌*◌, ◌/◌, ◌%◌, ◌<◌, None, length, get_or, ap, sym, ◌∙◌, arith}
 use Rattle.std.proofs.lemmas.List.{get_or_read}
-use Rattle.page_pool.proofs.Groups.{length-with_groups, read_group}
+use Rattle.page_pool.proofs.WrittenGroups.{length-with_groups, read_group}
 use Rattle.page_pool.proofs.page_map.PageMap.at.Goals as goal
 
 pub index-requires : goal.index-requires

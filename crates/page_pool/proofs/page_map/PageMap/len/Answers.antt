@@ -1,5 +1,5 @@
 use Rattle.std.proofs.Common.{None, length, ap, sym, ◌∙◌}
-use Rattle.page_pool.proofs.Groups.{length-with_groups}
+use Rattle.page_pool.proofs.WrittenGroups.{length-with_groups}
 use Rattle.page_pool.proofs.page_map.PageMap.len.Goals as goal
 
 pub returns : goal.returns

@@ -1,6 +1,6 @@
 use Rattle.std.proofs.Common.{◌≡◌, ◌+◌, ◌*◌, ◌/◌, ◌%◌, Option, ℕ, None, vec_capacity, length, get_or, slice_set, ap, sym, ◌∙◌, subst, arith}
-use Rattle.page_pool.specs.Groups.{with_groups, AreGroups}
-use Rattle.page_pool.proofs.Groups.{length-with_groups, groups_set, written_in_group, same_view}
+use Rattle.page_pool.specs.GroupedLists.{with_groups, AreGroups}
+use Rattle.page_pool.proofs.WrittenGroups.{length-with_groups, groups_set, written_in_group, same_view}
 use Rattle.page_pool.proofs.page_map.PageMap.set.Goals as goal
 
 pub own_group-first-requires : goal.own_group-first-requires

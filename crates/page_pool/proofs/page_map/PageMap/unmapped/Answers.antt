@@ -1,6 +1,6 @@
 use Rattle.std.proofs.Common.{◌≡◌, ◌-◌, ◌++◌, None, vec_len, replicate, take, rules, ap, ◌∙◌}
-use Rattle.page_pool.specs.Groups.{with_groups}
-use Rattle.page_pool.proofs.Groups.{blank_groups}
+use Rattle.page_pool.specs.GroupedLists.{with_groups}
+use Rattle.page_pool.proofs.WrittenGroups.{blank_groups}
 use Rattle.page_pool.proofs.page_map.PageMap.unmapped.Goals as goal
 
 pub returns : goal.returns

@@ -2,7 +2,7 @@ use Rattle.std.proofs.Common.{◌+◌, Some, drop, get_or, ap, subst}
 use Rattle.std.proofs.lemmas.Option.{slice_get_within}
 use Rattle.vm_model.specs.PageSets.{pages_in}
 use Rattle.page_pool.specs.Units.{pages_in_unit, pages_at}
-use Rattle.page_pool.proofs.UnitPages.{units_from, units_end, among_front}
+use Rattle.page_pool.proofs.UnitPageLists.{units_from, units_end, among_front}
 use Rattle.page_pool.proofs.Depopulating.{IsDepopulating, depopulating_first, depopulating_some, depopulating_last}
 use Rattle.page_pool.proofs.page_side.PageSide.depopulate.Goals as goal
 

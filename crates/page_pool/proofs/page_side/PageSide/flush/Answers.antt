@@ -1,6 +1,6 @@
 use Rattle.std.proofs.Common.{length, ap, arith}
-use Rattle.page_pool.specs.Pages.{Pages}
-use Rattle.page_pool.proofs.Kept.{kept_flushed}
+use Rattle.page_pool.specs.PageMap.{Pages}
+use Rattle.page_pool.proofs.KeptBesidePages.{kept_flushed}
 use Rattle.page_pool.proofs.page_side.PageSide.flush.Goals as goal
 
 pub flush-requires : goal.flush-requires

@@ -1,8 +1,8 @@
 use Rattle.std.proofs.Common.{◌+◌, Some, length, ap, arith}
 use Rattle.std.proofs.lemmas.Option.{slice_get_within}
-use Rattle.page_pool.specs.Pages.{Pages}
-use Rattle.page_pool.proofs.Shared.{frame_of_page}
-use Rattle.page_pool.proofs.Kept.{read_at}
+use Rattle.page_pool.specs.PageMap.{Pages}
+use Rattle.page_pool.proofs.SharedFrames.{frame_of_page}
+use Rattle.page_pool.proofs.KeptBesidePages.{read_at}
 use Rattle.page_pool.proofs.page_side.PageSide.frame_at.Goals as goal
 
 pub returns-clause-memory : goal.returns-clause-memory

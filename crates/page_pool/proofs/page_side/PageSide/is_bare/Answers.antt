@@ -1,6 +1,6 @@
 use Rattle.std.proofs.Common.{length, ap, ℕ, ◌<◌, ◌≤◌, sym, ◌∙◌, subst, arith}
-use Rattle.page_pool.specs.Pages.{Pages, IsBare}
-use Rattle.page_pool.proofs.Looks.{looked_more, looked_at, unmapped_at, not_stale_at}
+use Rattle.page_pool.specs.PageMap.{Pages, IsBare}
+use Rattle.page_pool.proofs.SpanLooks.{looked_more, looked_at, unmapped_at, not_stale_at}
 use Rattle.page_pool.proofs.page_side.PageSide.is_bare.Goals as goal
 
 pub loop-page-init : goal.loop-page-init

@@ -1,5 +1,5 @@
 use Rattle.std.proofs.Common.{ℕ, ◌<◌, ◌≤◌}
-use Rattle.page_pool.specs.Pages.{IsBare}
+use Rattle.page_pool.specs.PageMap.{IsBare}
 use Rattle.page_pool.proofs.page_side.PageSide.is_bare.Given as goal
 
 abbrev pub invariant-loop-page : goal.invariant-loop-page

@@ -1,8 +1,8 @@
 use Rattle.std.proofs.Common.{◌≡◌, true, false, Some, is_some, slice_get, length, ℕ, ◌<◌, ◌≤◌, not, ap, sym, ◌∙◌, subst, arith}
 use Rattle.std.proofs.lemmas.Bool.Decides.{nat_tests}
 use Rattle.vm_model.specs.Space.{holds}
-use Rattle.page_pool.specs.Pages.{Pages, IsMapped}
-use Rattle.page_pool.proofs.Looks.{looked_more, looked_at, mapped_at, some_at}
+use Rattle.page_pool.specs.PageMap.{Pages, IsMapped}
+use Rattle.page_pool.proofs.SpanLooks.{looked_more, looked_at, mapped_at, some_at}
 use Rattle.page_pool.proofs.page_side.PageSide.is_mapped.Goals as goal
 
 pub loop-page-init : goal.loop-page-init

@@ -1,5 +1,5 @@
 use Rattle.std.proofs.Common.{ℕ, ◌<◌, ◌≤◌}
-use Rattle.page_pool.specs.Pages.{IsMapped}
+use Rattle.page_pool.specs.PageMap.{IsMapped}
 use Rattle.page_pool.proofs.page_side.PageSide.is_mapped.Given as goal
 
 abbrev pub invariant-loop-page : goal.invariant-loop-page

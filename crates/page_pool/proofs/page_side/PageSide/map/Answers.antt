@@ -1,7 +1,7 @@
 use Rattle.std.proofs.Common.{◌≡◌, ℕ, Some, None, slice_get, true, ap, ◌∙◌, arith}
 use Rattle.vm_model.specs.Space.{holds}
-use Rattle.page_pool.specs.Pages.{Pages}
-use Rattle.page_pool.proofs.Kept.{kept_mapped, mapped_fits}
+use Rattle.page_pool.specs.PageMap.{Pages}
+use Rattle.page_pool.proofs.KeptBesidePages.{kept_mapped, mapped_fits}
 use Rattle.page_pool.proofs.page_side.PageSide.map.Goals as goal
 
 pub overflow_add-self : goal.overflow_add-self

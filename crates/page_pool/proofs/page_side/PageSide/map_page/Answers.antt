@@ -1,6 +1,6 @@
 use Rattle.std.proofs.Common.{◌≡◌, ◌+◌, List, Option, ℕ, Some, None, slice_get, ap, sym, subst, ◌∙◌}
-use Rattle.page_pool.specs.Pages.{Pages, IsKept}
-use Rattle.page_pool.proofs.Kept.{one_mapped_fits, kept_one_mapped}
+use Rattle.page_pool.specs.PageMap.{Pages, IsKept}
+use Rattle.page_pool.proofs.KeptBesidePages.{one_mapped_fits, kept_one_mapped}
 use Rattle.page_pool.proofs.page_side.PageSide.map_page.Goals as goal
 
 pub overflow_add-self : goal.overflow_add-self

@@ -1,6 +1,6 @@
 use Rattle.vm_model.specs.PageSets.{pages_in}
 use Rattle.page_pool.specs.Units.{pages_in_unit}
-use Rattle.page_pool.proofs.UnitPages.{pages_from}
+use Rattle.page_pool.proofs.UnitPageLists.{pages_from}
 use Rattle.page_pool.proofs.Populating.{IsPopulating}
 use Rattle.page_pool.proofs.page_side.PageSide.map_unit.Given as goal
 

@@ -1,5 +1,5 @@
 use Rattle.std.proofs.Common.{arith}
-use Rattle.page_pool.proofs.Kept.{kept_first}
+use Rattle.page_pool.proofs.KeptBesidePages.{kept_first}
 use Rattle.page_pool.proofs.page_side.PageSide.new.Goals as goal
 
 pub invariant_of-result : goal.invariant_of-result

@@ -1,11 +1,11 @@
 use Rattle.std.proofs.Common.{◌≡◌, List, [], ◌∷◌, refl, ℕ, ◌+◌, ◌*◌, length, drop, get_or, ap, sym, ◌∙◌, subst, arith}
 use Rattle.std.proofs.lemmas.List.{length-append}
 use Rattle.page_pool.specs.declared.page_side.NoFrames.{NoFrames}
-use Rattle.page_pool.specs.Pages.{Pages, free_of}
+use Rattle.page_pool.specs.PageMap.{Pages, free_of}
 use Rattle.vm_model.specs.PageSets.{pages_in}
 use Rattle.page_pool.specs.Units.{pages_in_unit, pages_at, with_frames_for}
-use Rattle.page_pool.proofs.UnitPages.{length-pages_at, length-pages_in_unit, units_from, units_end}
-use Rattle.page_pool.proofs.Kept.{kept_free}
+use Rattle.page_pool.proofs.UnitPageLists.{length-pages_at, length-pages_in_unit, units_from, units_end}
+use Rattle.page_pool.proofs.KeptBesidePages.{kept_free}
 use Rattle.page_pool.proofs.Populating.{IsPopulating, bare_once, bare_front, length-bare, populating_first, populating_some, populating_last}
 use Rattle.page_pool.proofs.page_side.PageSide.populate.Goals as goal
 

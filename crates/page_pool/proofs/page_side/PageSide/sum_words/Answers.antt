@@ -1,7 +1,7 @@
 use Rattle.std.proofs.Common.{◌≡◌, ◌+◌, ◌/◌, ◌+ℤ◌, [], ◌∷◌, get_or, pos, to_z, of_z, w64, ap, sym, ◌∙◌, subst, FitsSigned, ℤ, ℕ, rules}
 use Rattle.std.proofs.lemmas.Int.{to_z-of_z}
-use Rattle.page_pool.specs.Pages.{Pages}
-use Rattle.page_pool.proofs.UnitPages.{among_units, among_first}
+use Rattle.page_pool.specs.PageMap.{Pages}
+use Rattle.page_pool.proofs.UnitPageLists.{among_units, among_first}
 use Rattle.page_pool.proofs.WordSums.{sum_more}
 use Rattle.page_pool.proofs.page_side.PageSide.sum_words.Goals as goal
 

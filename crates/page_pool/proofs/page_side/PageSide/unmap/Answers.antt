@@ -1,4 +1,4 @@
-use Rattle.page_pool.proofs.Kept.{kept_unmapped}
+use Rattle.page_pool.proofs.KeptBesidePages.{kept_unmapped}
 use Rattle.page_pool.proofs.page_side.PageSide.unmap.Goals as goal
 
 pub invariant_of-self : goal.invariant_of-self

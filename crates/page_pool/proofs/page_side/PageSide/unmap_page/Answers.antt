@@ -1,7 +1,7 @@
 use Rattle.std.proofs.Common.{◌+◌, ◌-◌, List, Option, ℕ, Some, length, ap, sym, subst, arith}
-use Rattle.page_pool.specs.Pages.{Pages, IsKept}
-use Rattle.page_pool.proofs.Shared.{frame_of_page}
-use Rattle.page_pool.proofs.Kept.{kept_one_unmapped, read_at}
+use Rattle.page_pool.specs.PageMap.{Pages, IsKept}
+use Rattle.page_pool.proofs.SharedFrames.{frame_of_page}
+use Rattle.page_pool.proofs.KeptBesidePages.{kept_one_unmapped, read_at}
 use Rattle.page_pool.proofs.page_side.PageSide.unmap_page.Goals as goal
 
 pub put_back-requires : goal.put_back-requires

@@ -1,7 +1,7 @@
 use Rattle.std.proofs.Common.{◌≡◌, ◌+◌, true, ap, sym, ◌∙◌, subst, arith}
 use Rattle.vm_model.specs.PageSets.{has_page, pages_in}
 use Rattle.page_pool.specs.Units.{pages_in_unit}
-use Rattle.page_pool.proofs.UnitPages.{pages_from, pages_from-first, pages_from-has, pages_from-lacks, pages_from-end, among_first}
+use Rattle.page_pool.proofs.UnitPageLists.{pages_from, pages_from-first, pages_from-has, pages_from-lacks, pages_from-end, among_first}
 use Rattle.page_pool.proofs.Depopulating.{IsDepopulating, depopulating_first, depopulating_next, depopulating_last}
 use Rattle.page_pool.proofs.page_side.PageSide.unmap_unit.Goals as goal
 use Rattle.page_pool.proofs.page_side.PageSide.unmap_unit.Goals.{then-contains, else-contains}

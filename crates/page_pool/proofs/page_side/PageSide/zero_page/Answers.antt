@@ -1,7 +1,7 @@
 use Rattle.std.proofs.Common.{◌+◌, ◌*◌, pos, length, ap, ◌∙◌}
 use Rattle.vm_model.specs.Space.{span, holds}
 use Rattle.vm_model.proofs.Paint.{length-paint_from}
-use Rattle.page_pool.proofs.Kept.{kept_written}
+use Rattle.page_pool.proofs.KeptBesidePages.{kept_written}
 use Rattle.page_pool.proofs.page_side.PageSide.zero_page.Goals as goal
 
 pub invariant_of-self : goal.invariant_of-self

@@ -2,8 +2,8 @@ use Rattle.std.proofs.Common.{◌≡◌, ◌+◌, ◌-◌, ◌/◌, ℕ, suc, sl
 use Rattle.vm_model.specs.declared.areas.Span.{Span}
 use Rattle.vm_model.specs.Space.{count_from}
 use Rattle.vm_model.specs.Frames.{frame_of, zero_frame, zero_pages}
-use Rattle.page_pool.specs.Pages.{Pages}
-use Rattle.page_pool.proofs.UnitPages.{among_unit, row_from}
+use Rattle.page_pool.specs.PageMap.{Pages}
+use Rattle.page_pool.proofs.UnitPageLists.{among_unit, row_from}
 use Rattle.page_pool.proofs.page_side.PageSide.zero_unit.Goals as goal
 
 abbrev zeroed : (n page base unit off bytes : ℕ) → Pages → Pages

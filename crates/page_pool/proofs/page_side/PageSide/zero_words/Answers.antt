@@ -1,10 +1,10 @@
 use Rattle.std.proofs.Common.{◌+◌, drop, slice_get, ap, refl, sym, subst, ◌∙◌}
 use Rattle.vm_model.specs.Frames.{pages_of_bytes}
-use Rattle.page_pool.specs.Pages.{Pages}
+use Rattle.page_pool.specs.PageMap.{Pages}
 use Rattle.page_pool.specs.Units.{with_zeroed}
-use Rattle.page_pool.specs.Words.{AreBlank}
+use Rattle.page_pool.specs.MemoryWords.{AreBlank}
 use Rattle.page_pool.proofs.BlankWords.{zeroed-blank}
-use Rattle.page_pool.proofs.UnitPages.{units_from, units_end, among_units}
+use Rattle.page_pool.proofs.UnitPageLists.{units_from, units_end, among_units}
 use Rattle.page_pool.proofs.page_side.PageSide.zero_words.Goals as goal
 
 pub returns-then-is_blank : goal.returns-then-is_blank

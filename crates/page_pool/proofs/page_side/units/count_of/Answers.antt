@@ -1,6 +1,6 @@
 use Rattle.std.proofs.Common.{sym}
 use Rattle.vm_model.specs.PageSets.{pages_in}
-use Rattle.page_pool.proofs.UnitPages.{no_pages}
+use Rattle.page_pool.proofs.UnitPageLists.{no_pages}
 use Rattle.page_pool.proofs.page_side.units.count_of.Goals as goal
 
 pub returns-then-pages-eq0 : goal.returns-then-pages-eq0

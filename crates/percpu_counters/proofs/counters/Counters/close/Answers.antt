@@ -2,8 +2,8 @@ use Rattle.std.proofs.Common.{◌≡◌, ◌+◌, [], length, map, ap, ◌∙◌
 use Rattle.atomic_table.specs.Table.{Final, Seen}
 use Rattle.vm_model.specs.declared.rows.CounterRow.{CounterRow}
 use Rattle.percpu_counters.specs.declared.table.Shape.{Shape}
-use Rattle.percpu_counters.specs.Rule.{Kept}
-use Rattle.percpu_counters.specs.Rows.{rows_in, totals_of, exact_rows}
+use Rattle.percpu_counters.specs.CounterRule.{Kept}
+use Rattle.percpu_counters.specs.RowsFromWords.{rows_in, totals_of, exact_rows}
 use Rattle.percpu_counters.proofs.Totals.{totals, exact, if_ok}
 use Rattle.percpu_counters.proofs.counters.Counters.close.Goals as goal
 

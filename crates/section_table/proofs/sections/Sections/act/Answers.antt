@@ -1,5 +1,5 @@
 use Rattle.std.proofs.Common.{rules, ◌≡◌, sym, ◌∙◌, subst}
-use Rattle.section_table.specs.Views.{HasCaller}
+use Rattle.section_table.specs.PassViews.{HasCaller}
 use Rattle.section_table.proofs.sections.Sections.act.Goals as goal
 
 pub turn-requires-clause-table : goal.turn-requires-clause-table

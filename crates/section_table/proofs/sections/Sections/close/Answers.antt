@@ -1,9 +1,9 @@
 use Rattle.std.proofs.Common.{rules, ◌≡◌, ◌≤◌, ℕ, length, map, replicate, sym, ap, ◌∙◌, subst, arith}
 use Rattle.std.proofs.lemmas.List.{length-map}
 use Rattle.section_table.specs.Shown.{shown_of}
-use Rattle.section_table.specs.Written.{HasStampsBelow, all_written}
-use Rattle.section_table.proofs.Ends.{closes}
-use Rattle.section_table.proofs.Closing.{first_word, stamps_below, comes_to}
+use Rattle.section_table.specs.WrittenLists.{HasStampsBelow, all_written}
+use Rattle.section_table.proofs.RuleAtEnds.{closes}
+use Rattle.section_table.proofs.ClosedTables.{first_word, stamps_below, comes_to}
 use Rattle.section_table.proofs.sections.Sections.close.Goals as goal
 
 pub picks_of-requires-clause-few : goal.picks_of-requires-clause-few

@@ -1,5 +1,5 @@
 use Rattle.std.proofs.Common.{rules, ◌≡◌, ℕ, sym, ap, ◌∙◌, subst}
-use Rattle.section_table.specs.Views.{IsWithin, both_of}
+use Rattle.section_table.specs.PassViews.{IsWithin, both_of}
 use Rattle.section_table.proofs.Within.{within_both, both_shown}
 use Rattle.section_table.proofs.sections.Sections.join.Goals as goal
 

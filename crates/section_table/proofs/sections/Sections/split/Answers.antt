@@ -1,7 +1,7 @@
 use Rattle.std.proofs.Common.{rules, ◌≡◌, ◌<◌, ℕ, length, map, set, replicate, [], ◌∷◌, ◌++◌, Some, None, refl, sym, ap, ◌∙◌, subst}
 use Rattle.section_table.specs.Shown.{shown_of}
-use Rattle.section_table.specs.Views.{IsWithin}
-use Rattle.section_table.proofs.Lists.{within}
+use Rattle.section_table.specs.PassViews.{IsWithin}
+use Rattle.section_table.proofs.ElementsByPlace.{within}
 use Rattle.section_table.proofs.Tries.{has_caller, found}
 use Rattle.section_table.proofs.Within.{within_without, within_alone, left_shown, alone_shown}
 use Rattle.section_table.proofs.sections.Sections.split.Goals as goal

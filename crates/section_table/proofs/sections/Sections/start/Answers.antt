@@ -1,8 +1,8 @@
 use Rattle.std.proofs.Common.{rules, ◌≡◌, ◌≤◌, ℕ, ◌+◌, List, length, replicate, sym, ap, ◌∙◌, subst}
 use Rattle.atomic_table.specs.Table.{opening}
-use Rattle.section_table.specs.Rule.{IsRuled}
-use Rattle.section_table.specs.Views.{IsWithin, starting}
-use Rattle.section_table.proofs.Ends.{begins, fresh}
+use Rattle.section_table.specs.TableRule.{IsRuled}
+use Rattle.section_table.specs.PassViews.{IsWithin, starting}
+use Rattle.section_table.proofs.RuleAtEnds.{begins, fresh}
 use Rattle.section_table.proofs.sections.Sections.start.Goals as goal
 
 pub new-requires : goal.new-requires

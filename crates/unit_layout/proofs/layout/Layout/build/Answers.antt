@@ -1,7 +1,7 @@
 use Rattle.std.proofs.Common.{◌≡◌, ◌≤◌, List, length, sym, ◌∙◌, ap, subst, arith}
 use Rattle.unit_layout.specs.declared.request.GroupSpec.{GroupSpec}
-use Rattle.unit_layout.specs.Rule as rule
-use Rattle.unit_layout.proofs.Places.{units_in_all}
+use Rattle.unit_layout.specs.LayoutRule as rule
+use Rattle.unit_layout.proofs.GroupPlaces.{units_in_all}
 use Rattle.unit_layout.proofs.layout.Layout.build.Goals as goal
 
 pub invariant_of-result : goal.invariant_of-result
