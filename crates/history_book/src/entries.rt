@@ -1,5 +1,5 @@
 //! The entries of a book in the table of replies.
-ghost use Rattle.std.specs.Prelude.{◌≡◌, ◌-◌, ◌≤◌, ◌<◌, ◌++◌, List, All, Some, length, take, slice_get, OnOk, OnErr};
+ghost use Rattle.std.specs.Prelude.{◌≡◌, ◌-◌, ◌≤◌, ◌<◌, ◌++◌, List, All, Some, length, take, slice_get, slice_index, OnOk, OnErr};
 ghost use Rattle.vm_model.specs.Events.{Event};
 ghost use Rattle.vm_model.specs.Calls.{Answered};
 ghost use Rattle.vm_model.specs.Tables.{numbers_of, entries_from};
@@ -17,6 +17,22 @@ struct Passed {
     own: u32,
 }
 
+/// The index of a caller's next place behind those that are passed.
+fn next_own(moved: &[u16], caller: u16, passed: Passed) -> usize
+    requires callers { passed.callers ≤ length moved.now }
+    requires counted { passed.own ≡ length (places_of caller 1 (take passed.callers moved.now)) }
+    requires there { passed.own < length (places_of caller 1 moved.now) }
+    ensures within { result < length moved.now }
+    ensures own { slice_index moved.now result ≡ caller }
+    ensures counted { passed.own ≡ length (places_of caller 1 (take result moved.now)) }
+{
+    let mut next = passed.callers;
+    while moved[next] != caller {
+        next += 1;
+    }
+    next
+}
+
 /// Passes on to a caller's place of the given number, from 1, which is still to come.
 fn pass_to(moved: &[u16], caller: u16, place: u32, from: Passed) -> Passed
     requires callers { from.callers ≤ length moved.now }
@@ -29,10 +45,11 @@ fn pass_to(moved: &[u16], caller: u16, place: u32, from: Passed) -> Passed
 {
     let mut passed = from;
     while passed.own < place {
-        if moved[passed.callers] == caller {
-            passed.own += 1;
-        }
-        passed.callers += 1;
+        let next = next_own(moved, caller, passed);
+        passed = Passed {
+            callers: next + 1,
+            own: passed.own + 1,
+        };
     }
     passed
 }

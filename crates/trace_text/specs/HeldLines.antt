@@ -1,5 +1,5 @@
 -- What a reader keeps of the lines so far.
-use Rattle.std.specs.Prelude.{◌≡◌, ◌≢◌, ◌<◌, ◌≤◌, ◌+◌, ℕ, suc, Bool, true, false, not, ◌&&◌, ◌||◌, nat_lt, if◌then◌else◌, List, [], ◌++◌, length, map, decimal, slice_get, IsTrue, Option, Some, None, is_some, option_map}
+use Rattle.std.specs.Prelude.{◌≡◌, ◌≢◌, ◌<◌, ◌≤◌, ◌+◌, ℕ, suc, Bool, true, false, not, ◌&&◌, ◌||◌, nat_lt, if◌then◌else◌, List, [], ◌++◌, ◌∷◌, length, map, decimal, slice_get, IsTrue, Option, Some, None, is_some, option_map}
 use Rattle.std.specs.List.{list_all, range_with_len}
 use Rattle.trace_text.specs.declared.progress.Progress.{Progress}
 use Rattle.vm_model.specs.declared.calls.Call.{Call}
@@ -113,3 +113,16 @@ Steps r text false p = (l : Line) → IsTrue (may_stand r l) → text ≢ fields
 abbrev pub StepsIn : (List ℕ → Bool) → Reading → List ℕ → Bool → Progress → Type 0
 StepsIn words r text true p = Steps r text true p
 StepsIn words r text false p = (l : Line) → IsTrue (words (word_of l)) → IsTrue (may_stand r l) → text ≢ fields (spelled l)
+
+-- q has one more call than p
+pub record AddsCall (p q : Progress) (c : Call) : Type 0 where
+  pub rank : q.rank ≡ 10
+  pub header : header_of q ≡ header_of p
+  pub cpus : q.cpus ≡ p.cpus
+  pub caller : q.caller ≡ p.caller
+  pub calls : q.calls.items ≡ p.calls.items ++ c ∷ []
+  pub closed : q.closed.items ≡ p.closed.items
+  pub counts : q.counts.items ≡ p.counts.items
+  pub lines : q.lines ≡ p.lines + 1
+  pub picks : q.picks.items ≡ p.picks.items
+  pub opening_names : q.opening_names ≡ p.opening_names

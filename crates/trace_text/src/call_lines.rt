@@ -1,9 +1,9 @@
 //! The lines of calls, as they are read.
-ghost use Rattle.std.specs.Prelude.{◌≡◌, ◌<◌, ◌++◌, ◌&&◌, true, IfOk, OnOk, IfSome, IfNone, IsTrue, codes};
+ghost use Rattle.std.specs.Prelude.{◌≡◌, ◌<◌, ◌++◌, ◌∷◌, [], ◌&&◌, true, IfOk, OnOk, IfSome, IfNone, IsTrue, codes};
 ghost use Rattle.trace_text.specs.Reading.{Reading, with_call, with_name};
 ghost use Rattle.vm_model.specs.Words.{is_name};
 ghost use Rattle.trace_text.specs.Grammar.{is_new, is_vmalloc, is_map_ram, most_lines};
-ghost use Rattle.trace_text.specs.HeldLines.{IsHeld, Steps, NamesCall, NamesNone, has_place, has_size, target_call};
+ghost use Rattle.trace_text.specs.HeldLines.{AddsCall, IsHeld, Steps, NamesCall, NamesNone, has_place, has_size, target_call};
 
 use crate::fields::{named_pair, target};
 use crate::groups::cpu_count;
@@ -23,15 +23,37 @@ pub fn has_place(progress: &Progress) -> bool
     SPACE <= progress.rank && progress.rank <= CALLS && progress.lines < MOST_LINES
 }
 
-/// Puts a call behind those of the open section.
+/// Puts a call behind others. The first takes room for so many.
+fn push_call(calls: &mut Vec<Call>, room: usize, call: Call) -> Result<(), AllocError>
+    ensures { OnOk result (calls.new.items ≡ calls.old.items ++ call ∷ []) }
+{
+    if calls.is_empty() {
+        calls.reserve(room)?;
+    }
+    calls.push(call)?;
+    Ok(())
+}
+
+/// Puts a call behind those of the open section, which takes room for as many as there are slots for names.
+fn put_call(progress: &mut Progress, call: Call) -> Result<(), AllocError>
+    requires { progress.old.lines < most_lines }
+    ensures adds { OnOk result (AddsCall progress.old progress.new call) }
+    ensures names { OnOk result (progress.new.names ≡ progress.old.names) }
+{
+    let room = progress.names.wanted();
+    push_call(&mut progress.calls, room, call)?;
+    progress.lines += 1;
+    progress.rank = CALLS;
+    Ok(())
+}
+
+/// The same, in a line that may stand.
 pub fn add_call(progress: &mut Progress, call: Call) -> Result<(), AllocError>
     requires { progress.old.lines < most_lines }
     ensures { OnOk result ((r : Reading) → IsHeld progress.old r
         → IsHeld progress.new (record (with_call r call) { rank = 10 })) }
 {
-    progress.calls.push(call)?;
-    progress.lines += 1;
-    progress.rank = CALLS;
+    put_call(progress, call)?;
     Ok(())
 }
 
@@ -50,9 +72,7 @@ pub fn add_named_call(progress: &mut Progress, name: &[u8], call: Call) -> Resul
     if !progress.names.insert(name, place)? {
         return Ok(false);
     }
-    progress.calls.push(call)?;
-    progress.lines += 1;
-    progress.rank = CALLS;
+    put_call(progress, call)?;
     Ok(true)
 }
 
