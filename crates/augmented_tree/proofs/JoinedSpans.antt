@@ -1,16 +1,18 @@
 -- A span put among separate blocks, joined with those that it touches.
-use Rattle.std.proofs.Common.{◌≡◌, ℕ, suc, ◌+◌, ◌-◌, ◌<◌, ◌≤◌, inl, inr, Bool, true, false, ◌||◌, List, [], ◌∷◌, ◌++◌, length, take, drop, get_or, slice_get, slice_range, All, IfSome, ap, sym, ◌∙◌, subst, arith, take-append-drop, get_or-take, length-take}
+use Rattle.std.proofs.Common.{◌≡◌, ℕ, suc, ◌+◌, ◌-◌, ◌<◌, ◌≤◌, inl, inr, Bool, true, false, ◌||◌, List, [], ◌∷◌, ◌++◌, length, take, drop, get_or, slice_get, slice_range, Option, Some, None, All, IfSome, refl, ap, sym, ◌∙◌, subst, arith, take-append-drop}
 use Rattle.std.proofs.lemmas.Bool.{cases_lt, or_parts, or_right, both_ways}
 use Rattle.std.proofs.lemmas.Bool.Decides.{nat_tests}
-use Rattle.std.proofs.lemmas.List.{append_cancel_left, drop_all, drop_more, take_more}
+use Rattle.std.proofs.lemmas.List.{append_cancel_left}
 use Rattle.std.proofs.lemmas.List.Edits.{between_none, between_more, split_between}
-use Rattle.std.proofs.lemmas.List.Elements.{All-nil, All-cons, All-head, All-tail, All-append, All-weaker, All-same, All-get_or}
-use Rattle.std.proofs.lemmas.Option.{slice_get-get_or}
+use Rattle.std.proofs.lemmas.List.Elements.{All-nil, All-cons, All-head, All-tail}
+use Rattle.std.proofs.lemmas.Option.{slice_get_within, get_or_from_slice_get}
 use Rattle.vm_model.specs.declared.areas.Span.{Span}
 use Rattle.vm_model.specs.Space.{span, end_of, holds, covers, AreSeparateFrom}
+use Rattle.vm_model.specs.Setup.{last_of}
 use Rattle.vm_model.proofs.Runs.{covers-head}
 use Rattle.augmented_tree.specs.BlockLists.{spliced, TakesIn, JoinsBefore, JoinsAfter}
 use Rattle.augmented_tree.proofs.Splices.{split_at}
+use Rattle.augmented_tree.proofs.FoundBlocks.{separate_from_next, holds-first, last_in_front}
 use Rattle.augmented_tree.proofs.SeparateBlocks.{covers-append, separate-tail, ends_before, separate-take}
 
 -- Separate blocks in parts.
@@ -23,65 +25,83 @@ separate-around low (x ∷ xs) t ys n a l some m =
     let head : end_of x < t.start = All-head (λ (x : Span). end_of x < t.start) x xs a in
     (n.0, n.1, separate-around (suc (end_of x)) xs t ys n.2 (All-tail (λ (x : Span). end_of x < t.start) x xs a) head some m)
 
-separate-split : (xs : List Span) (i : ℕ) (d : Span) → AreSeparateFrom 0 xs → i < length xs → AreSeparateFrom 0 (take i xs ++ (get_or xs i d ∷ drop (i + 1) xs))
-separate-split xs i d n h = subst (AreSeparateFrom 0) (split_at xs i d h) n
-
 drop_range : {X : Type 0} (xs : List X) (i j : ℕ) → i ≤ j → drop i xs ≡ slice_range xs i j ++ drop j xs
 drop_range xs i j h = append_cancel_left (take i xs) (drop i xs) (slice_range xs i j ++ drop j xs) (take-append-drop i xs ∙ split_between xs i j h)
 
-range_of_one : {X : Type 0} (xs : List X) (i : ℕ) (d : X) → i < length xs → slice_range xs i (i + 1) ≡ get_or xs i d ∷ []
-range_of_one xs i d h = between_more xs i i d (omega arith) h ∙ ap (λ ys. ys ++ get_or xs i d ∷ []) (between_none xs i)
+range_of_one : {X : Type 0} (xs : List X) (i : ℕ) (x : X) → slice_get xs i ≡ Some x → slice_range xs i (i + 1) ≡ x ∷ []
+range_of_one xs i x at =
+    between_more xs i i x (omega arith) (slice_get_within xs i x at) ∙ ap (λ ys. ys ++ get_or xs i x ∷ []) (between_none xs i) ∙ ap (λ y. y ∷ []) (get_or_from_slice_get xs i x x at)
+
+holds-nothing : (start page : ℕ) → false ≡ holds (span start (start - start)) page
+holds-nothing start page = grind (arith, nat_tests)
 
 -- The block that ends where a span begins.
 
 holds-up_to : (b : Span) (start page : ℕ) → end_of b ≡ start → (holds b page || false) ≡ holds (span b.start (start - b.start)) page
 holds-up_to b start page e = grind (arith, nat_tests)
 
-holds-nothing : (start page : ℕ) → false ≡ holds (span start (start - start)) page
-holds-nothing start page = grind (arith, nat_tests)
-
-pub joins_before : (blocks : List Span) (i : ℕ) (d : Span) (start : ℕ) → AreSeparateFrom 0 blocks → i < length blocks → end_of (get_or blocks i d) ≡ start
-    → JoinsBefore blocks i (i + 1) (get_or blocks i d).start start
-joins_before blocks i d start n h e = record {
+joins_with : (blocks : List Span) (i : ℕ) (b : Span) (start : ℕ) → AreSeparateFrom 0 blocks → slice_get blocks i ≡ Some b → end_of b ≡ start → JoinsBefore blocks i (i + 1) b.start start
+joins_with blocks i b start n at e = record {
   order = omega arith;
   near = omega arith;
   below = omega arith;
-  apart = ends_before 0 (take i blocks) (get_or blocks i d) (drop (i + 1) blocks) (separate-split blocks i d n h);
-  cover = λ page. ap (λ spans. covers spans page) (range_of_one blocks i d h) ∙ holds-up_to (get_or blocks i d) start page e;
+  apart = ends_before 0 (take i blocks) b (drop (i + 1) blocks) (subst (AreSeparateFrom 0) (split_at blocks i b at) n);
+  cover = λ page. ap (λ spans. covers spans page) (range_of_one blocks i b at) ∙ holds-up_to b start page e;
 }
 
+pub joins_before : (blocks : List Span) (i : ℕ) (b : Span) (start : ℕ) → AreSeparateFrom 0 blocks → i ≤ length blocks → last_of (take i blocks) ≡ Some b → end_of b ≡ start
+    → JoinsBefore blocks (i - 1) i b.start start
+joins_before blocks i b start n h last e =
+    let front = last_in_front blocks i b h last in
+    let next : i - 1 + 1 ≡ i = omega (arith, front.0) in
+    subst (λ to. JoinsBefore blocks (i - 1) to b.start start) next (joins_with blocks (i - 1) b start n front.1 e)
+
+-- where the last of them ends before a page, all do
+all_before : (low page : ℕ) (xs : List Span) → AreSeparateFrom low xs → IfSome (last_of xs) (λ (b : Span). end_of b < page) → All (λ (b : Span). end_of b < page) xs
+all_before low page [] n last = All-nil (λ (b : Span). end_of b < page)
+all_before low page (x ∷ []) n last = All-cons (λ (b : Span). end_of b < page) x [] last (All-nil (λ (b : Span). end_of b < page))
+all_before low page (x ∷ y ∷ xs) n last =
+    let rest = all_before (suc (end_of x)) page (y ∷ xs) n.2 last in
+    let next : suc (end_of x) ≤ y.start = n.2.0 in
+    All-cons (λ (b : Span). end_of b < page) x (y ∷ xs) (omega (arith, All-head (λ (b : Span). end_of b < page) y xs rest)) rest
+
 -- no block ends there
-end_before : (blocks : List Span) (i : ℕ) (d : Span) (start : ℕ) → i < length blocks → All (λ (b : Span). end_of b ≤ start) (take (i + 1) blocks) → end_of (get_or blocks i d) ≤ start
-end_before blocks i d start h a =
-    let last : end_of (get_or (take (i + 1) blocks) i d) ≤ start = All-get_or (λ (b : Span). end_of b ≤ start) (take (i + 1) blocks) i d (omega (arith, length-take (i + 1) blocks)) a in
-    subst (λ (b : Span). end_of b ≤ start) (get_or-take (i + 1) blocks i d (omega arith)) last
+pub stays_before : (blocks : List Span) (i start : ℕ) → AreSeparateFrom 0 blocks → IfSome (last_of (take i blocks)) (λ (b : Span). end_of b < start) → JoinsBefore blocks i i start start
+stays_before blocks i start n last = record {
+  order = omega arith;
+  near = omega arith;
+  below = omega arith;
+  apart = all_before 0 start (take i blocks) (separate-take 0 (take i blocks) (drop i blocks) (subst (AreSeparateFrom 0) (sym (take-append-drop i blocks)) n)) last;
+  cover = λ page. ap (λ spans. covers spans page) (between_none blocks i) ∙ holds-nothing start page;
+}
 
-apart_before : (blocks : List Span) (i : ℕ) (d : Span) (start : ℕ) → AreSeparateFrom 0 blocks → i < length blocks → end_of (get_or blocks i d) < start
-    → All (λ (b : Span). end_of b < start) (take (i + 1) blocks)
-apart_before blocks i d start n h below =
-    let P : Span → Type 0 = λ b. end_of b < start in
-    All-same P (take (i + 1) blocks) (take i blocks ++ get_or blocks i d ∷ []) (take_more blocks i d h)
-    (All-append P (take i blocks) (get_or blocks i d ∷ [])
-    (All-weaker (λ (b : Span). end_of b < (get_or blocks i d).start) P (λ x e. omega arith) (take i blocks)
-    (ends_before 0 (take i blocks) (get_or blocks i d) (drop (i + 1) blocks) (separate-split blocks i d n h)))
-    (All-cons P (get_or blocks i d) [] below (All-nil P)))
+-- The block that begins where a span ends.
 
-pub stays_before : (blocks : List Span) (i : ℕ) (d : Span) (start : ℕ) → AreSeparateFrom 0 blocks → i < length blocks → All (λ (b : Span). end_of b ≤ start) (take (i + 1) blocks)
-    → (end_of (get_or blocks i d) ≡ start → ⊥) → JoinsBefore blocks (i + 1) (i + 1) start start
-stays_before blocks i d start n h a ne =
-    let end : end_of (get_or blocks i d) ≤ start = end_before blocks i d start h a in
-    record {
-      order = omega arith;
-      near = omega arith;
-      below = omega arith;
-      apart = apart_before blocks i d start n h (omega arith);
-      cover = λ page. ap (λ spans. covers spans page) (between_none blocks (i + 1)) ∙ holds-nothing start page;
-    }
+holds-from : (b : Span) (end page : ℕ) → b.start ≡ end → (holds b page || false) ≡ holds (span end (end_of b - end)) page
+holds-from b end page e = grind (arith, nat_tests)
+
+pub joins_after : (blocks : List Span) (i : ℕ) (b : Span) (end : ℕ) → AreSeparateFrom 0 blocks → slice_get blocks i ≡ Some b → b.start ≡ end → JoinsAfter blocks i (i + 1) end (end_of b)
+joins_after blocks i b end n at e = record {
+  order = omega arith;
+  near = omega arith;
+  within = omega (arith, slice_get_within blocks i b at);
+  above = omega arith;
+  apart = (separate-tail 0 (take i blocks) b (drop (i + 1) blocks) (subst (AreSeparateFrom 0) (split_at blocks i b at) n)).2;
+  cover = λ page. ap (λ spans. covers spans page) (range_of_one blocks i b at) ∙ holds-from b end page e;
+}
+
+-- no block begins there
+pub stays_after : (blocks : List Span) (i end : ℕ) → AreSeparateFrom 0 blocks → i ≤ length blocks → IfSome (slice_get blocks i) (λ (b : Span). end < b.start) → JoinsAfter blocks i i end end
+stays_after blocks i end n h later = record {
+  order = omega arith;
+  near = omega arith;
+  within = h;
+  above = omega arith;
+  apart = separate_from_next end blocks i n later;
+  cover = λ page. ap (λ spans. covers spans page) (between_none blocks i) ∙ holds-nothing end page;
+}
 
 -- Where a span goes that is in no block.
-
-holds-start : (s : Span) → 1 ≤ s.pages → holds s s.start ≡ true
-holds-start s some = grind (arith, nat_tests)
 
 end_from_start : (b s : Span) → holds b s.start ≡ false → b.start ≤ s.start → end_of b ≤ s.start
 end_from_start b s e h = grind (arith, nat_tests)
@@ -91,7 +111,7 @@ pub ends_up_to : (s : Span) (xs : List Span) → 1 ≤ s.pages → ((page : ℕ)
 ends_up_to s [] some free a = All-nil (λ (b : Span). end_of b ≤ s.start)
 ends_up_to s (x ∷ xs) some free a =
     All-cons (λ (b : Span). end_of b ≤ s.start) x xs
-    (end_from_start x s (or_parts _ _ (free s.start (holds-start s some))).0 (All-head (λ (b : Span). b.start ≤ s.start) x xs a))
+    (end_from_start x s (or_parts _ _ (free s.start (holds-first s some))).0 (All-head (λ (b : Span). b.start ≤ s.start) x xs a))
     (ends_up_to s xs some (λ page h. (or_parts _ _ (free page h)).1) (All-tail (λ (b : Span). b.start ≤ s.start) x xs a))
 
 pub free_of_front : (s : Span) (xs : List Span) (i : ℕ) → ((page : ℕ) → holds s page ≡ true → covers xs page ≡ false) → (page : ℕ) → holds s page ≡ true → covers (take i xs) page ≡ false
@@ -105,29 +125,25 @@ holds-later : (s : Span) (page : ℕ) → s.start < page → page < end_of s →
 holds-later s page low high = grind (arith, nat_tests)
 
 begins_behind : (s : Span) (xs : List Span) (b : Span) (ys : List Span) → AreSeparateFrom 0 (xs ++ b ∷ ys)
-    → ((page : ℕ) → holds s page ≡ true → covers (xs ++ b ∷ ys) page ≡ false) → s.start < b.start → AreSeparateFrom (end_of s) (b ∷ ys)
+    → ((page : ℕ) → holds s page ≡ true → covers (xs ++ b ∷ ys) page ≡ false) → s.start < b.start → end_of s ≤ b.start
 begins_behind s xs b ys n free later =
     let tail : AreSeparateFrom b.start (b ∷ ys) = separate-tail 0 xs b ys n in
     elim (cases_lt b.start (end_of s)) [
       | inl within ↦ absurd (both_ways (covers (xs ++ b ∷ ys) b.start) (free b.start (holds-later s b.start later within)) (covers-in xs b ys b.start (omega arith) (omega arith)))
-      | inr behind ↦ (behind, tail.1, tail.2)
+      | inr behind ↦ behind
     ]
 
-at_some : (xs : List Span) (i : ℕ) (d : Span) (P : Span → Type 0) → i < length xs → IfSome (slice_get xs i) P → P (get_or xs i d)
-at_some xs i d P h p = subst (λ o. IfSome o P) (slice_get-get_or xs i d h) p
+if_some : (o : Option Span) (P : Span → Type 0) → ((b : Span) → o ≡ Some b → P b) → IfSome o P
+if_some None P f = tt
+if_some (Some b) P f = f b refl
 
-pub separate_behind : (s : Span) (xs : List Span) (i : ℕ) → AreSeparateFrom 0 xs → ((page : ℕ) → holds s page ≡ true → covers xs page ≡ false)
-    → IfSome (slice_get xs i) (λ (b : Span). s.start < b.start) → AreSeparateFrom (end_of s) (drop i xs)
-separate_behind s xs i n free later =
-    elim (cases_lt i (length xs)) [
-      | inl h ↦
-          let b : Span = get_or xs i (span 0 0) in
-          let split : xs ≡ take i xs ++ (b ∷ drop (i + 1) xs) = split_at xs i (span 0 0) h in
-          subst (AreSeparateFrom (end_of s)) (sym (drop_more xs i (span 0 0) h))
-          (begins_behind s (take i xs) b (drop (i + 1) xs) (subst (AreSeparateFrom 0) split n)
-          (subst (λ spans. (page : ℕ) → holds s page ≡ true → covers spans page ≡ false) split free) (at_some xs i (span 0 0) (λ (b : Span). s.start < b.start) h later))
-      | inr h ↦ subst (AreSeparateFrom (end_of s)) (sym (drop_all i xs h)) tt
-    ]
+pub next_behind : (s : Span) (xs : List Span) (i : ℕ) → AreSeparateFrom 0 xs → ((page : ℕ) → holds s page ≡ true → covers xs page ≡ false)
+    → IfSome (slice_get xs i) (λ (b : Span). s.start < b.start) → IfSome (slice_get xs i) (λ (b : Span). end_of s ≤ b.start)
+next_behind s xs i n free later =
+    if_some (slice_get xs i) (λ (b : Span). end_of s ≤ b.start) (λ b at.
+    let split : xs ≡ take i xs ++ (b ∷ drop (i + 1) xs) = split_at xs i b at in
+    begins_behind s (take i xs) b (drop (i + 1) xs) (subst (AreSeparateFrom 0) split n) (subst (λ spans. (page : ℕ) → holds s page ≡ true → covers spans page ≡ false) split free)
+    (subst (λ o. IfSome o (λ (b : Span). s.start < b.start)) at later))
 
 -- The span joined on both sides.
 

@@ -1,5 +1,5 @@
 -- What a search among separate blocks finds, where one block parts them in two sides.
-use Rattle.std.proofs.Common.{◌≡◌, ℕ, suc, ◌+◌, ◌<◌, ◌≤◌, inl, inr, Bool, true, false, cond, if◌then◌else◌, nat_le, find, filter, List, [], ◌∷◌, ◌++◌, length, take, get_or, slice_get, get_or-take, length-take, Option, Some, None, All, IfSome, refl, ap, sym, ◌∙◌, subst, arith}
+use Rattle.std.proofs.Common.{◌≡◌, ℕ, zero, suc, ◌+◌, ◌<◌, ◌≤◌, inl, inr, Bool, true, false, cond, if◌then◌else◌, nat_le, find, filter, List, [], ◌∷◌, ◌++◌, length, take, get_or, slice_get, get_or-take, length-take, Option, Some, None, All, IfSome, refl, ap, sym, ◌∙◌, subst, arith}
 use Rattle.std.specs.Int.{next_multiple_of}
 use Rattle.std.specs.Option.{option_or}
 use Rattle.std.specs.List.{prefix_len}
@@ -18,10 +18,6 @@ use Rattle.augmented_tree.proofs.SeparateBlocks.{separate-tail, separate-take, c
 use Rattle.augmented_tree.proofs.FoundBlocks.{find_past, find_none, filter_none}
 use Rattle.augmented_tree.proofs.NodeNumbers.{largest-cons}
 
-prefix_all : {X : Type 0} (p : X → Bool) (xs : List X) → All (λ x. p x ≡ true) xs → prefix_len p xs ≡ length xs
-prefix_all p [] a = refl
-prefix_all p (x ∷ xs) a = ap (λ b. cond b (1 + prefix_len p xs) 0) (All-head (λ x. p x ≡ true) x xs a) ∙ (let rest = prefix_all p xs (All-tail (λ x. p x ≡ true) x xs a) in omega arith)
-
 ends_behind : (page low : ℕ) (xs : List Span) → AreSeparateFrom low xs → page < low → All (λ (x : Span). nat_le (end_of x) page ≡ false) xs
 ends_behind page low [] n h = All-nil (λ (x : Span). nat_le (end_of x) page ≡ false)
 ends_behind page low (x ∷ xs) n h =
@@ -36,6 +32,22 @@ last_of-append [] y [] = refl
 last_of-append [] y (z ∷ ys) = sym (last_of-some z y ys)
 last_of-append (x ∷ []) y ys = last_of-append [] y ys
 last_of-append (x ∷ w ∷ xs) y ys = last_of-append (w ∷ xs) y ys
+
+-- the last of some of the first elements, and the one behind them
+module _ {X : Type 0} where
+  take_past : (l : List X) (b : X) (r : List X) (i j : ℕ) → j ≡ length l + 1 + i → take j (l ++ b ∷ r) ≡ l ++ b ∷ take i r
+  take_past [] b r i j e = let next : j ≡ suc i = omega arith in ap (λ k. take k (b ∷ r)) next
+  take_past (x ∷ l) b r i zero e = absurd (omega arith)
+  take_past (x ∷ l) b r i (suc j) e = ap (λ xs. x ∷ xs) (take_past l b r i j (omega arith))
+
+  pub before_right : (l : List X) (b : X) (r : List X) (i j : ℕ) → j ≡ length l + 1 + i → option_or (last_of (take i r)) (Some b) ≡ last_of (take j (l ++ b ∷ r))
+  before_right l b r i j e = sym (ap last_of (take_past l b r i j e) ∙ last_of-append l b (take i r))
+
+  pub behind_left : (l : List X) (b : X) (r : List X) (i : ℕ) → i ≤ length l → option_or (slice_get l i) (Some b) ≡ slice_get (l ++ b ∷ r) i
+  behind_left [] b r zero h = refl
+  behind_left [] b r (suc i) h = absurd (omega arith)
+  behind_left (x ∷ l) b r zero h = refl
+  behind_left (x ∷ l) b r (suc i) h = behind_left l b r i (omega arith)
 
 module _ (l : List Span) (b : Span) (r : List Span) (n : AreSeparateFrom 0 (l ++ b ∷ r)) where
   pub separate_left : AreSeparateFrom 0 l
@@ -60,9 +72,6 @@ module _ (l : List Span) (b : Span) (r : List Span) (n : AreSeparateFrom 0 (l ++
     pub find_right : end_of b ≤ page → find (λ (s : Span). holds s page) r ≡ find (λ (s : Span). holds s page) (l ++ b ∷ r)
     find_right from =
         sym (find_past page l (b ∷ r) (covers-before 0 l b r page n (omega arith)) ∙ ap (λ t. cond t (Some b) (find (λ (s : Span). holds s page) r)) (holds-above b page from))
-
-    ends_by : Span → Bool
-    ends_by s = nat_le (end_of s) page
 
     pub last_left : page < end_of b → last_of (filter (λ (s : Span). nat_le (end_of s) page) l) ≡ last_of (filter (λ (s : Span). nat_le (end_of s) page) (l ++ b ∷ r))
     last_left h =

@@ -130,8 +130,11 @@ impl FreeSide {
         if span.pages == 0 {
             return;
         }
-        let index = self.blocks.blocks_up_to(span.start) - 1;
-        let block = self.blocks.get(index);
+        let near = self.blocks.neighbours(span.start);
+        let Some(block) = near.before else {
+            unreachable!();
+        };
+        let index = near.index - 1;
         cut_out(&mut self.blocks, &mut self.stock, index, block, span);
     }
 
