@@ -2,13 +2,12 @@
 //!
 //! The value of `HintedChunk` is that of its bits. An object is placed at the lowest fit of the plain bits, and none comes
 //! exactly where they have none, also where a fit spans pages or an alignment spoils the longest run. The hint of each page
-//! of bits and of the whole chunk is kept, and is that of the bits after every call, though `place` and `free` look again
-//! at no other page than the object's. `new` alone takes memory.
+//! of bits and of the whole chunk is kept, and is that of the bits after every call, though `place` and `free` look at no
+//! other page than the object's, and read that one anew only where its longest run is cut. `new` alone takes memory.
 //!
 //! - `HintedChunk::place`, `place_populated`, `free`: the place is the lowest fit of the plain bits, or of those in
 //!   the pages of a set, none comes exactly where they have none, and then nothing changes.
-//! - `hint`, `longest`: after each call they are the hints of the bits (`hint_of`), though just the pages that the
-//!   object touches are looked at again.
+//! - `hint`, `longest`: after each call they are the hints of the bits (`hint_of`), mended from those before.
 #![tactic(auto)]
 
 mod block_scan;
