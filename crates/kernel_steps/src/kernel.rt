@@ -178,9 +178,26 @@ impl Kernel {
             → moves_in w (slice_get w.locals caller) ≡ true) }
         ensures err { OnErr result (self.new ≡ self.old) }
     {
-        if !self.can_move(caller) {
-            return Ok(self.stands_still(caller));
+        if self.can_move(caller) {
+            self.advance(caller)
+        } else {
+            Ok(self.stands_still(caller))
         }
+    }
+
+    /// The same, without a look before whether the caller moves, as where it is known. There is room for the event first.
+    fn advance(&mut self, caller: u16) -> Result<Stepped, AllocError>
+        requires { caller < length self.old.locals }
+        ensures ok { OnOk result ((c : Setup) (opening : List Call) (calls : List (List Call))
+            (w : World) → IsStanding c opening calls w self.old
+            → IsStanding c opening calls (step w caller) self.new) }
+        ensures stepped { IfOk result
+            (λ stepped. (c : Setup) (opening : List Call) (calls : List (List Call)) (w : World)
+            → IsStanding c opening calls w self.old → IsSteppedAs w caller stepped) }
+        ensures unchanged { IfOk result (λ stepped. stepped ≢ Moved → self.new ≡ self.old) }
+        ensures callers { length self.new.locals ≡ length self.old.locals }
+        ensures err { OnErr result (self.new ≡ self.old) }
+    {
         self.moved.reserve(1)?;
         let stepped = section_of(&mut self.regions, &mut self.locals, caller as usize)?;
         match stepped {
@@ -254,7 +271,7 @@ impl Kernel {
             let Some(caller) = self.first_mover() else {
                 break;
             };
-            self.step(caller)?;
+            self.advance(caller)?;
         }
         Ok(())
     }

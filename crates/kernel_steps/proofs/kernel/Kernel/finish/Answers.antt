@@ -6,8 +6,8 @@ use Rattle.kernel_steps.proofs.WorldCallers.{over_there}
 use Rattle.kernel_steps.proofs.PickSteps.{finish_next}
 use Rattle.kernel_steps.proofs.kernel.Kernel.finish.Goals as goal
 
-pub step-requires : goal.step-requires
-step-requires c = subst (λ o. IfSome o (λ caller. caller < length c.loop.self.locals)) c.in-Some.is c.first_mover.ensures.within
+pub advance-requires : goal.advance-requires
+advance-requires c = subst (λ o. IfSome o (λ caller. caller < length c.loop.self.locals)) c.in-Some.is c.first_mover.ensures.within
 
 pub loop-init : goal.loop-init
 loop-init c = record {
@@ -17,13 +17,13 @@ loop-init c = record {
 
 pub loop-preserved : goal.loop-preserved
 loop-preserved c = record {
-  callers = c.step.ensures.callers ∙ c.loop.invariant.callers;
+  callers = c.advance.ensures.callers ∙ c.loop.invariant.callers;
   stands = λ setup opening calls w st.
       let is = c.loop.invariant.stands setup opening calls w st in
       let first : first_mover is.0 ≡ Some c.in-Some.caller = sym (c.first_mover.ensures.first setup opening calls is.0 is.1) ∙ c.in-Some.is in
       let left : 100000000 - c.loop.counter ≡ suc (100000000 - (c.loop.counter + 1)) = (let low = c.loop-test.true in omega arith) in (
         step is.0 c.in-Some.caller,
-        c.in_ok-step.ensures.ok setup opening calls is.0 is.1,
+        c.in_ok-advance.ensures.ok setup opening calls is.0 is.1,
         sym (finish_some (100000000 - (c.loop.counter + 1)) is.0 c.in-Some.caller first) ∙ ap (λ n. finish n is.0) (sym left) ∙ is.2,
         ap (λ v. step v c.in-Some.caller) is.3 ∙ sym (finish_next c.loop.counter w c.in-Some.caller (ap first_mover (sym is.3) ∙ first)),
       );

@@ -3,7 +3,7 @@ use Rattle.vm_model.specs.History.{step}
 use Rattle.section_core.specs.declared.region.Stepped.TheVariants.{Moved, Stays, Ended}
 use Rattle.kernel_steps.specs.Kernels.{KernelState, IsStanding}
 use Rattle.kernel_steps.proofs.SectionsMade.{stands_after, stepped_there, as_many, unchanged_after}
-use Rattle.kernel_steps.proofs.kernel.Kernel.step.Goals as goal
+use Rattle.kernel_steps.proofs.kernel.Kernel.advance.Goals as goal
 
 pub invariant_of-self-in-Moved : goal.invariant_of-self-in-Moved
 invariant_of-self-in-Moved c = let is = c.self.invariant in (
@@ -59,6 +59,5 @@ returns-in-Stays c = record {
       as_many c.self.inside.regions c.self.inside.locals c.self.inside.moved c.reserve.new.self c.args.caller c.in_ok-stepped.stepped
       c.deref_mut.result.now c.section_of.new.regions c.deref_mut-2.result.now c.section_of.new.locals c.deref_mut.ensures.value c.deref_mut-2.ensures.value c.in_ok-stepped.ensures.ok
       ∙ ap (λ (k : KernelState). length k.locals) c.self.view_is;
-  memory = tt;
   err = tt;
 }
