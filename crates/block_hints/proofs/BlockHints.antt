@@ -15,7 +15,7 @@ hint_at bits blocks block default are h = are block (get_or blocks block default
 
 -- where no block is
 abbrev pub no_block : Block
-no_block = record { hint = record { run_start = 0; run = 0; left = 0; right = 0; first = 0 }; scan = 0 }
+no_block = record { hint = record { run_start = 0; run = 0; left = 0; right = 0; first = 0 }; before = 0; behind = 0 }
 
 -- the block in which a place lies
 pub block_from : (bits : List Bool) (blocks : List Block) (at : ℕ) → AreHints bits blocks → at < 1024 * length blocks → IsBlockIn bits (at / 1024 * 1024) (at / 1024 * 1024 + 1024) (get_or blocks (at / 1024) no_block)

@@ -1,6 +1,6 @@
 -- The hint once free bits that are apart from the longest run are taken.
-use Rattle.std.proofs.Common.{◌≡◌, ◌≢◌, ℕ, suc, ◌+◌, ◌-◌, ◌<◌, ◌≤◌, ◌⊎◌, inl, inr, Bool, true, false, ◌&&◌, nat_lt, if◌then◌else◌, List, drop, Some, option_map, refl, ap, sym, ◌∙◌, arith}
-use Rattle.std.proofs.lemmas.Bool.{cases_lt}
+use Rattle.std.proofs.Common.{◌≡◌, ◌≢◌, ℕ, suc, ◌+◌, ◌-◌, ◌<◌, ◌≤◌, ◌⊎◌, inl, inr, Bool, true, false, ◌&&◌, nat_lt, if◌then◌else◌, List, drop, Some, option_map, refl, ap, sym, ◌∙◌, subst, arith}
+use Rattle.std.proofs.lemmas.Bool.{cases_lt, cases_eq}
 use Rattle.std.proofs.lemmas.Bool.Decides.{nat_tests}
 use Rattle.vm_model.specs.declared.rows.Hint.{Hint}
 use Rattle.vm_model.specs.Space.{span, holds, paint, is_free_at, begins_free}
@@ -38,7 +38,7 @@ painted_taken bits at count some free =
 
 -- What stays.
 
-still_free : (old now : List Bool) (at count place : ℕ) → AreTakenNow old now at count → is_free_at now place ≡ true → is_free_at old place ≡ true
+pub still_free : (old now : List Bool) (at count place : ℕ) → AreTakenNow old now at count → is_free_at now place ≡ true → is_free_at old place ≡ true
 still_free old now at count place are free = by_cases (cases_lt place at) (cases_lt place (at + count))
   where
     by_cases : (place < at) ⊎ (at ≤ place) → (place < at + count) ⊎ (at + count ≤ place) → is_free_at old place ≡ true
@@ -54,7 +54,7 @@ still_taken old now at count place are taken = by_cases (cases_lt place at) (cas
     by_cases (inr from) (inl to) = are.are_taken place from to
     by_cases (inr from) (inr past) = are.behind place past ∙ taken
 
-run_stays : (old now : List Bool) (low high at count start pages : ℕ) → AreTakenNow old now at count → (start + pages ≤ at) ⊎ (at + count ≤ start) → IsLongestIn old low high (span start pages) → IsLongestIn now low high (span start pages)
+pub run_stays : (old now : List Bool) (low high at count start pages : ℕ) → AreTakenNow old now at count → (start + pages ≤ at) ⊎ (at + count ≤ start) → IsLongestIn old low high (span start pages) → IsLongestIn now low high (span start pages)
 run_stays old now low high at count start pages are apart is = record {
   free = λ place a b. free_by place a b apart;
   after = is.after;
@@ -107,7 +107,7 @@ right_stays old now low high at count n h are placed is e =
     })
 
 -- the first free place, by a search where the one before is taken
-pub first_behind : (old now : List Bool) (low high at count first : ℕ) (h : Hint) → AreTakenNow old now at count → IsPlaced low high at count → IsHintIn old low high h → at ≡ low + h.first → IsNextBit old false (at + count) high first
+first_behind : (old now : List Bool) (low high at count first : ℕ) (h : Hint) → AreTakenNow old now at count → IsPlaced low high at count → IsHintIn old low high h → at ≡ low + h.first → IsNextBit old false (at + count) high first
     → IsFirst now low high (first - low)
 first_behind old now low high at count first h are placed is same next =
     let after = next.after in let from = placed.after in
@@ -122,7 +122,7 @@ first_behind old now low high at count first h are placed is same next =
     taken_by place a b (inr from) (inl to) = are.are_taken place from to
     taken_by place a b (inr from) (inr past) = are.behind place past ∙ taken_read old place (next.others place past b)
 
-pub first_stays : (old now : List Bool) (low high at count : ℕ) (h : Hint) → AreTakenNow old now at count → IsPlaced low high at count → IsHintIn old low high h → at ≢ low + h.first → IsFirst now low high h.first
+first_stays : (old now : List Bool) (low high at count : ℕ) (h : Hint) → AreTakenNow old now at count → IsPlaced low high at count → IsHintIn old low high h → at ≢ low + h.first → IsFirst now low high h.first
 first_stays old now low high at count h are placed is apart = record {
   within = is.first_within;
   taken = λ place a b. still_taken old now at count place are (is.first_taken place a b);
@@ -146,14 +146,15 @@ not_cut at end start run_end h = by_cases (cases_lt at run_end) (cases_lt start 
     by_cases (inl one) (inr past) = inr past
     by_cases (inl one) (inl two) = let both : (nat_lt at run_end && nat_lt start end) ≡ true = grind (arith, nat_tests) in cc
 
-pub around_taken : (old now : List Bool) (low high at count first : ℕ) (h : Hint) → AreTakenNow old now at count → IsPlaced low high at count → (low + h.run_start + h.run ≤ at) ⊎ (at + count ≤ low + h.run_start) → IsHintIn old low high h → IsFirst now low high first
-    → IsHintIn now low high (hint_around (high - low) (at - low) (at + count - low) first h)
-around_taken old now low high at count first h are placed apart is begins =
+-- the hint, whose longest run is told
+pub ends_taken : (old now : List Bool) (low high at count first start pages : ℕ) (h : Hint) → AreTakenNow old now at count → IsPlaced low high at count → IsLongestIn now low high (span (low + start) pages) → IsHintIn old low high h → IsFirst now low high first
+    → IsHintIn now low high (record (hint_around (high - low) (at - low) (at + count - low) first h) { run_start = start; run = pages })
+ends_taken old now low high at count first start pages h are placed run is begins =
     let after = placed.after in let within = placed.within in
     let left = left_stays old now low high at count h are placed is in
     let right = right_stays old now low high at count (high - low - (at + count - low)) h are placed is (omega arith) in
     record {
-      run = run_stays old now low high at count (low + h.run_start) h.run are apart is.run;
+      run = run;
       left_within = left.within;
       left_free = left.free;
       left_end = left.end;
@@ -164,3 +165,17 @@ around_taken old now low high at count first h are placed apart is begins =
       first_taken = begins.taken;
       first_free = begins.end;
     }
+
+pub around_taken : (old now : List Bool) (low high at count first : ℕ) (h : Hint) → AreTakenNow old now at count → IsPlaced low high at count → (low + h.run_start + h.run ≤ at) ⊎ (at + count ≤ low + h.run_start) → IsHintIn old low high h → IsFirst now low high first
+    → IsHintIn now low high (hint_around (high - low) (at - low) (at + count - low) first h)
+around_taken old now low high at count first h are placed apart is begins =
+    ends_taken old now low high at count first h.run_start h.run h are placed (run_stays old now low high at count (low + h.run_start) h.run are apart is.run) is begins
+
+-- the first free place
+pub first_taken : (old now : List Bool) (low high at count first : ℕ) (h : Hint) → AreTakenNow old now at count → IsPlaced low high at count → IsHintIn old low high h
+    → (at ≢ low + h.first → first ≡ h.first) → (at ≡ low + h.first → (next : ℕ) × IsNextBit old false (at + count) high next × (first ≡ next - low)) → IsFirst now low high first
+first_taken old now low high at count first h are placed is other next = by_cases (cases_eq at (low + h.first))
+  where
+    by_cases : (at ≡ low + h.first) ⊎ (at ≢ low + h.first) → IsFirst now low high first
+    by_cases (inl same) = let n = next same in subst (IsFirst now low high) (sym n.2) (first_behind old now low high at count n.0 h are placed is same n.1)
+    by_cases (inr apart) = subst (IsFirst now low high) (sym (other apart)) (first_stays old now low high at count h are placed is apart)

@@ -10,7 +10,7 @@ use Rattle.vm_model.proofs.Paint.{slice_get-paint}
 use Rattle.vm_model.proofs.Scans.{free_read}
 use Rattle.block_hints.specs.declared.block_scan.Block.{Block}
 use Rattle.block_hints.specs.KeptHints.{IsBoundIn, IsBlockIn}
-use Rattle.block_hints.specs.Freed.{IsRunAround, is_longer, hint_with_run, scan_with_run}
+use Rattle.block_hints.specs.Freed.{IsRunAround, is_longer, hint_with_run, before_with_run, behind_with_run}
 use Rattle.block_hints.proofs.Borders.{IsLeft, IsRight, IsFirst, choose}
 use Rattle.block_hints.proofs.KeptHintProofs.{alike_apart}
 
@@ -210,41 +210,94 @@ before_run : (old now : List Bool) (low high at count start stop end most : ℕ)
 before_run old now low high at count start stop end most are run order is from pages low_is inside some free =
     is from pages low_is inside some (was_free old now low high at count start stop from pages are run (inl (omega arith)) free)
 
-scan_longer : (old now : List Bool) (low high at count start stop : ℕ) (b : Block) → AreFreeNow old now at count → IsRunAround now low high at (at + count) start stop → IsBlockIn old low high b
-    → IsBoundIn now low (low + (start - low)) (if nat_lt b.hint.run_start (start - low) then b.hint.run else b.scan)
-scan_longer old now low high at count start stop b are run is =
+before_longer : (old now : List Bool) (low high at count start stop : ℕ) (b : Block) → AreFreeNow old now at count → IsRunAround now low high at (at + count) start stop → IsBlockIn old low high b
+    → IsBoundIn now low (low + (start - low)) (if nat_lt b.hint.run_start (start - low) then b.hint.run else b.before)
+before_longer old now low high at count start stop b are run is =
     let after = run.after in let before = run.before in let behind = run.behind in let within = run.within in
-    choose (IsBoundIn now low (low + (start - low))) b.hint.run_start (start - low) b.hint.run b.scan
+    choose (IsBoundIn now low (low + (start - low))) b.hint.run_start (start - low) b.hint.run b.before
     (λ less. before_run old now low high at count start stop (low + (start - low)) b.hint.run are run (omega arith) (λ from pages low_is inside some free. (is.hint.run.longest from pages low_is (omega arith) some free).0))
-    (λ more. before_run old now low high at count start stop (low + (start - low)) b.scan are run (omega arith) (λ from pages low_is inside some free. is.scan from pages low_is (omega arith) some free))
+    (λ more. before_run old now low high at count start stop (low + (start - low)) b.before are run (omega arith) (λ from pages low_is inside some free. is.before from pages low_is (omega arith) some free))
 
-scan_shorter : (old now : List Bool) (low high at count start stop n : ℕ) (b : Block) → AreFreeNow old now at count → IsRunAround now low high at (at + count) start stop → n ≡ stop - start → IsBlockIn old low high b
-    → IsBoundIn now low (low + b.hint.run_start) (if nat_lt (start - low) b.hint.run_start then max n b.scan else b.scan)
-scan_shorter old now low high at count start stop n b are run long is =
+before_shorter : (old now : List Bool) (low high at count start stop n : ℕ) (b : Block) → AreFreeNow old now at count → IsRunAround now low high at (at + count) start stop → n ≡ stop - start → IsBlockIn old low high b
+    → IsBoundIn now low (low + b.hint.run_start) (if nat_lt (start - low) b.hint.run_start then max n b.before else b.before)
+before_shorter old now low high at count start stop n b are run long is =
     let after = run.after in let run_end = is.hint.run.within in
-    choose (IsBoundIn now low (low + b.hint.run_start)) (start - low) b.hint.run_start (max n b.scan) b.scan
+    choose (IsBoundIn now low (low + b.hint.run_start)) (start - low) b.hint.run_start (max n b.before) b.before
     (λ less. λ from pages low_is inside some free. by_cases from pages low_is inside some free (inside_or_apart now low high at (at + count) start stop from pages run low_is (omega arith) some free))
-    (λ more. before_run old now low high at count start stop (low + b.hint.run_start) b.scan are run (omega arith) is.scan)
+    (λ more. before_run old now low high at count start stop (low + b.hint.run_start) b.before are run (omega arith) is.before)
   where
-    by_cases : (from pages : ℕ) → low ≤ from → from + pages ≤ low + b.hint.run_start → 0 < pages → IsFreeSpan now (span from pages) → ((start ≤ from) × (from + pages ≤ stop)) ⊎ ((from + pages ≤ start) ⊎ (stop ≤ from)) → pages ≤ max n b.scan
+    by_cases : (from pages : ℕ) → low ≤ from → from + pages ≤ low + b.hint.run_start → 0 < pages → IsFreeSpan now (span from pages) → ((start ≤ from) × (from + pages ≤ stop)) ⊎ ((from + pages ≤ start) ⊎ (stop ≤ from)) → pages ≤ max n b.before
     by_cases from pages low_is inside some free (inl within) = omega (arith, within.0, within.1)
-    by_cases from pages low_is inside some free (inr apart) = omega (arith, is.scan from pages low_is inside some (was_free old now low high at count start stop from pages are run apart free))
+    by_cases from pages low_is inside some free (inr apart) = omega (arith, is.before from pages low_is inside some (was_free old now low high at count start stop from pages are run apart free))
 
-scan_with : (old now : List Bool) (low high at count start stop n : ℕ) (b : Block) (longer : Bool) → AreFreeNow old now at count → IsRunAround now low high at (at + count) start stop → n ≡ stop - start → IsBlockIn old low high b
-    → IsBoundIn now low (low + (if longer then start - low else b.hint.run_start))
-    (if longer then (if nat_lt b.hint.run_start (start - low) then b.hint.run else b.scan) else (if nat_lt (start - low) b.hint.run_start then max n b.scan else b.scan))
-scan_with old now low high at count start stop n b true are run long is = scan_longer old now low high at count start stop b are run is
-scan_with old now low high at count start stop n b false are run long is = scan_shorter old now low high at count start stop n b are run long is
+-- And behind it.
+
+behind_run : (old now : List Bool) (low high at count start stop begin most : ℕ) → AreFreeNow old now at count → IsRunAround now low high at (at + count) start stop → stop ≤ begin → IsBoundIn old begin high most → IsBoundIn now begin high most
+behind_run old now low high at count start stop begin most are run order is from pages after inside some free =
+    is from pages after inside some (was_free old now low high at count start stop from pages are run (inr (omega arith)) free)
+
+behind_longer : (old now : List Bool) (low high at count start stop n : ℕ) (b : Block) → AreFreeNow old now at count → IsRunAround now low high at (at + count) start stop → n ≡ stop - start → IsBlockIn old low high b
+    → IsBoundIn now (low + (start - low) + n) high (if nat_lt (stop - low) b.hint.run_start then b.hint.run else b.behind)
+behind_longer old now low high at count start stop n b are run long is =
+    let after = run.after in let before = run.before in let behind = run.behind in let within = run.within in
+    choose (IsBoundIn now (low + (start - low) + n) high) (stop - low) b.hint.run_start b.hint.run b.behind
+    (λ less. behind_run old now low high at count start stop (low + (start - low) + n) b.hint.run are run (omega arith) (λ from pages past inside some free. (is.hint.run.longest from pages (omega arith) inside some free).0))
+    (λ more. behind_run old now low high at count start stop (low + (start - low) + n) b.behind are run (omega arith) (λ from pages past inside some free. is.behind from pages (let end = past_longest more (cases_lt stop (low + b.hint.run_start + b.hint.run)) in omega arith) inside some free))
+  where
+    past_longest : b.hint.run_start ≤ stop - low → (stop < low + b.hint.run_start + b.hint.run) ⊎ (low + b.hint.run_start + b.hint.run ≤ stop) → low + b.hint.run_start + b.hint.run ≤ stop
+    past_longest more (inr past) = past
+    past_longest more (inl inside) =
+        let after = run.after in let before = run.before in let behind = run.behind in let within = is.hint.run.within in
+        let taken = run.right (omega arith) in let free = still_free old now at count stop are (is.hint.run.free stop (omega arith) inside) in cc
+
+behind_shorter : (old now : List Bool) (low high at count start stop n : ℕ) (b : Block) → AreFreeNow old now at count → IsRunAround now low high at (at + count) start stop → n ≡ stop - start → n ≤ b.hint.run → IsBlockIn old low high b
+    → IsBoundIn now (low + b.hint.run_start + b.hint.run) high (if nat_lt (start - low) b.hint.run_start then b.behind else max n b.behind)
+behind_shorter old now low high at count start stop n b are run long short is =
+    let after = run.after in
+    choose (IsBoundIn now (low + b.hint.run_start + b.hint.run) high) (start - low) b.hint.run_start b.behind (max n b.behind)
+    (λ less. λ from pages past inside some free. apart_by less from pages past inside some free (inside_or_apart now low high at (at + count) start stop from pages run (omega arith) inside some free))
+    (λ more. λ from pages past inside some free. by_cases from pages past inside some free (inside_or_apart now low high at (at + count) start stop from pages run (omega arith) inside some free))
+  where
+    by_cases : (from pages : ℕ) → low + b.hint.run_start + b.hint.run ≤ from → from + pages ≤ high → 0 < pages → IsFreeSpan now (span from pages) → ((start ≤ from) × (from + pages ≤ stop)) ⊎ ((from + pages ≤ start) ⊎ (stop ≤ from)) → pages ≤ max n b.behind
+    by_cases from pages past inside some free (inl within) = omega (arith, within.0, within.1)
+    by_cases from pages past inside some free (inr apart) = omega (arith, is.behind from pages past inside some (was_free old now low high at count start stop from pages are run apart free))
+
+    apart_by : start - low < b.hint.run_start → (from pages : ℕ) → low + b.hint.run_start + b.hint.run ≤ from → from + pages ≤ high → 0 < pages → IsFreeSpan now (span from pages) → ((start ≤ from) × (from + pages ≤ stop)) ⊎ ((from + pages ≤ start) ⊎ (stop ≤ from)) → pages ≤ b.behind
+    apart_by less from pages past inside some free (inl within) = absurd (omega (arith, within.1))
+    apart_by less from pages past inside some free (inr apart) = is.behind from pages past inside some (was_free old now low high at count start stop from pages are run apart free)
+
+bounds_with : (old now : List Bool) (low high at count start stop n : ℕ) (b : Block) (longer : Bool) → AreFreeNow old now at count → IsRunAround now low high at (at + count) start stop → n ≡ stop - start → is_longer (start - low) n b.hint ≡ longer → IsBlockIn old low high b
+    → (IsBoundIn now low (low + (if longer then start - low else b.hint.run_start))
+    (if longer then (if nat_lt b.hint.run_start (start - low) then b.hint.run else b.before) else (if nat_lt (start - low) b.hint.run_start then max n b.before else b.before)))
+    × (IsBoundIn now (low + (if longer then start - low else b.hint.run_start) + max n b.hint.run) high
+    (if longer then (if nat_lt (stop - low) b.hint.run_start then b.hint.run else b.behind) else (if nat_lt (start - low) b.hint.run_start then b.behind else max n b.behind)))
+bounds_with old now low high at count start stop n b true are run long e is =
+    let longer = longer_true (start - low) n b.hint e in
+    let most : n ≡ max n b.hint.run = omega (arith, longer.0) in (
+      before_longer old now low high at count start stop b are run is,
+      subst (λ k. IsBoundIn now (low + (start - low) + k) high (if nat_lt (stop - low) b.hint.run_start then b.hint.run else b.behind)) most (behind_longer old now low high at count start stop n b are run long is),
+    )
+bounds_with old now low high at count start stop n b false are run long e is =
+    let shorter = longer_false (start - low) n b.hint e in
+    let most : b.hint.run ≡ max n b.hint.run = omega (arith, shorter.0) in (
+      before_shorter old now low high at count start stop n b are run long is,
+      subst (λ k. IsBoundIn now (low + b.hint.run_start + k) high (if nat_lt (start - low) b.hint.run_start then b.behind else max n b.behind)) most (behind_shorter old now low high at count start stop n b are run long shorter.0 is),
+    )
 
 -- what is kept of a block
+abbrev pub block_with_run : (bits at start stop : ℕ) → Block → Block
+block_with_run bits at start stop b = record { hint = hint_with_run bits at start stop b.hint; before = before_with_run start stop b; behind = behind_with_run start stop b }
+
 pub freed_block : (old now : List Bool) (low high at count start stop : ℕ) (b : Block) → AreFreeNow old now at count → IsRunAround now low high at (at + count) start stop → IsBlockIn old low high b
-    → IsBlockIn now low high (record { hint = hint_with_run (high - low) (at - low) (start - low) (stop - low) b.hint; scan = scan_with_run (start - low) (stop - low) b })
+    → IsBlockIn now low high (block_with_run (high - low) (at - low) (start - low) (stop - low) b)
 freed_block old now low high at count start stop b are run is =
     let after = run.after in let before = run.before in let behind = run.behind in
     let n = stop - low - (start - low) in
+    let bounds = bounds_with old now low high at count start stop n b (is_longer (start - low) n b.hint) are run (omega arith) refl is in
     record {
       hint = freed_hint old now low high at count start stop b.hint are run is.hint;
-      scan = scan_with old now low high at count start stop n b (is_longer (start - low) n b.hint) are run (omega arith) is;
+      before = bounds.0;
+      behind = bounds.1;
     }
 
 -- a run of a block that has no more of it in another one

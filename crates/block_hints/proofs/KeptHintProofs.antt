@@ -120,7 +120,7 @@ abbrev free_hint : Hint
 free_hint = record { run_start = 0; run = 1024; left = 1024; right = 1024; first = 0 }
 
 abbrev pub free_block : Block
-free_block = record { hint = free_hint; scan = 0 }
+free_block = record { hint = free_hint; before = 0; behind = 0 }
 
 all_free_hint : (bits : List Bool) (low : ℕ) → ((place : ℕ) → low ≤ place → place < low + 1024 → is_free_at bits place ≡ true) → IsHintIn bits low (low + 1024) free_hint
 all_free_hint bits low free = record {
@@ -154,7 +154,8 @@ free_hints pages block h e =
     let bits = taken_bits (empty_chunk (1024 * pages)) in
     subst (IsBlockIn bits (1024 * block) (1024 * block + 1024)) r.0 (record {
       hint = all_free_hint bits (1024 * block) (λ place a b. is_free-taken_by [] (1024 * pages) place (omega arith));
-      scan = λ start pages after within some are. absurd (omega arith);
+      before = λ start pages after within some are. absurd (omega arith);
+      behind = λ start pages after within some are. absurd (omega arith);
     })
 
 -- A list that was lent as a slice.

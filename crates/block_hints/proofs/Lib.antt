@@ -5,4 +5,5 @@ pub mod LowestFit
 pub mod Blocked
 pub mod KeptHintProofs
 pub mod HintsAround
+pub mod HintsCut
 pub mod HintsFreed

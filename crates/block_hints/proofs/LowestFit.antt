@@ -158,7 +158,8 @@ block_alike bits other low high b alike is =
     let within = is.hint.run.within in
     record {
       hint = hint_alike bits other low high b.hint alike is.hint;
-      scan = λ start pages after end some are. is.scan start pages after end some (λ place a c. sym (alike place (omega arith) (omega arith)) ∙ are place a c);
+      before = λ start pages after end some are. is.before start pages after end some (λ place a c. sym (alike place (omega arith) (omega arith)) ∙ are place a c);
+      behind = λ start pages after end some are. is.behind start pages after end some (λ place a c. sym (alike place (omega arith) (omega arith)) ∙ are place a c);
     }
 
 -- How far a search has come: what fits begins at a place or later, where the free places before the next block begin, and does not end before that block.
@@ -295,21 +296,21 @@ before_run bits low high s is some h =
     either free place a b (inl below) = let same : place ≡ s.start - 1 = omega arith in ap (is_free_at bits) same ∙ free
     either free place a b (inr past) = is.free place past (omega arith)
 
-too_early : (bits : List Bool) (n k low start : ℕ) (b : Block) → 1 ≤ n → IsBlockIn bits low (low + 1024) b → b.scan < n → n ≤ b.hint.run → low ≤ start → start < low + b.hint.run_start → (start + n ≤ low + b.hint.run_start) ⊎ (low + b.hint.run_start < start + n) → fits bits n k start ≡ false
+too_early : (bits : List Bool) (n k low start : ℕ) (b : Block) → 1 ≤ n → IsBlockIn bits low (low + 1024) b → b.before < n → n ≤ b.hint.run → low ≤ start → start < low + b.hint.run_start → (start + n ≤ low + b.hint.run_start) ⊎ (low + b.hint.run_start < start + n) → fits bits n k start ≡ false
 too_early bits n k low start b some is short long from before (inl within) =
-    not_true (fits bits n k start) (λ e. (let are = (free_of_fits bits n k start some e).1 in let most = is.scan start n from within some are in absurd (omega arith)))
+    not_true (fits bits n k start) (λ e. (let are = (free_of_fits bits n k start some e).1 in let most = is.before start n from within some are in absurd (omega arith)))
 too_early bits n k low start b some is short long from before (inr over) =
     fits_taken bits n k start (low + b.hint.run_start - 1) some (omega arith) (omega arith) (before_run bits low (low + 1024) (span (low + b.hint.run_start) b.hint.run) is.hint.run (omega arith) (omega arith))
 
 abbrev pub skip_of : ℕ → Block → ℕ
-skip_of n b = if nat_le n b.scan then b.hint.left else max b.hint.left b.hint.run_start
+skip_of n b = if nat_le n b.before then b.hint.left else max b.hint.left b.hint.run_start
 
-skip_by : (n : ℕ) (b : Block) → (P : ℕ → Type 0) → (n ≤ b.scan → P b.hint.left) → (b.scan < n → P (max b.hint.left b.hint.run_start)) → P (skip_of n b)
-skip_by n b P f g = by_cases (cases_lt b.scan n)
+skip_by : (n : ℕ) (b : Block) → (P : ℕ → Type 0) → (n ≤ b.before → P b.hint.left) → (b.before < n → P (max b.hint.left b.hint.run_start)) → P (skip_of n b)
+skip_by n b P f g = by_cases (cases_lt b.before n)
   where
-    by_cases : (b.scan < n) ⊎ (n ≤ b.scan) → P (skip_of n b)
-    by_cases (inl h) = let e : nat_le n b.scan ≡ false = grind (arith, nat_tests) in subst (λ t. P (if t then b.hint.left else max b.hint.left b.hint.run_start)) (sym e) (g h)
-    by_cases (inr h) = let e : nat_le n b.scan ≡ true = grind (arith, nat_tests) in subst (λ t. P (if t then b.hint.left else max b.hint.left b.hint.run_start)) (sym e) (f h)
+    by_cases : (b.before < n) ⊎ (n ≤ b.before) → P (skip_of n b)
+    by_cases (inl h) = let e : nat_le n b.before ≡ false = grind (arith, nat_tests) in subst (λ t. P (if t then b.hint.left else max b.hint.left b.hint.run_start)) (sym e) (g h)
+    by_cases (inr h) = let e : nat_le n b.before ≡ true = grind (arith, nat_tests) in subst (λ t. P (if t then b.hint.left else max b.hint.left b.hint.run_start)) (sym e) (f h)
 
 -- what is passed over lies between the front and the end, and nothing that begins there fits
 pub record IsSkip (bits : List Bool) (n k low left skip : ℕ) : Type 0 where

@@ -31,9 +31,14 @@ hint_with_run bits at start stop h = record {
 }
 
 -- how long the runs before the longest one are at most then
-abbrev pub scan_with_run : (start stop : ℕ) → Block → ℕ
-scan_with_run start stop b =
-    if is_longer start (stop - start) b.hint then (if nat_lt b.hint.run_start start then b.hint.run else b.scan) else (if nat_lt start b.hint.run_start then max (stop - start) b.scan else b.scan)
+abbrev pub before_with_run : (start stop : ℕ) → Block → ℕ
+before_with_run start stop b =
+    if is_longer start (stop - start) b.hint then (if nat_lt b.hint.run_start start then b.hint.run else b.before) else (if nat_lt start b.hint.run_start then max (stop - start) b.before else b.before)
+
+-- and those behind it
+abbrev pub behind_with_run : (start stop : ℕ) → Block → ℕ
+behind_with_run start stop b =
+    if is_longer start (stop - start) b.hint then (if nat_lt stop b.hint.run_start then b.hint.run else b.behind) else (if nat_lt start b.hint.run_start then b.behind else max (stop - start) b.behind)
 
 -- before so many places were freed these were the hints of the blocks and of all so many bits
 pub record AreHintsBefore (now : List Bool) (bits : ℕ) (blocks : List Block) (chunk : Hint) (at count : ℕ) : Type 0 where

@@ -12,7 +12,9 @@ pub(crate) struct Block {
     /// The longest run, and what is free and taken at the ends.
     pub(crate) hint: Hint,
     /// How many bits a run before that one has at most: `scan_hint`. A longer object fits at the longest run at the earliest.
-    pub(crate) scan: u32,
+    pub(crate) before: u32,
+    /// The same of the runs behind that one.
+    pub(crate) behind: u32,
 }
 
 /// What is to be kept of a block. It takes time for each run of the block and each word of it.
@@ -25,7 +27,8 @@ pub(crate) fn scan_block(bits: &ChunkBits, block: u32) -> Block
     let high = low + BLOCK_BITS;
     let mut run_start = low;
     let mut run = 0;
-    let mut scan = 0;
+    let mut before = 0;
+    let mut behind = 0;
     let mut right = 0;
     let first = bits.find_next(false, low, high);
     let mut place = first;
@@ -33,9 +36,12 @@ pub(crate) fn scan_block(bits: &ChunkBits, block: u32) -> Block
         let start = bits.find_next(false, place, high);
         let end = bits.find_next(true, start, high);
         if end - start > run {
-            scan = run;
+            before = run;
+            behind = 0;
             run_start = start;
             run = end - start;
+        } else {
+            behind = behind.max(end - start);
         }
         right = if end < high { 0 } else { end - start };
         place = end + 1;
@@ -47,5 +53,9 @@ pub(crate) fn scan_block(bits: &ChunkBits, block: u32) -> Block
         right,
         first: first - low,
     };
-    Block { hint, scan }
+    Block {
+        hint,
+        before,
+        behind,
+    }
 }

@@ -5,7 +5,7 @@ ghost use Rattle.vm_model.specs.Space.{is_free_at};
 ghost use Rattle.vm_model.specs.Hints.{IsHintIn};
 ghost use Rattle.chunk_bitmaps.specs.ChunkMap.{taken_bits};
 ghost use Rattle.block_hints.specs.KeptHints.{IsBlockOf};
-ghost use Rattle.block_hints.specs.Freed.{is_longer, hint_with_run, scan_with_run, IsRunAround, AreHintsBefore};
+ghost use Rattle.block_hints.specs.Freed.{is_longer, hint_with_run, before_with_run, behind_with_run, IsRunAround, AreHintsBefore};
 
 use crate::block_scan::Block;
 use crate::mends::Mended;
@@ -64,21 +64,40 @@ fn with_run(hint: Hint, bits: u32, at: u32, run: Run) -> Hint
 }
 
 /// The bits that a run before the longest one has at most, once there is one more run.
-fn scan_with(block: Block, run: Run) -> u32
+fn before_with(block: Block, run: Run) -> u32
     requires { run.start ≤ run.end }
-    ensures { result ≡ scan_with_run run.start run.end block }
+    ensures { result ≡ before_with_run run.start run.end block }
 {
     let count = run.end - run.start;
     if is_longest(block.hint, run) {
         if block.hint.run_start < run.start {
             block.hint.run
         } else {
-            block.scan
+            block.before
         }
     } else if run.start < block.hint.run_start {
-        count.max(block.scan)
+        count.max(block.before)
     } else {
-        block.scan
+        block.before
+    }
+}
+
+/// The same of a run behind the longest one.
+fn behind_with(block: Block, run: Run) -> u32
+    requires { run.start ≤ run.end }
+    ensures { result ≡ behind_with_run run.start run.end block }
+{
+    let count = run.end - run.start;
+    if is_longest(block.hint, run) {
+        if run.end < block.hint.run_start {
+            block.hint.run
+        } else {
+            block.behind
+        }
+    } else if run.start < block.hint.run_start {
+        block.behind
+    } else {
+        count.max(block.behind)
     }
 }
 
@@ -89,7 +108,8 @@ fn block_with_run(block: Block, low: u32, at: u32, run: Run) -> Block
     requires at { low ≤ at }
     ensures hint { result.hint
         ≡ hint_with_run 1024 (at - low) (run.start - low) (run.end - low) block.hint }
-    ensures scan { result.scan ≡ scan_with_run (run.start - low) (run.end - low) block }
+    ensures before { result.before ≡ before_with_run (run.start - low) (run.end - low) block }
+    ensures behind { result.behind ≡ behind_with_run (run.start - low) (run.end - low) block }
 {
     let inside = Run {
         start: run.start - low,
@@ -97,7 +117,8 @@ fn block_with_run(block: Block, low: u32, at: u32, run: Run) -> Block
     };
     Block {
         hint: with_run(block.hint, BLOCK_BITS, at - low, inside),
-        scan: scan_with(block, inside),
+        before: before_with(block, inside),
+        behind: behind_with(block, inside),
     }
 }
 

@@ -53,7 +53,11 @@ impl HintedChunk {
             right: BLOCK_BITS,
             first: 0,
         };
-        let free = Block { hint, scan: 0 };
+        let free = Block {
+            hint,
+            before: 0,
+            behind: 0,
+        };
         let blocks = vec![in alloc; free; pages as usize]?;
         let chunk = joined_all(&bits, &blocks);
         Ok(HintedChunk {

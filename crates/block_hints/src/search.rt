@@ -31,10 +31,10 @@ fn first_multiple(from: u32, to: u32, bits: u32, align: u32) -> Option<u32>
 /// How many bits of a block a search may pass over that has tried its front: those before the longest run, where no run
 /// among them is long enough, as `pcpu_next_hint` tells it.
 fn skipped(block: Block, count: u32) -> u32
-    ensures { result ≡ (if nat_le count block.scan then block.hint.left
+    ensures { result ≡ (if nat_le count block.before then block.hint.left
         else max block.hint.left block.hint.run_start) }
 {
-    if count <= block.scan {
+    if count <= block.before {
         block.hint.left
     } else {
         block.hint.left.max(block.hint.run_start)

@@ -1,10 +1,11 @@
 //! What is kept of bits once an object is put among them, where their longest run stays: as `pcpu_block_update_hint_alloc`
 //! mends it.
-ghost use Rattle.std.specs.Prelude.{◌≡◌, ◌+◌, ◌*◌, ◌≤◌, ◌<◌, ◌&&◌, true, nat_lt, IfSome, length, drop};
+ghost use Rattle.std.specs.Prelude.{◌≡◌, ◌≢◌, ◌+◌, ◌-◌, ◌*◌, ◌≤◌, ◌<◌, ◌&&◌, ℕ, true, false, nat_lt, IfSome, length, drop};
 ghost use Rattle.vm_model.specs.Space.{span, holds, paint, begins_free};
 ghost use Rattle.vm_model.specs.Hints.{IsHintIn};
+ghost use Rattle.chunk_bitmaps.specs.Bitmap.{IsNextBit};
 ghost use Rattle.chunk_bitmaps.specs.ChunkMap.{taken_bits};
-ghost use Rattle.block_hints.specs.KeptHints.{hint_around, AreHints, IsBlockOf};
+ghost use Rattle.block_hints.specs.KeptHints.{hint_around, block_cut, AreHints, IsBlockOf};
 
 use crate::block_scan::Block;
 use crate::mends::Mended;
@@ -37,37 +38,108 @@ fn around(hint: Hint, bits: u32, at: u32, end: u32, first: u32) -> Hint
     }
 }
 
-/// The hint of the bits between two places once so many free ones of them are taken. It gives none where one of them is
-/// of the longest run.
-fn hint_with_taken(
-    bits: &ChunkBits,
-    hint: Hint,
-    low: u32,
-    high: u32,
-    at: u32,
-    count: u32,
-) -> Option<Hint>
-    requires some { 1 ≤ count }
+/// The longest run and what is known of the others, once the bits between two places of that run are taken: it is the
+/// longer of what is left on both sides. It gives none where another run may be longer.
+fn with_run_cut(block: Block, at: u32, end: u32) -> Option<Block>
+    requires start { block.hint.run_start ≤ at }
+    requires end { end ≤ block.hint.run_start + block.hint.run }
+    requires few { block.hint.run_start + block.hint.run < 4294967296 }
+    ensures { result ≡ block_cut at end block }
+{
+    let Block {
+        hint,
+        before,
+        behind,
+    } = block;
+    let front = at - hint.run_start;
+    let back = hint.run_start + hint.run - end;
+    if front >= back && front > before && front >= behind {
+        Some(Block {
+            hint: Hint { run: front, ..hint },
+            before,
+            behind: back.max(behind),
+        })
+    } else if back > front && back > before && back >= behind {
+        Some(Block {
+            hint: Hint {
+                run_start: end,
+                run: back,
+                ..hint
+            },
+            before: front.max(before),
+            behind,
+        })
+    } else {
+        None
+    }
+}
+
+/// The first free bit of some bits from the lowest one on, once those between two places are taken.
+fn first_with_taken(bits: &ChunkBits, hint: Hint, low: u32, high: u32, at: u32, end: u32) -> u32
     requires low { low ≤ at }
-    requires inside { at + count ≤ high }
+    requires order { at ≤ end }
+    requires inside { end ≤ high }
     requires high { high ≤ bits.now.bits }
-    requires free { begins_free count (drop at (taken_bits bits.now)) ≡ true }
-    requires hint { IsHintIn (taken_bits bits.now) low high hint }
-    ensures hint { IfSome result (IsHintIn (paint (holds (span at count)) true (taken_bits bits.now))
-        low high) }
-    ensures run { IfSome result (λ h. h.run_start ≡ hint.run_start) }
+    ensures other { at ≢ low + hint.first → result ≡ hint.first }
+    ensures next { at ≡ low + hint.first → (first : ℕ)
+        × IsNextBit (taken_bits bits.now) false end high first × (result ≡ first - low) }
 {
     let _few = bits.len();
-    let end = at + count;
-    if is_cut(hint, at - low, end - low) {
-        return None;
-    }
-    let first = if at - low == hint.first {
+    if at - low == hint.first {
         bits.find_next(false, end, high) - low
     } else {
         hint.first
+    }
+}
+
+/// The hint of the chunk once so many free bits are taken. It gives none where one of them is of the longest run.
+fn chunk_with_taken(bits: &ChunkBits, hint: Hint, at: u32, count: u32) -> Option<Hint>
+    requires some { 1 ≤ count }
+    requires inside { at + count ≤ bits.now.bits }
+    requires free { begins_free count (drop at (taken_bits bits.now)) ≡ true }
+    requires hint { IsHintIn (taken_bits bits.now) 0 bits.now.bits hint }
+    ensures { IfSome result (IsHintIn (paint (holds (span at count)) true (taken_bits bits.now)) 0
+        bits.now.bits) }
+{
+    let len = bits.len();
+    let end = at + count;
+    if is_cut(hint, at, end) {
+        return None;
+    }
+    let first = first_with_taken(bits, hint, 0, len, at, end);
+    Some(around(hint, len, at, end, first))
+}
+
+/// What is to be kept of the block of so many free bits once they are taken. It gives none where they lie in several blocks
+/// and where another run than what is left of the longest one may be the longest then.
+fn block_with_taken(bits: &ChunkBits, blocks: &[Block], at: u32, count: u32) -> Option<Block>
+    requires some { 1 ≤ count }
+    requires inside { at + count ≤ bits.now.bits }
+    requires free { begins_free count (drop at (taken_bits bits.now)) ≡ true }
+    requires size { bits.now.bits ≡ 1024 * length blocks.now }
+    requires blocks { AreHints (taken_bits bits.now) blocks.now }
+    ensures { IfSome result
+        (IsBlockOf (paint (holds (span at count)) true (taken_bits bits.now)) at count) }
+{
+    let _few = bits.len();
+    let low = at / BLOCK_BITS * BLOCK_BITS;
+    let (from, to) = (at - low, at - low + count);
+    if to > BLOCK_BITS {
+        return None;
+    }
+    let old = blocks[(at / BLOCK_BITS) as usize];
+    let block = if is_cut(old.hint, from, to) {
+        with_run_cut(old, from, to)?
+    } else {
+        old
     };
-    Some(around(hint, high - low, at - low, end - low, first))
+    let first = first_with_taken(bits, old.hint, low, low + BLOCK_BITS, at, at + count);
+    let hint = Hint {
+        run_start: block.hint.run_start,
+        run: block.hint.run,
+        ..around(old.hint, BLOCK_BITS, from, to, first)
+    };
+    Some(Block { hint, ..block })
 }
 
 /// What is known without a scan once so many free bits are taken. It is asked before they are.
@@ -89,31 +161,8 @@ pub(crate) fn mended_by_taking(
     ensures chunk { IfSome result.chunk
         (IsHintIn (paint (holds (span at count)) true (taken_bits bits.now)) 0 bits.now.bits) }
 {
-    let len = bits.len();
     Mended {
         block: block_with_taken(bits, blocks, at, count),
-        chunk: hint_with_taken(bits, chunk, 0, len, at, count),
+        chunk: chunk_with_taken(bits, chunk, at, count),
     }
-}
-
-/// What is to be kept of the block of so many free bits once they are taken. It gives none where they lie in several blocks
-/// and where one of them is of the block's longest run.
-fn block_with_taken(bits: &ChunkBits, blocks: &[Block], at: u32, count: u32) -> Option<Block>
-    requires some { 1 ≤ count }
-    requires inside { at + count ≤ bits.now.bits }
-    requires free { begins_free count (drop at (taken_bits bits.now)) ≡ true }
-    requires size { bits.now.bits ≡ 1024 * length blocks.now }
-    requires blocks { AreHints (taken_bits bits.now) blocks.now }
-    ensures { IfSome result
-        (IsBlockOf (paint (holds (span at count)) true (taken_bits bits.now)) at count) }
-{
-    let _few = bits.len();
-    let low = at / BLOCK_BITS * BLOCK_BITS;
-    let high = low + BLOCK_BITS;
-    if high < at + count {
-        return None;
-    }
-    let Block { hint, scan } = blocks[(at / BLOCK_BITS) as usize];
-    let hint = hint_with_taken(bits, hint, low, high, at, count)?;
-    Some(Block { hint, scan })
 }

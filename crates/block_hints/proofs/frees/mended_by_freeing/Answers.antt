@@ -5,10 +5,10 @@ use Rattle.chunk_bitmaps.specs.ChunkMap.{ChunkMap, taken_bits}
 use Rattle.vm_model.specs.declared.rows.Hint.{Hint}
 use Rattle.block_hints.specs.declared.block_scan.Block.{Block}
 use Rattle.block_hints.specs.KeptHints.{IsBlockIn, IsBlockOf}
-use Rattle.block_hints.specs.Freed.{hint_with_run, scan_with_run, IsRunAround, AreHintsBefore}
+use Rattle.block_hints.specs.Freed.{hint_with_run, before_with_run, behind_with_run, IsRunAround, AreHintsBefore}
 use Rattle.block_hints.proofs.Blocked.{length-taken}
 use Rattle.block_hints.proofs.BlockHints.{no_block, block_from}
-use Rattle.block_hints.proofs.HintsFreed.{AreFreeNow, painted_free, freed_is_free, freed_hint, freed_block, run_of_chunk}
+use Rattle.block_hints.proofs.HintsFreed.{AreFreeNow, painted_free, freed_is_free, block_with_run, freed_hint, freed_block, run_of_chunk}
 use Rattle.block_hints.proofs.frees.mended_by_freeing.Goals as goal
 
 are_free : (m : ChunkMap) (blocks : List Block) (chunk : Hint) (at count : ℕ) → at + count ≤ m.bits → AreHintsBefore (taken_bits m) m.bits blocks chunk at count → (place : ℕ) → at ≤ place → place < at + count → is_free_at (taken_bits m) place ≡ true
@@ -20,17 +20,18 @@ freed_now m blocks chunk at count some inside before = painted_free before.old (
 block_of : (m : ChunkMap) (blocks : List Block) (chunk : Hint) (at count start stop : ℕ) (b : Block) → 1 ≤ count → at + count ≤ m.bits → m.bits ≡ 1024 * length blocks → at + count ≤ at / 1024 * 1024 + 1024
     → AreHintsBefore (taken_bits m) m.bits blocks chunk at count → IsRunAround (taken_bits m) (at / 1024 * 1024) (at / 1024 * 1024 + 1024) at (at + count) start stop
     → b.hint ≡ hint_with_run 1024 (at - at / 1024 * 1024) (start - at / 1024 * 1024) (stop - at / 1024 * 1024) (get_or blocks (at / 1024) no_block).hint
-    → b.scan ≡ scan_with_run (start - at / 1024 * 1024) (stop - at / 1024 * 1024) (get_or blocks (at / 1024) no_block)
+    → b.before ≡ before_with_run (start - at / 1024 * 1024) (stop - at / 1024 * 1024) (get_or blocks (at / 1024) no_block)
+    → b.behind ≡ behind_with_run (start - at / 1024 * 1024) (stop - at / 1024 * 1024) (get_or blocks (at / 1024) no_block)
     → IsBlockOf (taken_bits m) at count b
-block_of m blocks chunk at count start stop b some inside size within before run hint scan =
+block_of m blocks chunk at count start stop b some inside size within kept run hint before behind =
     let low = at / 1024 * 1024 in
     let block = get_or blocks (at / 1024) no_block in
     let long : low + 1024 - low ≡ 1024 = omega arith in
     let same : low ≡ 1024 * (at / 1024) = omega arith in
-    let is = freed_block before.old (taken_bits m) low (low + 1024) at count start stop block (freed_now m blocks chunk at count some inside before) run (block_from before.old blocks at before.kept (omega arith)) in
-    let mended : Block = record { hint = hint_with_run 1024 (at - low) (start - low) (stop - low) block.hint; scan = scan_with_run (start - low) (stop - low) block } in
-    let now : IsBlockIn (taken_bits m) low (low + 1024) mended = subst (λ n. IsBlockIn (taken_bits m) low (low + 1024) (record { hint = hint_with_run n (at - low) (start - low) (stop - low) block.hint; scan = mended.scan })) long is in
-    let it : mended ≡ b = (λ i. record { hint = sym hint i; scan = sym scan i }) in
+    let is = freed_block kept.old (taken_bits m) low (low + 1024) at count start stop block (freed_now m blocks chunk at count some inside kept) run (block_from kept.old blocks at kept.kept (omega arith)) in
+    let mended : Block = block_with_run 1024 (at - low) (start - low) (stop - low) block in
+    let now : IsBlockIn (taken_bits m) low (low + 1024) mended = subst (λ n. IsBlockIn (taken_bits m) low (low + 1024) (block_with_run n (at - low) (start - low) (stop - low) block)) long is in
+    let it : mended ≡ b = (λ i. record { hint = sym hint i; before = sym before i; behind = sym behind i }) in
     record {
       inside = omega arith;
       kept = subst (λ n. IsBlockIn (taken_bits m) n (n + 1024) b) same (subst (IsBlockIn (taken_bits m) low (low + 1024)) it now);
@@ -42,12 +43,12 @@ run_around-run-requires-clause-free c = are_free c.args.bits.now c.args.blocks.n
 pub returns-then-whole-clause-block : goal.returns-then-whole-clause-block
 returns-then-whole-clause-block c =
     block_of c.args.bits.now c.args.blocks.now c.args.chunk c.args.at c.args.count c.run_around-run.result.start c.run_around-run.result.end c.block_with_run-block.result c.requires.some c.requires.inside c.requires.size
-    (omega (arith, c.if-high-at.false)) c.requires.before c.run_around-run.ensures c.block_with_run-block.ensures.hint c.block_with_run-block.ensures.scan
+    (omega (arith, c.if-high-at.false)) c.requires.before c.run_around-run.ensures c.block_with_run-block.ensures.hint c.block_with_run-block.ensures.before c.block_with_run-block.ensures.behind
 
 pub returns-else-whole-clause-block : goal.returns-else-whole-clause-block
 returns-else-whole-clause-block c =
     block_of c.args.bits.now c.args.blocks.now c.args.chunk c.args.at c.args.count c.run_around-run.result.start c.run_around-run.result.end c.block_with_run-block.result c.requires.some c.requires.inside c.requires.size
-    (omega (arith, c.if-high-at.false)) c.requires.before c.run_around-run.ensures c.block_with_run-block.ensures.hint c.block_with_run-block.ensures.scan
+    (omega (arith, c.if-high-at.false)) c.requires.before c.run_around-run.ensures c.block_with_run-block.ensures.hint c.block_with_run-block.ensures.before c.block_with_run-block.ensures.behind
 
 pub returns-then-whole-clause-chunk : goal.returns-then-whole-clause-chunk
 returns-then-whole-clause-chunk c =
