@@ -199,47 +199,28 @@ impl Local {
             Place::Over => None,
             Place::Refusing(_) => Some(DESK),
             Place::PurgeTaking { .. } | Place::PurgeGiving(_) => Some(PURGE_TURN),
-            Place::TakingAlloc(_) | Place::TakingToBalance | Place::GivingAlloc(..) => {
-                Some(ALLOC_TURN)
-            }
-            Place::Finding(_)
-            | Place::FindingAgain(_)
-            | Place::FindingGroups(_)
-            | Place::FindingGroupsAgain(_)
-            | Place::Dropping(_)
-            | Place::PurgeReturning(_) => Some(FREE_BLOCKS),
-            Place::SettlingArea(..)
-            | Place::Removing { .. }
-            | Place::PurgeUnlinking { .. }
-            | Place::SettlingBlock { .. }
-            | Place::UnlinkingBlock { .. }
-            | Place::SettlingGroups { .. }
-            | Place::UnlinkingGroups { .. } => Some(LIVE_AREAS),
-            Place::Waiting { .. }
-            | Place::PurgeWaiting { .. }
-            | Place::PurgeCollecting { .. }
-            | Place::WaitingForGroups { .. } => Some(WAITING_SPANS),
-            Place::MappingArea(..)
-            | Place::UnmappingArea(_)
-            | Place::PurgeFlushing { .. }
-            | Place::MappingPart { .. }
-            | Place::UnmappingPart { .. }
-            | Place::Populating(_)
-            | Place::Zeroing(_)
-            | Place::Adding { .. }
-            | Place::Summing { .. }
-            | Place::Depopulating { .. }
-            | Place::Filling { .. } => Some(PAGE_MAP),
-            Place::Choosing(_)
-            | Place::AddingChunk { .. }
-            | Place::SettlingObject(_)
-            | Place::Unplacing(_)
-            | Place::ChoosingAtomic(_)
-            | Place::SettlingAtomic(_)
-            | Place::FreeingObject { .. }
-            | Place::Sparing
-            | Place::NextFill { .. }
-            | Place::NotingFilled { .. } => Some(CHUNKS),
+            Place::TakingAlloc(_) | Place::TakingToBalance => Some(ALLOC_TURN),
+            Place::GivingAlloc(..) => Some(ALLOC_TURN),
+            Place::Finding(_) | Place::FindingAgain(_) => Some(FREE_BLOCKS),
+            Place::FindingGroups(_) | Place::FindingGroupsAgain(_) => Some(FREE_BLOCKS),
+            Place::Dropping(_) | Place::PurgeReturning(_) => Some(FREE_BLOCKS),
+            Place::SettlingArea(..) | Place::Removing { .. } => Some(LIVE_AREAS),
+            Place::SettlingBlock { .. } | Place::UnlinkingBlock { .. } => Some(LIVE_AREAS),
+            Place::SettlingGroups { .. } | Place::UnlinkingGroups { .. } => Some(LIVE_AREAS),
+            Place::PurgeUnlinking { .. } => Some(LIVE_AREAS),
+            Place::Waiting { .. } | Place::WaitingForGroups { .. } => Some(WAITING_SPANS),
+            Place::PurgeWaiting { .. } | Place::PurgeCollecting { .. } => Some(WAITING_SPANS),
+            Place::MappingArea(..) | Place::UnmappingArea(_) => Some(PAGE_MAP),
+            Place::MappingPart { .. } | Place::UnmappingPart { .. } => Some(PAGE_MAP),
+            Place::Populating(_) | Place::Zeroing(_) => Some(PAGE_MAP),
+            Place::Adding { .. } | Place::Summing { .. } => Some(PAGE_MAP),
+            Place::Depopulating { .. } | Place::Filling { .. } => Some(PAGE_MAP),
+            Place::PurgeFlushing { .. } => Some(PAGE_MAP),
+            Place::Choosing(_) | Place::AddingChunk { .. } => Some(CHUNKS),
+            Place::SettlingObject(_) | Place::Unplacing(_) => Some(CHUNKS),
+            Place::ChoosingAtomic(_) | Place::SettlingAtomic(_) => Some(CHUNKS),
+            Place::FreeingObject { .. } | Place::Sparing => Some(CHUNKS),
+            Place::NextFill { .. } | Place::NotingFilled { .. } => Some(CHUNKS),
             Place::PurgeFragmenting { cpu, .. }
             | Place::CuttingPart { cpu, .. }
             | Place::AddingBlock { cpu, .. }
