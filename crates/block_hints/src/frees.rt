@@ -124,7 +124,8 @@ fn block_with_run(block: Block, low: u32, at: u32, run: Run) -> Block
 
 /// Whether a run of a block is one of so many bits of the chunk: no other block has more of it.
 fn is_whole(run: Run, low: u32, high: u32, bits: u32) -> bool
-    ensures { result ≡ ((nat_lt low run.start || low == 0) && (nat_lt run.end high || high == bits)) }
+    ensures { result ≡ ((nat_lt low run.start || low == 0)
+        && (nat_lt run.end high || high == bits)) }
 {
     (low < run.start || low == 0) && (run.end < high || high == bits)
 }
