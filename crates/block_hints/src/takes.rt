@@ -1,5 +1,5 @@
-//! What is kept of bits once an object is put among them, where their longest run stays: as `pcpu_block_update_hint_alloc`
-//! mends it.
+//! What is kept of bits once an object is put among them, also where it cuts their longest run: as
+//! `pcpu_block_update_hint_alloc` mends it.
 ghost use Rattle.std.specs.Prelude.{◌≡◌, ◌≢◌, ◌+◌, ◌-◌, ◌*◌, ◌≤◌, ◌<◌, ◌&&◌, ℕ, true, false, nat_lt, IfSome, length, drop};
 ghost use Rattle.vm_model.specs.Space.{span, holds, paint, begins_free};
 ghost use Rattle.vm_model.specs.Hints.{IsHintIn};
@@ -20,7 +20,7 @@ fn is_cut(hint: Hint, at: u32, end: u32) -> bool
     at < hint.run_start + hint.run && hint.run_start < end
 }
 
-/// The hint with the bits between two places taken, which are apart from its longest run.
+/// The hint with the bits between two places taken. Its longest run is left as it is.
 fn around(hint: Hint, bits: u32, at: u32, end: u32, first: u32) -> Hint
     requires { end ≤ bits }
     ensures { result ≡ hint_around bits at end first hint }
