@@ -264,6 +264,7 @@ fn sum_place(outcome: Outcome, index: u32) -> Place
 }
 
 /// The place before the first event of the call with this index, or the end after the last call.
+#[inline(always)]
 pub fn place_before(
     config: &Config,
     calls: &[Call],

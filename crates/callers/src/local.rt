@@ -171,6 +171,7 @@ impl Local {
     }
 
     /// One event more, which answers the call at hand.
+    #[inline(always)]
     pub fn answer(&mut self, reply: Reply, made: Made)
         requires at_hand { length self.old.answers < length self.old.calls }
         requires events { self.old.events + 1 < 2 ^ 32 }

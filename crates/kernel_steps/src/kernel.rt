@@ -52,6 +52,7 @@ impl Model for Kernel {
 }
 
 /// The next section of a caller, over the region of all that it wants.
+#[inline(always)]
 fn section_of(
     regions: &mut [Region],
     locals: &mut [Local],
@@ -186,6 +187,7 @@ impl Kernel {
     }
 
     /// The same, without a look before whether the caller moves, as where it is known. There is room for the event first.
+    #[inline(always)]
     fn advance(&mut self, caller: u16) -> Result<Stepped, AllocError>
         requires { caller < length self.old.locals }
         ensures ok { OnOk result ((c : Setup) (opening : List Call) (calls : List (List Call))
@@ -208,6 +210,7 @@ impl Kernel {
     }
 
     /// Whether a caller's next section would move now.
+    #[inline(always)]
     fn can_move(&self, caller: u16) -> bool
         requires { caller < length self.now.locals }
         ensures { (c : Setup) (opening : List Call) (calls : List (List Call)) (w : World)
@@ -240,6 +243,7 @@ impl Kernel {
     }
 
     /// The lowest caller that can move.
+    #[inline(always)]
     fn first_mover(&self) -> Option<u16>
         ensures first { (c : Setup) (opening : List Call) (calls : List (List Call)) (w : World)
             → IsStanding c opening calls w self.now → result ≡ first_mover w }

@@ -25,7 +25,7 @@ set_count-cleared [] page h = cc
 set_count-cleared (b ∷ flags) zero h = let is : one_if b ≡ 1 = ap one_if (let e : b ≡ true = cc in e) in omega (arith, set_count-cons b flags, set_count-cons false flags)
 set_count-cleared (b ∷ flags) (suc page) h = omega (arith, set_count-cons b flags, set_count-cons b (slice_set flags page false), set_count-cleared flags page h)
 
-set_count-set : (flags : List Bool) (page : ℕ) → slice_get flags page ≡ Some false → set_count (slice_set flags page true) ≡ set_count flags + 1
+pub set_count-set : (flags : List Bool) (page : ℕ) → slice_get flags page ≡ Some false → set_count (slice_set flags page true) ≡ set_count flags + 1
 set_count-set [] page h = cc
 set_count-set (b ∷ flags) zero h = let is : one_if b ≡ 0 = ap one_if (let e : b ≡ false = cc in e) in omega (arith, set_count-cons b flags, set_count-cons true flags)
 set_count-set (b ∷ flags) (suc page) h = omega (arith, set_count-cons b flags, set_count-cons b (slice_set flags page true), set_count-set flags page h)
@@ -104,7 +104,7 @@ set_in-replicate size group space =
     let few : set_count (take size (replicate left false)) ≤ 0 = omega (arith, set_count-take size (replicate left false), set_count-replicate left) in
     ap (λ fs. set_count (take size fs)) (drop-replicate (size * group) space false) ∙ (let e : set_count (take size (replicate left false)) ≡ 0 = omega arith in e)
 
-set_in-set : (size page : ℕ) (flags : List Bool) → 0 < size → slice_get flags page ≡ Some false → set_in size (page / size) (slice_set flags page true) ≡ set_in size (page / size) flags + 1
+pub set_in-set : (size page : ℕ) (flags : List Bool) → 0 < size → slice_get flags page ≡ Some false → set_in size (page / size) (slice_set flags page true) ≡ set_in size (page / size) flags + 1
 unfolding set_in
 set_in-set size page flags some clear =
     let low = size * (page / size) in
@@ -120,11 +120,11 @@ set_in-cleared size page flags some set =
     let to = group_to size page some in
     set_count-cleared (take size (drop low flags)) (page - low) (slice_get-part size low page flags from to ∙ set) ∙ ap (λ fs. set_count fs + 1) (sym (part-set_within size low page flags false from to))
 
-set_in-other : (size group page : ℕ) (flags : List Bool) (b : Bool) → page / size ≢ group → set_in size group (slice_set flags page b) ≡ set_in size group flags
+pub set_in-other : (size group page : ℕ) (flags : List Bool) (b : Bool) → page / size ≢ group → set_in size group (slice_set flags page b) ≡ set_in size group flags
 unfolding set_in
 set_in-other size group page flags b apart = ap set_count (part-set_elsewhere size (size * group) page flags b (elsewhere size group page apart))
 
-set_in-fits : (size group : ℕ) (flags : List Bool) → set_in size group flags ≤ size
+pub set_in-fits : (size group : ℕ) (flags : List Bool) → set_in size group flags ≤ size
 unfolding set_in
 set_in-fits size group flags =
     let fs = take size (drop (size * group) flags) in
@@ -165,29 +165,15 @@ counted_set size page n flags counts some within is clear so_far = record {
   ];
 }
 
-counted_cleared : (size page n : ℕ) (flags : List Bool) (counts : List ℕ) → 0 < size → page / size < length counts → AreCountedBy size flags counts → slice_get flags page ≡ Some true
-    → n ≡ set_in size (page / size) flags → AreCountedBy size (slice_set flags page false) (slice_set counts (page / size) (n - 1))
-counted_cleared size page n flags counts some within is set so_far = record {
-  groups = length-set counts (page / size) (n - 1) ∙ is.groups ∙ ap (λ k. (k + (size - 1)) / size) (sym (length-set flags page false));
-  each = λ group. elim (same_or_apart (page / size) group) [
-    | inl same ↦ subst (λ g. get_or (slice_set counts (page / size) (n - 1)) g 0 ≡ set_in size g (slice_set flags page false)) same
-        (get_or-set_same counts (page / size) (n - 1) 0 within ∙ one_less)
-    | inr apart ↦ get_or-set_other counts (page / size) group (n - 1) 0 (λ e. apart (sym e)) ∙ is.each group ∙ sym (set_in-other size group page flags false apart)
-  ];
-}
-  where
-    one_less : n - 1 ≡ set_in size (page / size) (slice_set flags page false)
-    one_less = omega (arith, set_in-cleared size page flags some set)
-
 -- What is kept.
 
 pub counts_first : (space : ℕ) → AreCounted (replicate space false) (replicate ((space + 63) / 64) 0) (replicate ((space + 4095) / 4096) 0) 0
 counts_first space = record { all = sym (set_count-replicate space); by_group = counted_first 64 space; by_cluster = counted_first 4096 space }
 
-group_within : (flags : List Bool) (groups clusters : List ℕ) (count page : ℕ) → AreCounted flags groups clusters count → page < length flags → page / 64 < length groups
+pub group_within : (flags : List Bool) (groups clusters : List ℕ) (count page : ℕ) → AreCounted flags groups clusters count → page < length flags → page / 64 < length groups
 group_within flags groups clusters count page is within = omega (arith, is.by_group.groups)
 
-cluster_within : (flags : List Bool) (groups clusters : List ℕ) (count page : ℕ) → AreCounted flags groups clusters count → page < length flags → page / 4096 < length clusters
+pub cluster_within : (flags : List Bool) (groups clusters : List ℕ) (count page : ℕ) → AreCounted flags groups clusters count → page < length flags → page / 4096 < length clusters
 cluster_within flags groups clusters count page is within = omega (arith, is.by_cluster.groups)
 
 -- the counts that are read at a page
@@ -204,15 +190,6 @@ counts_set flags groups clusters count page n m is clear within by_group by_clus
   all = omega (arith, is.all, set_count-set flags page clear);
   by_group = counted_set 64 page n flags groups (omega arith) (group_within flags groups clusters count page is within) is.by_group clear (group_read flags groups clusters count page n is within by_group);
   by_cluster = counted_set 4096 page m flags clusters (omega arith) (cluster_within flags groups clusters count page is within) is.by_cluster clear (cluster_read flags groups clusters count page m is within by_cluster);
-}
-
-pub counts_cleared : (flags : List Bool) (groups clusters : List ℕ) (count page n m : ℕ) → AreCounted flags groups clusters count → slice_get flags page ≡ Some true → page < length flags
-    → n ≡ get_or groups (page / 64) n → m ≡ get_or clusters (page / 4096) m
-    → AreCounted (slice_set flags page false) (slice_set groups (page / 64) (n - 1)) (slice_set clusters (page / 4096) (m - 1)) (count - 1)
-counts_cleared flags groups clusters count page n m is set within by_group by_cluster = record {
-  all = omega (arith, is.all, set_count-cleared flags page set);
-  by_group = counted_cleared 64 page n flags groups (omega arith) (group_within flags groups clusters count page is within) is.by_group set (group_read flags groups clusters count page n is within by_group);
-  by_cluster = counted_cleared 4096 page m flags clusters (omega arith) (cluster_within flags groups clusters count page is within) is.by_cluster set (cluster_read flags groups clusters count page m is within by_cluster);
 }
 
 -- nothing is cleared in a group where nothing is set

@@ -1,6 +1,7 @@
 pub mod PassingNumbers
 pub mod LateWrites
 pub mod FreeFrames
+pub mod FlagRuns
 pub mod Flags
 pub mod SharedFrames
 pub mod Painting

@@ -60,6 +60,7 @@ impl PageMap {
     }
 
     /// Gives a page another frame, or none. The room for it was there from the start.
+    #[inline]
     pub(crate) fn set(&mut self, page: u32, frame: Option<u32>)
         requires { page < length self.old }
         ensures { self.new ≡ slice_set self.old page frame }

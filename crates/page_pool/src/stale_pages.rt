@@ -1,5 +1,5 @@
 //! Which pages are stale: those whose old frames a TLB may still have, until `flush_tlb_kernel_range`.
-ghost use Rattle.std.specs.Prelude.{◌≡◌, ◌/◌, ◌<◌, ◌≤◌, ◌^◌, ℕ, true, false, IfOk, length, replicate, slice_get, slice_set};
+ghost use Rattle.std.specs.Prelude.{◌≡◌, ◌+◌, ◌/◌, ◌%◌, ◌<◌, ◌≤◌, ◌^◌, ℕ, true, false, IfOk, length, replicate, slice_get, slice_set};
 ghost use Rattle.vm_model.specs.Space.{holds, end_of, paint};
 ghost use Rattle.chunk_bitmaps.specs.Bitmap.{IsNextBit};
 ghost use Rattle.page_pool.specs.StaleList.{is_set, set_count};
@@ -83,29 +83,66 @@ impl StalePages {
         self.count += 1;
     }
 
+    /// The pages of a span, which lies in one group and of which none is stale, are stale from now on.
+    fn mark_run(&mut self, span: Span)
+        requires inside { end_of span ≤ length self.old }
+        requires space { length self.old < 2 ^ 32 }
+        requires pages { 0 < span.pages }
+        requires group { span.start % 64 + span.pages ≤ 64 }
+        requires fresh { IsNextBit self.old true span.start (end_of span) (end_of span) }
+        ensures { self.new ≡ paint (holds span) true self.old }
+    {
+        self.flags.fill(span.start, span.pages, true);
+        self.groups[(span.start / GROUP) as usize] += span.pages as u16;
+        self.clusters[(span.start / CLUSTER) as usize] += span.pages as u16;
+        self.count += span.pages;
+    }
+
+    /// The pages of a span, which lies in one group, are stale from now on.
+    fn mark_group(&mut self, span: Span)
+        requires inside { end_of span ≤ length self.old }
+        requires space { length self.old < 2 ^ 32 }
+        requires pages { 0 < span.pages }
+        requires group { span.start % 64 + span.pages ≤ 64 }
+        ensures { self.new ≡ paint (holds span) true self.old }
+    {
+        let end = span.start + span.pages;
+        if self.next_stale(span.start, end) == end {
+            self.mark_run(span);
+            return;
+        }
+        for page in span.start..end {
+            self.mark_page(page);
+        }
+    }
+
     /// The pages of a span are stale from now on.
     pub(crate) fn mark(&mut self, span: Span)
         requires inside { end_of span ≤ length self.old }
         requires space { length self.old < 2 ^ 32 }
         ensures { self.new ≡ paint (holds span) true self.old }
     {
-        for page in span.start..span.start + span.pages {
-            self.mark_page(page);
+        let end = span.start + span.pages;
+        let mut page = span.start;
+        while page < end {
+            let pages = (GROUP - page % GROUP).min(end - page);
+            self.mark_group(Span { start: page, pages });
+            page += pages;
         }
     }
 
-    /// The page is no longer stale.
-    fn clear_page(&mut self, page: u32)
-        requires { page < length self.old }
-        ensures { self.new ≡ slice_set self.old page false }
+    /// The pages of a span, which lies in one group and all of which are stale, are no longer stale.
+    fn clear_run(&mut self, span: Span)
+        requires inside { end_of span ≤ length self.old }
+        requires pages { 0 < span.pages }
+        requires group { span.start % 64 + span.pages ≤ 64 }
+        requires stale { IsNextBit self.old false span.start (end_of span) (end_of span) }
+        ensures { self.new ≡ paint (holds span) false self.old }
     {
-        if !self.flags.contains(page) {
-            return;
-        }
-        self.flags.put(page, false);
-        self.groups[(page / GROUP) as usize] -= 1;
-        self.clusters[(page / CLUSTER) as usize] -= 1;
-        self.count -= 1;
+        self.flags.fill(span.start, span.pages, false);
+        self.groups[(span.start / GROUP) as usize] -= span.pages as u16;
+        self.clusters[(span.start / CLUSTER) as usize] -= span.pages as u16;
+        self.count -= span.pages;
     }
 
     /// The first stale page from one on and before the end, or the end.
@@ -117,17 +154,22 @@ impl StalePages {
         self.flags.find_next(true, from, end)
     }
 
-    /// No page of a span is stale any more.
+    /// No page of a span, which lies in one group, is stale any more.
     fn clear(&mut self, span: Span)
         requires inside { end_of span ≤ length self.old }
         requires space { length self.old < 2 ^ 32 }
+        requires group { span.start % 64 + span.pages ≤ 64 }
         ensures { self.new ≡ paint (holds span) false self.old }
     {
         let end = span.start + span.pages;
         let mut page = self.next_stale(span.start, end);
         while page < end {
-            self.clear_page(page);
-            page = self.next_stale(page + 1, end);
+            let behind = self.flags.find_next(false, page, end);
+            self.clear_run(Span {
+                start: page,
+                pages: behind - page,
+            });
+            page = self.next_stale(behind, end);
         }
     }
 
@@ -136,7 +178,7 @@ impl StalePages {
         requires inside { end_of span ≤ length self.old }
         requires space { length self.old < 2 ^ 32 }
         requires pages { 0 < span.pages }
-        requires group { (page : ℕ) → holds span page ≡ true → page / 64 ≡ span.start / 64 }
+        requires group { span.start % 64 + span.pages ≤ 64 }
         ensures { self.new ≡ paint (holds span) false self.old }
     {
         if self.groups[(span.start / GROUP) as usize] > 0 {

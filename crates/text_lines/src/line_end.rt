@@ -49,6 +49,7 @@ fn write_amount(n: i64, bytes: &mut [u8], end: usize) -> Option<usize>
 }
 
 /// Writes bytes right before a number.
+#[inline(always)]
 fn write_tagged(tag: &[u8], n: u64, bytes: &mut [u8], end: usize) -> Option<usize>
     requires { end ≤ length bytes.old }
     ensures { IfSome result (λ start.
@@ -61,6 +62,7 @@ fn write_tagged(tag: &[u8], n: u64, bytes: &mut [u8], end: usize) -> Option<usiz
 }
 
 /// Writes bytes right behind others.
+#[inline(always)]
 fn write_joined(front: &[u8], back: &[u8], bytes: &mut [u8], end: usize) -> Option<usize>
     requires { end ≤ length bytes.old }
     ensures { IfSome result (λ start.
@@ -73,6 +75,7 @@ fn write_joined(front: &[u8], back: &[u8], bytes: &mut [u8], end: usize) -> Opti
 }
 
 /// Writes two numbers with bytes between them.
+#[inline(always)]
 fn write_pair(a: u64, mark: &[u8], b: u64, bytes: &mut [u8], end: usize) -> Option<usize>
     requires { end ≤ length bytes.old }
     ensures { IfSome result (λ start.
@@ -85,6 +88,7 @@ fn write_pair(a: u64, mark: &[u8], b: u64, bytes: &mut [u8], end: usize) -> Opti
 }
 
 /// Writes a field before the byte at `end`.
+#[inline(always)]
 fn write_field(field: Field, bytes: &mut [u8], end: usize) -> Option<usize>
     requires { end ≤ length bytes.old }
     ensures { IfSome result (λ start.
@@ -101,6 +105,7 @@ fn write_field(field: Field, bytes: &mut [u8], end: usize) -> Option<usize>
 }
 
 /// Writes a field, and a space before it.
+#[inline(always)]
 fn write_spaced(field: Field, bytes: &mut [u8], end: usize) -> Option<usize>
     requires { end ≤ length bytes.old }
     ensures { IfSome result (λ start.
@@ -118,6 +123,7 @@ fn write_spaced(field: Field, bytes: &mut [u8], end: usize) -> Option<usize>
 
 /// Writes fields before the byte at `end`, a space before each, and gives the place of the first space, or none where there
 /// is too little room.
+#[inline(always)]
 pub(crate) fn write_words(words: &[Field], bytes: &mut [u8], end: usize) -> Option<usize>
     requires { end ≤ length bytes.old }
     ensures { IfSome result (λ start.
@@ -134,6 +140,7 @@ pub(crate) fn write_words(words: &[Field], bytes: &mut [u8], end: usize) -> Opti
 }
 
 /// Writes a line at the end of the bytes: its first field, the fields after it, and its end.
+#[inline(always)]
 pub(crate) fn write_line(first: Field, rest: &[Field], bytes: &mut [u8]) -> Option<usize>
     requires { 0 < length bytes.old }
     ensures within { IfSome result (λ start. start ≤ length bytes.new) }

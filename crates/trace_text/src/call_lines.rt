@@ -35,6 +35,7 @@ fn push_call(calls: &mut Vec<Call>, room: usize, call: Call) -> Result<(), Alloc
 }
 
 /// Puts a call behind those of the open section, which takes room for as many as there are slots for names.
+#[inline(always)]
 fn put_call(progress: &mut Progress, call: Call) -> Result<(), AllocError>
     requires { progress.old.lines < most_lines }
     ensures adds { OnOk result (AddsCall progress.old progress.new call) }
@@ -133,6 +134,7 @@ fn target_call(progress: &Progress, opening: bool, name: &[u8]) -> Option<(usize
 }
 
 /// The target that the text is, and the call that it names.
+#[inline(always)]
 pub fn aimed_at(progress: &Progress, text: &[u8]) -> Option<(Target, Call)>
     requires held { (r : Reading) × IsHeld progress.now r }
     requires room { progress.now.lines < most_lines }

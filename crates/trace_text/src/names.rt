@@ -149,6 +149,7 @@ impl Names {
 }
 
 /// The call that a name of a section stands for, with its number there.
+#[inline(always)]
 pub fn named_call(names: &Names, calls: &[Call], name: &[u8]) -> Option<(usize, Call)>
     requires { IsTrue (is_name name.now) }
     ensures { result ≡ call_at calls.now (place_of names.now name.now) }

@@ -1,6 +1,5 @@
 use Rattle.std.proofs.Common.{false, length, ap, ◌∙◌, arith}
 use Rattle.vm_model.proofs.Paint.{length-paint_from}
-use Rattle.page_pool.proofs.Flags.{rest_in_group}
 use Rattle.page_pool.proofs.Painting.{paint-first, paint-on, paint-last}
 use Rattle.page_pool.proofs.stale_pages.StalePages.flush_groups.Goals as goal
 
@@ -18,7 +17,7 @@ flush_group-requires c =
       pages = omega arith;
       inside = omega arith;
       space = omega arith;
-      group = λ page inside. rest_in_group 64 c.loop-page.page c.min-pages.result page (omega arith) (omega arith) inside;
+      group = omega arith;
     }
 
 pub loop-page-preserved : goal.loop-page-preserved

@@ -1,6 +1,13 @@
-use Rattle.std.proofs.Common.{◌≡◌, ◌-◌, true}
+use Rattle.std.proofs.Common.{◌≡◌, ◌-◌, ◌≤◌, true}
 use Rattle.vm_model.specs.Space.{span, holds, paint}
 use Rattle.page_pool.proofs.stale_pages.StalePages.mark.Given as goal
 
 abbrev pub invariant-loop-page : goal.invariant-loop-page
-invariant-loop-page l = l.self ≡ paint (holds (span l.fn.span.start (l.page - l.fn.span.start))) true l.initial.self
+invariant-loop-page l = record {
+  from : l.fn.span.start ≤ l.page;
+  to : l.page ≤ l.end;
+  pages : l.self ≡ paint (holds (span l.fn.span.start (l.page - l.fn.span.start))) true l.initial.self;
+}
+
+abbrev pub decreases-loop-page : goal.decreases-loop-page
+decreases-loop-page l = l.end - l.page

@@ -1,0 +1,6 @@
+use Rattle.std.proofs.Common.{◌≡◌, ◌-◌, true}
+use Rattle.vm_model.specs.Space.{span, holds, paint}
+use Rattle.page_pool.proofs.stale_pages.StalePages.mark_group.Given as goal
+
+abbrev pub invariant-loop-page : goal.invariant-loop-page
+invariant-loop-page l = l.self ≡ paint (holds (span l.fn.span.start (l.page - l.fn.span.start))) true l.initial.self
