@@ -1,12 +1,13 @@
 -- Bits that are set or cleared word by word.
-use Rattle.std.proofs.Common.{◌≡◌, ◌≢◌, ℕ, ◌+◌, ◌-◌, ◌/◌, ◌%◌, ◌^◌, ◌<◌, ◌≤◌, ◌⊎◌, inl, inr, Bool, true, false, ◌||◌, ◌==◌, if◌then◌else◌, List, length, get_or, slice_set, replicate, refl, ap, sym, ◌∙◌, arith}
+use Rattle.std.proofs.Common.{◌≡◌, ◌≢◌, ℕ, suc, ◌+◌, ◌-◌, ◌*◌, ◌/◌, ◌%◌, ◌^◌, ◌<◌, ◌≤◌, ◌⊎◌, inl, inr, Bool, true, false, ◌||◌, ◌==◌, if◌then◌else◌, List, [], ◌∷◌, length, get_or, slice_set, replicate, refl, ap, sym, ◌∙◌, subst, arith}
 use Rattle.std.proofs.lemmas.Bool.{cases_lt, cases_eq}
 use Rattle.std.proofs.lemmas.Bool.Decides.{nat_tests}
 use Rattle.std.proofs.lemmas.List.{get_or-set_same, get_or-set_other, get_or-replicate, get_or_past, length-replicate}
 use Rattle.std.specs.Int.{bit_at}
 use Rattle.std.proofs.lemmas.Nat.Bits.{bit_at_mask_inside, bit_at_mask_below, bit_at_mask_above, bit_at-zero}
-use Rattle.vm_model.specs.Space.{span, holds, paint, one_if}
+use Rattle.vm_model.specs.Space.{span, holds, paint, paint_from, one_if}
 use Rattle.chunk_bitmaps.specs.Bitmap.{bit_of, bits_of}
+use Rattle.vm_model.proofs.PaintRuns.{same_paint}
 use Rattle.vm_model.proofs.Tabulated.{same_tabulated, paint_from-tabulated, tabulated_same}
 
 -- the word with the bits of the mask changed
@@ -112,6 +113,49 @@ painted words changed bits value start count h =
     let long : start + count - start ≡ count = omega arith in
     same_tabulated (bit_of changed) (λ p. if holds (span start count) p then value else bit_of words p) bits 0 (λ p low high. h p ∙ ap (λ n. if holds (span start n) p then value else bit_of words p) long)
     ∙ sym (paint_from-tabulated (holds (span start count)) value (bit_of words) bits 0)
+
+-- Whole words, one after another.
+
+pub changed_word : (words now : List ℕ) (value : Bool) (first index changed : ℕ) → first ≤ index → index < length now → ((i : ℕ) → i < 64 → bit_at changed i ≡ one_if value) → ChangedUpTo words now value (64 * first) (64 * index)
+    → ChangedUpTo words (slice_set now index changed) value (64 * first) (64 * (index + 1))
+changed_word words now value first index changed order within all before =
+    let word : 64 * index / 64 ≡ index = omega arith in
+    let low : 64 * index % 64 ≡ 0 = omega arith in
+    let next : 64 * index + 64 ≡ 64 * (index + 1) = omega arith in
+    let is : IsChanged (get_or now (64 * index / 64) 0) (2 ^ (64 * index % 64 + 64) - 2 ^ (64 * index % 64)) value changed = record {
+      inside = λ i few e. all i few;
+      outside = λ i few e. absurd (omega (arith, e, ap (λ n. bit_at (2 ^ (n + 64) - 2 ^ n) i) low, bit_at_mask_inside 0 64 i (omega arith) few));
+    } in
+    subst (λ k. ChangedUpTo words (slice_set now k changed) value (64 * first) (64 * (index + 1))) word
+    (subst (ChangedUpTo words (slice_set now (64 * index / 64) changed) value (64 * first)) next
+    (changed_more words now value (64 * first) (64 * index) 64 changed (omega arith) (omega arith) (omega arith) is before))
+
+-- Bits that are painted in three parts: up to a word, whole words, and the rest.
+
+paint_from_or : (f g : ℕ → Bool) (x : Bool) (bits : List Bool) (first : ℕ) → paint_from first f x (paint_from first g x bits) ≡ paint_from first (λ p. f p || g p) x bits
+paint_from_or f g x [] first = refl
+paint_from_or f g x (y ∷ ys) first =
+    ap (λ b. b ∷ paint_from (suc first) f x (paint_from (suc first) g x ys)) (either (f first) (g first) x y) ∙ ap (λ bs. (if f first || g first then x else y) ∷ bs) (paint_from_or f g x ys (suc first))
+  where
+    either : (a b x y : Bool) → (if a then x else (if b then x else y)) ≡ (if a || b then x else y)
+    either true b x y = refl
+    either false b x y = refl
+
+-- where the middle begins and ends
+abbrev pub IsParted : (head tail : ℕ) → Type 0
+IsParted head tail = (head ≡ tail) ⊎ ((head % 64 ≡ 0) × (tail % 64 ≡ 0))
+
+parts_hold : (start head tail end p : ℕ) → start ≤ head → head ≤ tail → tail ≤ end → IsParted head tail
+    → (holds (span tail (end - tail)) p || (holds (span (64 * (head / 64)) (64 * (tail / 64 - head / 64))) p || holds (span start (head - start)) p)) ≡ holds (span start (end - start)) p
+parts_hold start head tail end p one two three (inl same) = grind (arith, nat_tests)
+parts_hold start head tail end p one two three (inr whole) = grind (arith, nat_tests)
+
+pub painted_in_parts : (bits : List Bool) (value : Bool) (start head tail end : ℕ) → start ≤ head → head ≤ tail → tail ≤ end → IsParted head tail
+    → paint (holds (span tail (end - tail))) value (paint (holds (span (64 * (head / 64)) (64 * (tail / 64 - head / 64)))) value (paint (holds (span start (head - start))) value bits)) ≡ paint (holds (span start (end - start))) value bits
+painted_in_parts bits value start head tail end one two three parted =
+    ap (paint (holds (span tail (end - tail))) value) (paint_from_or (holds (span (64 * (head / 64)) (64 * (tail / 64 - head / 64)))) (holds (span start (head - start))) value bits 0)
+    ∙ paint_from_or (holds (span tail (end - tail))) (λ p. holds (span (64 * (head / 64)) (64 * (tail / 64 - head / 64))) p || holds (span start (head - start)) p) value bits 0
+    ∙ same_paint (λ p. holds (span tail (end - tail)) p || (holds (span (64 * (head / 64)) (64 * (tail / 64 - head / 64))) p || holds (span start (head - start)) p)) (holds (span start (end - start))) value bits (λ p within. parts_hold start head tail end p one two three parted)
 
 -- Words that are all 0 have no bit.
 

@@ -46,6 +46,13 @@ fn mask_of(low: u32, count: u32) -> u64
     u64::MAX >> (WORD - count) << low
 }
 
+/// The word whose bits are all set, or all clear.
+fn whole_word(value: bool) -> u64
+    ensures { (i : ℕ) → i < 64 → bit_at result i ≡ one_if value }
+{
+    if value { u64::MAX } else { 0 }
+}
+
 impl Bitmap {
     /// So many bits, all clear.
     pub fn clear(alloc: Global, bits: u32) -> Result<Bitmap, AllocError>
@@ -131,6 +138,33 @@ impl Bitmap {
         from
     }
 
+    /// Sets or clears the bits between two places of one word.
+    fn fill_in_word(&mut self, start: u32, end: u32, value: bool)
+        requires order { start ≤ end }
+        requires word { start % 64 + (end - start) ≤ 64 }
+        requires within { end ≤ length self.old }
+        ensures { self.new ≡ paint (holds (span start (end - start))) value self.old }
+    {
+        let _ = &self.bits;
+        if start == end {
+            return;
+        }
+        let word = &mut self.words[(start / WORD) as usize];
+        *word = with_bits(*word, mask_of(start % WORD, end - start), value);
+    }
+
+    /// Sets or clears all bits of the words from one on and before another.
+    fn fill_words(&mut self, first: u32, end: u32, value: bool)
+        requires order { first ≤ end }
+        requires within { 64 * end ≤ length self.old }
+        ensures { self.new ≡ paint (holds (span (64 * first) (64 * (end - first)))) value self.old }
+    {
+        let _ = &self.bits;
+        for index in first..end {
+            self.words[index as usize] = whole_word(value);
+        }
+    }
+
     /// Sets or clears one bit: `__set_bit` and `__clear_bit`.
     pub fn put(&mut self, place: u32, value: bool)
         requires { place < length self.old }
@@ -141,20 +175,17 @@ impl Bitmap {
         *word = with_bits(*word, mask_of(place % WORD, 1), value);
     }
 
-    /// Sets or clears so many bits from a place on: `bitmap_set` and `bitmap_clear`.
+    /// Sets or clears so many bits from a place on, whole words where it can: `bitmap_set` and `bitmap_clear`.
     pub fn fill(&mut self, start: u32, bits: u32, value: bool)
         requires { start + bits ≤ length self.old }
         ensures { self.new ≡ paint (holds (span start bits)) value self.old }
     {
-        let _ = &self.bits;
+        let _few = self.len();
         let end = start + bits;
-        let mut place = start;
-        while place < end {
-            let low = place % WORD;
-            let count = (WORD - low).min(end - place);
-            let word = &mut self.words[(place / WORD) as usize];
-            *word = with_bits(*word, mask_of(low, count), value);
-            place += count;
-        }
+        let head = end.min(start.div_ceil(WORD) * WORD);
+        let tail = head.max(end / WORD * WORD);
+        self.fill_in_word(start, head, value);
+        self.fill_words(head / WORD, tail / WORD, value);
+        self.fill_in_word(tail, end, value);
     }
 }

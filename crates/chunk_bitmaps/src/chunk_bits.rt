@@ -182,8 +182,8 @@ impl ChunkBits {
     {
         self.taken.fill(at, bits, true);
         self.bounds.fill(at, bits, false);
-        self.bounds.fill(at, 1, true);
-        self.bounds.fill(at + bits, 1, true);
+        self.bounds.put(at, true);
+        self.bounds.put(at + bits, true);
     }
 
     /// Frees the bits of the object that begins at a place, and tells how many there were: `pcpu_free_area` in the maps.
