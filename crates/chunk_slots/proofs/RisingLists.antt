@@ -1,9 +1,10 @@
 -- Lists that rise by a key: the place of a key, and lists with one element more or less.
-use Rattle.std.proofs.Common.{◌≡◌, ◌≢◌, ℕ, zero, suc, ◌<◌, ◌≤◌, inl, inr, Bool, true, false, not, cond, ◌==◌, nat_lt, if◌then◌else◌, List, [], ◌∷◌, length, filter, find, get_or, Option, Some, None, option_map, refl, ap, sym, ◌∙◌, subst, arith}
+use Rattle.std.proofs.Common.{◌≡◌, ◌≢◌, ℕ, zero, suc, ◌<◌, ◌≤◌, inl, inr, Bool, true, false, not, cond, ◌==◌, nat_lt, if◌then◌else◌, List, [], ◌∷◌, length, filter, find, get_or, slice_get, Option, Some, None, option_map, refl, ap, sym, ◌∙◌, subst, arith}
 use Rattle.std.specs.List.{insert, remove}
 use Rattle.std.specs.List.Sorted.{IsNonDecreasingBy}
 use Rattle.std.proofs.lemmas.Bool.{cases_lt, cases_eq}
 use Rattle.std.proofs.lemmas.Bool.Decides.{nat_tests}
+use Rattle.std.proofs.lemmas.Option.{slice_get-get_or}
 use Rattle.vm_model.specs.Space.{put_by}
 use Rattle.chunk_slots.specs.Rising.{IsRisingFrom, rank_by, index_by}
 
@@ -71,6 +72,22 @@ module _ {X : Type 0} (key : X → ℕ) where
     | inl h ↦ index-later k x xs (λ same. absurd (omega arith)) ∙ ap (option_map suc) (index-missing k (suc (key x)) xs r rise.1 (omega (arith, rank-lesser k x xs h)) (λ d within. other d (omega arith)))
     | inr h ↦ absurd (omega (arith, rank-first k x xs h))
   ]
+
+  -- an element where its key is
+  at_least : (k low : ℕ) (xs : List X) (r : ℕ) → IsRisingFrom key low xs → option_map key (slice_get xs r) ≡ Some k → low ≤ k
+  at_least k low [] r rise at = cc
+  at_least k low (x ∷ xs) zero rise at = let same : key x ≡ k = cc in let first = rise.0 in omega arith
+  at_least k low (x ∷ xs) (suc r) rise at = let first = rise.0 in omega (arith, at_least k (suc (key x)) xs r rise.1 at)
+
+  pub index-at : (k low : ℕ) (xs : List X) (r : ℕ) → IsRisingFrom key low xs → option_map key (slice_get xs r) ≡ Some k → index_by key k xs ≡ Some r
+  index-at k low [] r rise at = cc
+  index-at k low (x ∷ xs) zero rise at = index-here k x xs (let same : key x ≡ k = cc in same)
+  index-at k low (x ∷ xs) (suc r) rise at =
+      let later = at_least k (suc (key x)) xs r rise.1 at in
+      index-later k x xs (λ same. absurd (omega arith)) ∙ ap (option_map suc) (index-at k (suc (key x)) xs r rise.1 at)
+
+  pub index-none : (k low : ℕ) (xs : List X) (r : ℕ) → IsRisingFrom key low xs → r ≡ rank_by key k xs → (option_map key (slice_get xs r) ≡ Some k → ⊥) → index_by key k xs ≡ None
+  index-none k low xs r rise e other = index-missing k low xs r rise e (λ d within same. other (ap (option_map key) (slice_get-get_or xs r d within) ∙ ap Some same))
 
   later_none : (o : Option ℕ) → option_map suc o ≡ None → o ≡ None
   later_none None h = refl
