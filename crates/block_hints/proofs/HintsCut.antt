@@ -1,8 +1,7 @@
 -- The longest run once free bits of it are taken: what is left before or behind them, where no other run is longer.
-use Rattle.std.proofs.Common.{◌≡◌, ℕ, ◌+◌, ◌-◌, ◌<◌, ◌≤◌, ◌⊎◌, inl, inr, min, max, Bool, true, false, nat_le, nat_lt, ◌&&◌, if◌then◌else◌, List, Option, Some, None, refl, ap, sym, ◌∙◌, subst, arith}
+use Rattle.std.proofs.Common.{◌≡◌, ℕ, ◌+◌, ◌-◌, ◌<◌, ◌≤◌, ◌⊎◌, inl, inr, min, max, Bool, true, false, nat_le, nat_lt, ◌&&◌, if◌then◌else◌, List, Some, None, refl, sym, ◌∙◌, subst, arith}
 use Rattle.std.proofs.lemmas.Bool.{cases_lt}
 use Rattle.std.proofs.lemmas.Bool.Decides.{nat_tests}
-use Rattle.vm_model.specs.declared.areas.Span.{Span}
 use Rattle.vm_model.specs.Space.{span, is_free_at}
 use Rattle.vm_model.specs.Hints.{IsFreeSpan, IsLongestIn}
 use Rattle.block_hints.specs.declared.block_scan.Block.{Block}

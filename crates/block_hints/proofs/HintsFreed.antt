@@ -1,5 +1,5 @@
 -- What is kept once bits are free, from the free run in which they lie.
-use Rattle.std.proofs.Common.{◌≡◌, ◌≢◌, ℕ, suc, ◌+◌, ◌-◌, ◌<◌, ◌≤◌, ◌⊎◌, inl, inr, min, max, Bool, true, false, ◌==◌, ◌||◌, ◌&&◌, nat_lt, if◌then◌else◌, List, length, slice_get, Option, Some, None, option_map, refl, ap, sym, ◌∙◌, subst, arith}
+use Rattle.std.proofs.Common.{◌≡◌, ◌≢◌, ℕ, suc, ◌+◌, ◌-◌, ◌<◌, ◌≤◌, ◌⊎◌, inl, inr, min, max, Bool, true, false, ◌==◌, nat_lt, if◌then◌else◌, List, length, slice_get, Option, Some, None, option_map, refl, ap, sym, ◌∙◌, subst, arith}
 use Rattle.std.proofs.lemmas.Bool.{cases_lt, cases_eq}
 use Rattle.std.proofs.lemmas.Option.{slice_get-get_or}
 use Rattle.std.proofs.lemmas.Bool.Decides.{nat_tests}
@@ -10,7 +10,7 @@ use Rattle.vm_model.proofs.Paint.{slice_get-paint}
 use Rattle.vm_model.proofs.Scans.{free_read}
 use Rattle.block_hints.specs.declared.block_scan.Block.{Block}
 use Rattle.block_hints.specs.KeptHints.{IsBoundIn, IsBlockIn}
-use Rattle.block_hints.specs.Freed.{IsRunAround, is_longer, hint_with_run, before_with_run, behind_with_run}
+use Rattle.block_hints.specs.Freed.{IsRunAround, is_longer, hint_with_run, block_with}
 use Rattle.block_hints.proofs.Borders.{IsLeft, IsRight, IsFirst, choose}
 use Rattle.block_hints.proofs.KeptHintProofs.{alike_apart}
 
@@ -285,11 +285,8 @@ bounds_with old now low high at count start stop n b false are run long e is =
     )
 
 -- what is kept of a block
-abbrev pub block_with_run : (bits at start stop : ℕ) → Block → Block
-block_with_run bits at start stop b = record { hint = hint_with_run bits at start stop b.hint; before = before_with_run start stop b; behind = behind_with_run start stop b }
-
 pub freed_block : (old now : List Bool) (low high at count start stop : ℕ) (b : Block) → AreFreeNow old now at count → IsRunAround now low high at (at + count) start stop → IsBlockIn old low high b
-    → IsBlockIn now low high (block_with_run (high - low) (at - low) (start - low) (stop - low) b)
+    → IsBlockIn now low high (block_with (high - low) (at - low) (start - low) (stop - low) b)
 freed_block old now low high at count start stop b are run is =
     let after = run.after in let before = run.before in let behind = run.behind in
     let n = stop - low - (start - low) in
@@ -299,15 +296,3 @@ freed_block old now low high at count start stop b are run is =
       before = bounds.0;
       behind = bounds.1;
     }
-
--- a run of a block that has no more of it in another one
-pub run_of_chunk : (now : List Bool) (low high bits at end start stop : ℕ) → high ≤ bits → ((nat_lt low start || low == 0) && (nat_lt stop high || high == bits)) ≡ true → IsRunAround now low high at end start stop → IsRunAround now 0 bits at end start stop
-run_of_chunk now low high bits at end start stop inside whole run = record {
-  after = omega arith;
-  before = run.before;
-  behind = run.behind;
-  within = let within = run.within in omega arith;
-  free = run.free;
-  left = λ h. run.left (let after = run.after in grind (arith, nat_tests));
-  right = λ h. run.right (let within = run.within in grind (arith, nat_tests));
-}

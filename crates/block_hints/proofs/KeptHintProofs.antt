@@ -21,11 +21,11 @@ use Rattle.block_hints.specs.KeptHints.{AreKept, AreHints, AreOthersKept, IsApar
 use Rattle.vm_model.specs.PageSets.{has_page}
 use Rattle.block_hints.specs.Populated.{missing_bits, blocked_bits}
 use Rattle.block_hints.proofs.Blocked.{is_free-taken_by, covers-append, length-blocked, length-taken}
-use Rattle.block_hints.proofs.LowestFit.{AreAlikeIn, block_alike, get_free, free_of_fits, lowest_none}
+use Rattle.block_hints.proofs.LowestFit.{AreAlikeIn, block_alike, get_free, free_of_fits, fits_taken, lowest_none, IsSearched}
 
 -- Bits that were set or cleared leave the others.
 
-unpainted : (b : Bool) (x : Bool) (o : Option Bool) → b ≡ false → option_map (λ y. if b then x else y) o ≡ o
+pub unpainted : (b : Bool) (x : Bool) (o : Option Bool) → b ≡ false → option_map (λ y. if b then x else y) o ≡ o
 unpainted true x o e = cc
 unpainted false x None e = refl
 unpainted false x (Some y) e = refl
@@ -54,6 +54,25 @@ free_of_blocked pages m place h e =
     ∙ or_left_free (covers m.objects place) (covers (missing_bits pages m.bits) place)
     (ap not (sym (covers-append m.objects (missing_bits pages m.bits) place)) ∙ sym (is_free-taken_by (m.objects ++ missing_bits pages m.bits) m.bits place h) ∙ e)
 
+not_true : (b : Bool) → (b ≡ true → ⊥) → b ≡ false
+not_true true h = absurd (h refl)
+not_true false h = refl
+
+-- a place before the first free bit may not be taken
+pub blocked_before_first : (pages : PageSet) (m : ChunkMap) (chunk : Hint) (place : ℕ) → IsHintIn (taken_bits m) 0 m.bits chunk → place < chunk.first → is_free_at (blocked_bits pages m) place ≡ false
+blocked_before_first pages m chunk place is below =
+    let within = is.first_within in
+    not_true (is_free_at (blocked_bits pages m) place) (λ free. let yes = free_of_blocked pages m place (omega arith) free in let no = is.first_taken place (omega arith) (omega arith) in cc)
+
+-- nothing before a place is free
+pub searched_from : (bits : List Bool) (n k low : ℕ) → 1 ≤ n → ((place : ℕ) → place < low → is_free_at bits place ≡ false) → IsSearched bits n k low low
+searched_from bits n k low some taken = record {
+  order = omega arith;
+  free = λ place a b. absurd (omega arith);
+  before = λ start below. fits_taken bits n k start start some (omega arith) (omega arith) (taken start below);
+  inside = λ start within. fits_taken bits n k start start some (omega arith) (omega arith) (taken start (omega arith));
+}
+
 pub fit_is_free : (pages : PageSet) (m : ChunkMap) (n k at : ℕ) → Some at ≡ lowest (blocked_bits pages m) n k → (at + n ≤ m.bits) × (begins_free n (drop at (taken_bits m)) ≡ true)
 fit_is_free pages m n k at h =
     let are = lowest_is_free (blocked_bits pages m) n k at (sym h) in
@@ -65,10 +84,6 @@ fit_is_free pages m n k at h =
         free = λ place a b. get_free (taken_bits m) place (free_of_blocked pages m place (omega arith) (free_read (blocked_bits pages m) place (are.free place a b)));
       }),
     )
-
-not_true : (b : Bool) → (b ≡ true → ⊥) → b ≡ false
-not_true true h = absurd (h refl)
-not_true false h = refl
 
 -- nothing fits that is longer than the longest run
 pub longer_than_all : (pages : PageSet) (m : ChunkMap) (chunk : Hint) (n k : ℕ) → 1 ≤ n → IsHintIn (taken_bits m) 0 m.bits chunk → chunk.run < n → None ≡ lowest (blocked_bits pages m) n k

@@ -7,3 +7,4 @@ pub mod KeptHintProofs
 pub mod HintsAround
 pub mod HintsCut
 pub mod HintsFreed
+pub mod HintsMended

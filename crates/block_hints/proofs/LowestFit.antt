@@ -25,7 +25,7 @@ get_free (true ∷ bits) zero h = cc
 get_free (false ∷ bits) zero h = refl
 get_free (b ∷ bits) (suc place) h = get_free bits place h
 
-get_taken : (bits : List Bool) (place : ℕ) → is_free_at bits place ≡ false → place < length bits → slice_get bits place ≡ Some true
+pub get_taken : (bits : List Bool) (place : ℕ) → is_free_at bits place ≡ false → place < length bits → slice_get bits place ≡ Some true
 get_taken [] place h l = absurd (omega arith)
 get_taken (true ∷ bits) zero h l = refl
 get_taken (false ∷ bits) zero h l = cc

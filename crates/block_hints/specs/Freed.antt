@@ -40,6 +40,10 @@ abbrev pub behind_with_run : (start stop : ℕ) → Block → ℕ
 behind_with_run start stop b =
     if is_longer start (stop - start) b.hint then (if nat_lt stop b.hint.run_start then b.hint.run else b.behind) else (if nat_lt start b.hint.run_start then b.behind else max (stop - start) b.behind)
 
+-- what is kept of so many bits then
+abbrev pub block_with : (bits at start stop : ℕ) → Block → Block
+block_with bits at start stop b = record { hint = hint_with_run bits at start stop b.hint; before = before_with_run start stop b; behind = behind_with_run start stop b }
+
 -- before so many places were freed these were the hints of the blocks and of all so many bits
 pub record AreHintsBefore (now : List Bool) (bits : ℕ) (blocks : List Block) (chunk : Hint) (at count : ℕ) : Type 0 where
   pub old : List Bool

@@ -4,11 +4,10 @@ ghost use Rattle.std.specs.Prelude.{◌≡◌, ◌+◌, ◌-◌, ◌*◌, ◌≤
 ghost use Rattle.vm_model.specs.Space.{is_free_at};
 ghost use Rattle.vm_model.specs.Hints.{IsHintIn};
 ghost use Rattle.chunk_bitmaps.specs.ChunkMap.{taken_bits};
-ghost use Rattle.block_hints.specs.KeptHints.{IsBlockOf};
-ghost use Rattle.block_hints.specs.Freed.{is_longer, hint_with_run, before_with_run, behind_with_run, IsRunAround, AreHintsBefore};
+ghost use Rattle.block_hints.specs.KeptHints.{AreHints};
+ghost use Rattle.block_hints.specs.Freed.{is_longer, hint_with_run, before_with_run, behind_with_run, block_with, IsRunAround, AreHintsBefore};
 
 use crate::block_scan::Block;
-use crate::mends::Mended;
 use chunk_bitmaps::{BLOCK_BITS, ChunkBits};
 use vm_model::Hint;
 
@@ -101,69 +100,54 @@ fn behind_with(block: Block, run: Run) -> u32
     }
 }
 
-/// What is to be kept of the block that begins at a bit once those from a place on are free and lie in a run.
-fn block_with_run(block: Block, low: u32, at: u32, run: Run) -> Block
+/// What is to be kept of the bits between two places once those from a place on are free and lie in a run.
+fn block_with_run(block: Block, low: u32, high: u32, at: u32, run: Run) -> Block
     requires low { low ≤ run.start }
     requires order { run.start ≤ run.end }
+    requires high { low ≤ high }
     requires at { low ≤ at }
-    ensures hint { result.hint
-        ≡ hint_with_run 1024 (at - low) (run.start - low) (run.end - low) block.hint }
-    ensures before { result.before ≡ before_with_run (run.start - low) (run.end - low) block }
-    ensures behind { result.behind ≡ behind_with_run (run.start - low) (run.end - low) block }
+    ensures { result ≡ block_with (high - low) (at - low) (run.start - low) (run.end - low) block }
 {
     let inside = Run {
         start: run.start - low,
         end: run.end - low,
     };
     Block {
-        hint: with_run(block.hint, BLOCK_BITS, at - low, inside),
+        hint: with_run(block.hint, high - low, at - low, inside),
         before: before_with(block, inside),
         behind: behind_with(block, inside),
     }
 }
 
-/// Whether a run of a block is one of so many bits of the chunk: no other block has more of it.
-fn is_whole(run: Run, low: u32, high: u32, bits: u32) -> bool
-    ensures { result ≡ ((nat_lt low run.start || low == 0)
-        && (nat_lt run.end high || high == bits)) }
-{
-    (low < run.start || low == 0) && (run.end < high || high == bits)
-}
-
-/// What is known without a scan once so many bits are freed. It is asked then. Of the chunk nothing is known where the run
-/// goes up to a border of its block.
-pub(crate) fn mended_by_freeing(
+/// Mends what is kept of the blocks in which so many freed bits lie, and gives the hint of the chunk. It looks at the bits up
+/// to the ends of the run in which these lie then, and scans no block.
+pub(crate) fn mend_freed(
     bits: &ChunkBits,
-    blocks: &[Block],
+    blocks: &mut [Block],
     chunk: Hint,
     at: u32,
     count: u32,
-) -> Mended
+) -> Hint
     requires some { 1 ≤ count }
     requires inside { at + count ≤ bits.now.bits }
-    requires size { bits.now.bits ≡ 1024 * length blocks.now }
-    requires before { AreHintsBefore (taken_bits bits.now) bits.now.bits blocks.now chunk at count }
-    ensures block { IfSome result.block (IsBlockOf (taken_bits bits.now) at count) }
-    ensures chunk { IfSome result.chunk (IsHintIn (taken_bits bits.now) 0 bits.now.bits) }
+    requires size { bits.now.bits ≡ 1024 * length blocks.old }
+    requires before { AreHintsBefore (taken_bits bits.now) bits.now.bits blocks.old chunk at count }
+    ensures blocks { AreHints (taken_bits bits.now) blocks.new }
+    ensures size { length blocks.new ≡ length blocks.old }
+    ensures whole { IsHintIn (taken_bits bits.now) 0 bits.now.bits result }
 {
     let len = bits.len();
-    let low = at / BLOCK_BITS * BLOCK_BITS;
-    let high = low + BLOCK_BITS;
-    if high < at + count {
-        return Mended {
-            block: None,
-            chunk: None,
+    let end = at + count;
+    let run = run_around(bits, 0, len, at, end);
+    for block in at / BLOCK_BITS..end.div_ceil(BLOCK_BITS) {
+        let low = BLOCK_BITS * block;
+        let high = low + BLOCK_BITS;
+        let inside = Run {
+            start: run.start.max(low),
+            end: run.end.min(high),
         };
+        let old = blocks[block as usize];
+        blocks[block as usize] = block_with_run(old, low, high, at.max(low), inside);
     }
-    let run = run_around(bits, low, high, at, at + count);
-    let block = block_with_run(blocks[(at / BLOCK_BITS) as usize], low, at, run);
-    let whole = is_whole(run, low, high, len);
-    Mended {
-        block: Some(block),
-        chunk: if whole {
-            Some(with_run(chunk, len, at, run))
-        } else {
-            None
-        },
-    }
+    with_run(chunk, len, at, run)
 }

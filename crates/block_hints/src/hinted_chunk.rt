@@ -6,11 +6,10 @@ ghost use Rattle.chunk_bitmaps.specs.ChunkMap.{ChunkMap, empty_chunk, taken_bits
 ghost use Rattle.block_hints.specs.Populated.{blocked_bits};
 
 use crate::block_scan::Block;
-use crate::frees::mended_by_freeing;
+use crate::frees::mend_freed;
 use crate::joins::joined_all;
-use crate::mends::keep;
 use crate::search::lowest_fit;
-use crate::takes::mended_by_taking;
+use crate::takes::{chunk_with_taken, mend_taken};
 use chunk_bitmaps::{BLOCK_BITS, ChunkBits};
 use std::alloc::{AllocError, Global};
 use std::marker::Model;
@@ -91,10 +90,14 @@ impl HintedChunk {
         if self.chunk.run < bits {
             return None;
         }
-        let at = lowest_fit(&self.bits, &self.blocks, bits, align, populated)?;
-        let mended = mended_by_taking(&self.bits, &self.blocks, self.chunk, at, bits);
+        let at = lowest_fit(&self.bits, &self.blocks, self.chunk, bits, align, populated)?;
+        let known = chunk_with_taken(&self.bits, self.chunk, at, bits);
         self.bits.mark(at, bits);
-        self.chunk = keep(&self.bits, &mut self.blocks, at, bits, mended);
+        mend_taken(&self.bits, &mut self.blocks, at, at + bits);
+        self.chunk = match known {
+            Some(hint) => hint,
+            None => joined_all(&self.bits, &self.blocks),
+        };
         Some(at)
     }
 
@@ -107,8 +110,7 @@ impl HintedChunk {
         ensures none { IfNone result (self.new ≡ self.old) }
     {
         let bits = self.bits.clear(at)?;
-        let mended = mended_by_freeing(&self.bits, &self.blocks, self.chunk, at, bits);
-        self.chunk = keep(&self.bits, &mut self.blocks, at, bits, mended);
+        self.chunk = mend_freed(&self.bits, &mut self.blocks, self.chunk, at, bits);
         Some(bits)
     }
 

@@ -2,8 +2,9 @@
 //!
 //! The value of `HintedChunk` is that of its bits. An object is placed at the lowest fit of the plain bits, and none comes
 //! exactly where they have none, also where a fit spans pages or an alignment spoils the longest run. The hint of each page
-//! of bits and of the whole chunk is kept, and is that of the bits after every call, though `place` and `free` look at no
-//! other page than the object's, and read that one anew only where its longest run is cut. `new` alone takes memory.
+//! of bits and of the whole chunk is kept, and is that of the bits after every call, though `place` reads no page anew but
+//! those of the object whose longest run is cut, and `free` reads the free run alone in which the object's bits lie then. `new`
+//! alone takes memory.
 //!
 //! - `HintedChunk::place`, `place_populated`, `free`: the place is the lowest fit of the plain bits, or of those in
 //!   the pages of a set, none comes exactly where they have none, and then nothing changes.
@@ -14,7 +15,6 @@ mod block_scan;
 mod frees;
 mod hinted_chunk;
 mod joins;
-mod mends;
 mod search;
 mod takes;
 

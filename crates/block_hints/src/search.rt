@@ -2,6 +2,7 @@
 //! `pcpu_alloc_area`.
 ghost use Rattle.std.specs.Prelude.{◌≡◌, nat_le, max, if◌then◌else◌, ◌+◌, ◌-◌, ◌*◌, ◌<◌, ◌≤◌, length};
 ghost use Rattle.vm_model.specs.Space.{lowest};
+ghost use Rattle.vm_model.specs.Hints.{IsHintIn};
 ghost use Rattle.chunk_bitmaps.specs.ChunkMap.{taken_bits};
 ghost use Rattle.block_hints.specs.KeptHints.{AreHints};
 ghost use Rattle.block_hints.specs.Populated.{blocked_bits};
@@ -9,7 +10,7 @@ ghost use Rattle.block_hints.specs.FirstMultiples.{IsFirstMultiple};
 
 use crate::block_scan::Block;
 use chunk_bitmaps::{BLOCK_BITS, ChunkBits};
-use vm_model::PageSet;
+use vm_model::{Hint, PageSet};
 
 /// The first multiple of the alignment between two places from which so many bits end at the second one at most.
 fn first_multiple(from: u32, to: u32, bits: u32, align: u32) -> Option<u32>
@@ -42,11 +43,12 @@ fn skipped(block: Block, count: u32) -> u32
 }
 
 /// The lowest fit of so many bits at a multiple of the alignment whose pages are all in the set. It takes time for each
-/// block, and looks at the bits of a block only where its longest run is long enough, and only from there on where each
+/// block from the first free bit on, and looks at the bits of a block only where its longest run is long enough, and only from there on where each
 /// run before it is too short.
 pub(crate) fn lowest_fit(
     bits: &ChunkBits,
     blocks: &[Block],
+    chunk: Hint,
     count: u32,
     align: u32,
     pages: PageSet,
@@ -54,12 +56,15 @@ pub(crate) fn lowest_fit(
     requires few { length blocks.now ≤ 64 }
     requires size { bits.now.bits ≡ 1024 * length blocks.now }
     requires blocks { AreHints (taken_bits bits.now) blocks.now }
+    requires chunk { IsHintIn (taken_bits bits.now) 0 bits.now.bits chunk }
     requires count { 1 ≤ count }
     requires align { 1 ≤ align }
     ensures { result ≡ lowest (blocked_bits pages bits.now) count align }
 {
-    let mut from = 0;
-    for block in 0..blocks.len() as u32 {
+    let _few = bits.len();
+    let first = chunk.first / BLOCK_BITS;
+    let mut from = BLOCK_BITS * first;
+    for block in first..blocks.len() as u32 {
         let low = BLOCK_BITS * block;
         if !pages.contains(block) {
             from = low + BLOCK_BITS;

@@ -5,10 +5,10 @@ ghost use Rattle.vm_model.specs.Space.{span, holds, paint, begins_free};
 ghost use Rattle.vm_model.specs.Hints.{IsHintIn};
 ghost use Rattle.chunk_bitmaps.specs.Bitmap.{IsNextBit};
 ghost use Rattle.chunk_bitmaps.specs.ChunkMap.{taken_bits};
-ghost use Rattle.block_hints.specs.KeptHints.{hint_around, block_cut, AreHints, IsBlockOf};
+ghost use Rattle.block_hints.specs.Taken.{WasBlockIn, WasPartIn, WereHints};
+ghost use Rattle.block_hints.specs.KeptHints.{hint_around, block_cut, AreHints, IsBlockIn};
 
-use crate::block_scan::Block;
-use crate::mends::Mended;
+use crate::block_scan::{Block, scan_block};
 use chunk_bitmaps::{BLOCK_BITS, ChunkBits};
 use vm_model::Hint;
 
@@ -93,7 +93,7 @@ fn first_with_taken(bits: &ChunkBits, hint: Hint, low: u32, high: u32, at: u32, 
 }
 
 /// The hint of the chunk once so many free bits are taken. It gives none where one of them is of the longest run.
-fn chunk_with_taken(bits: &ChunkBits, hint: Hint, at: u32, count: u32) -> Option<Hint>
+pub(crate) fn chunk_with_taken(bits: &ChunkBits, hint: Hint, at: u32, count: u32) -> Option<Hint>
     requires some { 1 ≤ count }
     requires inside { at + count ≤ bits.now.bits }
     requires free { begins_free count (drop at (taken_bits bits.now)) ≡ true }
@@ -110,59 +110,62 @@ fn chunk_with_taken(bits: &ChunkBits, hint: Hint, at: u32, count: u32) -> Option
     Some(around(hint, len, at, end, first))
 }
 
-/// What is to be kept of the block of so many free bits once they are taken. It gives none where they lie in several blocks
-/// and where another run than what is left of the longest one may be the longest then.
-fn block_with_taken(bits: &ChunkBits, blocks: &[Block], at: u32, count: u32) -> Option<Block>
-    requires some { 1 ≤ count }
-    requires inside { at + count ≤ bits.now.bits }
-    requires free { begins_free count (drop at (taken_bits bits.now)) ≡ true }
-    requires size { bits.now.bits ≡ 1024 * length blocks.now }
-    requires blocks { AreHints (taken_bits bits.now) blocks.now }
-    ensures { IfSome result
-        (IsBlockOf (paint (holds (span at count)) true (taken_bits bits.now)) at count) }
+/// What is to be kept of the bits between two places now that some of them are taken. It gives none where another run than
+/// what is left of the longest one may be the longest now.
+fn with_taken(bits: &ChunkBits, old: Block, low: u32, high: u32, at: u32, end: u32) -> Option<Block>
+    requires low { low ≤ at }
+    requires order { at < end }
+    requires inside { end ≤ high }
+    requires high { high ≤ bits.now.bits }
+    requires before { WasBlockIn (taken_bits bits.now) low high at (end - at) old }
+    ensures { IfSome result (IsBlockIn (taken_bits bits.now) low high) }
 {
     let _few = bits.len();
-    let low = at / BLOCK_BITS * BLOCK_BITS;
-    let (from, to) = (at - low, at - low + count);
-    if to > BLOCK_BITS {
-        return None;
-    }
-    let old = blocks[(at / BLOCK_BITS) as usize];
+    let (from, to) = (at - low, end - low);
     let block = if is_cut(old.hint, from, to) {
         with_run_cut(old, from, to)?
     } else {
         old
     };
-    let first = first_with_taken(bits, old.hint, low, low + BLOCK_BITS, at, at + count);
+    let first = first_with_taken(bits, old.hint, low, high, at, end);
     let hint = Hint {
         run_start: block.hint.run_start,
         run: block.hint.run,
-        ..around(old.hint, BLOCK_BITS, from, to, first)
+        ..around(old.hint, high - low, from, to, first)
     };
     Some(Block { hint, ..block })
 }
 
-/// What is known without a scan once so many free bits are taken. It is asked before they are.
-pub(crate) fn mended_by_taking(
-    bits: &ChunkBits,
-    blocks: &[Block],
-    chunk: Hint,
-    at: u32,
-    count: u32,
-) -> Mended
-    requires some { 1 ≤ count }
-    requires inside { at + count ≤ bits.now.bits }
-    requires free { begins_free count (drop at (taken_bits bits.now)) ≡ true }
-    requires size { bits.now.bits ≡ 1024 * length blocks.now }
-    requires blocks { AreHints (taken_bits bits.now) blocks.now }
-    requires chunk { IsHintIn (taken_bits bits.now) 0 bits.now.bits chunk }
-    ensures block { IfSome result.block
-        (IsBlockOf (paint (holds (span at count)) true (taken_bits bits.now)) at count) }
-    ensures chunk { IfSome result.chunk
-        (IsHintIn (paint (holds (span at count)) true (taken_bits bits.now)) 0 bits.now.bits) }
+/// What is to be kept of a block now that the bits between two places are taken, of which it has some.
+fn block_with_taken(bits: &ChunkBits, old: Block, block: u32, at: u32, end: u32) -> Block
+    requires behind { at < 1024 * block + 1024 }
+    requires before { 1024 * block < end }
+    requires order { at < end }
+    requires inside { 1024 * block + 1024 ≤ bits.now.bits }
+    requires old { WasPartIn (taken_bits bits.now) block at end old }
+    ensures { IsBlockIn (taken_bits bits.now) (1024 * block) (1024 * block + 1024) result }
 {
-    Mended {
-        block: block_with_taken(bits, blocks, at, count),
-        chunk: chunk_with_taken(bits, chunk, at, count),
+    let _few = bits.len();
+    let low = BLOCK_BITS * block;
+    let high = low + BLOCK_BITS;
+    match with_taken(bits, old, low, high, at.max(low), end.min(high)) {
+        Some(kept) => kept,
+        None => scan_block(bits, block),
+    }
+}
+
+/// Mends what is kept of the blocks in which the bits between two places lie, which are taken now.
+pub(crate) fn mend_taken(bits: &ChunkBits, blocks: &mut [Block], at: u32, end: u32)
+    requires order { at < end }
+    requires inside { end ≤ bits.now.bits }
+    requires size { bits.now.bits ≡ 1024 * length blocks.old }
+    requires before { WereHints (taken_bits bits.now) blocks.old at (end - at) }
+    ensures blocks { AreHints (taken_bits bits.now) blocks.new }
+    ensures size { length blocks.new ≡ length blocks.old }
+{
+    let _few = bits.len();
+    for block in at / BLOCK_BITS..end.div_ceil(BLOCK_BITS) {
+        let old = blocks[block as usize];
+        blocks[block as usize] = block_with_taken(bits, old, block, at, end);
     }
 }

@@ -1,4 +1,4 @@
-use Rattle.std.proofs.Common.{◌≡◌, ◌≤◌, ◌<◌, ◌+◌, ◌*◌, ℕ, List, Bool, true, false, length, take, get_or, sym, ◌∙◌, subst, arith}
+use Rattle.std.proofs.Common.{◌≡◌, ◌≤◌, ◌<◌, ◌+◌, ◌*◌, ◌/◌, ℕ, List, Bool, true, false, length, take, get_or, sym, ◌∙◌, subst, arith}
 use Rattle.block_hints.specs.declared.block_scan.Block.{Block}
 use Rattle.vm_model.specs.Space.{fits}
 use Rattle.chunk_bitmaps.specs.ChunkMap.{taken_bits, first_fit}
@@ -7,9 +7,14 @@ use Rattle.vm_model.specs.PageSets.{has_page}
 use Rattle.block_hints.specs.Populated.{blocked_bits}
 use Rattle.block_hints.proofs.BlockHints.{no_block, hint_at, in_block}
 use Rattle.block_hints.proofs.Blocked.{alike_page, taken_page, length-blocked, length-taken}
+use Rattle.block_hints.proofs.KeptHintProofs.{blocked_before_first, searched_from}
 use Rattle.block_hints.proofs.LowestFit.{IsSearched, IsSkip, skip_of, is_skip, before_skip, behind_skip, block_alike, searched_missing, searched_free, searched_block, found_over, multiple_none, multiple_found, inner_found, inner_none, inner_found_by, too_long, before_inner, is_none, searched_all}
 use Rattle.block_hints.proofs.search.lowest_fit.Goals as goal
 use Rattle.block_hints.proofs.search.lowest_fit.Goals.{then-hint-lt-BLOCK_BITS, else-hint-lt-BLOCK_BITS, then-count-hint+else-is_some-2, else-count-hint}
+
+pub loop-block-init : goal.loop-block-init
+loop-block-init c =
+    searched_from (blocked_bits c.args.pages c.args.bits.now) c.args.count c.args.align (1024 * (c.args.chunk.first / 1024)) c.requires.count (λ place below. blocked_before_first c.args.pages c.args.bits.now c.args.chunk place c.requires.chunk (omega arith))
 
 -- one block further
 next : (bits : List Bool) (n k block from : ℕ) → IsSearched bits n k (1024 * block + 1024) from → IsSearched bits n k (1024 * (block + 1)) from
