@@ -1,5 +1,5 @@
 -- What is proper of a caller's place whatever the map is: searches are for what fits them, and objects aren't too large.
-use Rattle.std.proofs.Common.{◌≡◌, ℕ, zero, suc, inl, inr, ◌+◌, ◌*◌, ◌%◌, ◌<◌, ◌≤◌, max, Bool, true, false, nat_le, if◌then◌else◌, List, [], ◌∷◌, slice_get, length, Option, Some, None, refl, ap, sym, ◌∙◌, subst, arith, ℤ, ◌-◌}
+use Rattle.std.proofs.Common.{◌++◌, ◌≢◌, slice_set, ◌≡◌, ℕ, zero, suc, inl, inr, ◌+◌, ◌*◌, ◌%◌, ◌<◌, ◌≤◌, max, Bool, true, false, nat_le, if◌then◌else◌, List, [], ◌∷◌, slice_get, length, Option, Some, None, refl, ap, sym, ◌∙◌, subst, arith, ℤ, ◌-◌}
 use Rattle.std.proofs.lemmas.Bool.Decides.{nat_tests}
 use Rattle.vm_model.specs.declared.areas.AreaKind.{AreaKind}
 use Rattle.vm_model.specs.declared.calls.Call.{Call}
@@ -14,11 +14,11 @@ use Rattle.vm_model.specs.Places.{Place, Over, Refusing, Adding, Summing, Taking
 use Rattle.vm_model.specs.Next.{Next, Go, Answer, next, found, without_space}
 use Rattle.vm_model.specs.Calls.{pages_for, align_pages, Answered, begin, begin_call, begin_alloc, begin_free_area, begin_unmap_ram, begin_free_percpu, begin_add, begin_sum, target_of, was_freed, answers_in, words_for, is_bad_vmalloc_size, is_bad_vmalloc_align, is_bad_map_size, is_bad_object_size, is_bad_object_align}
 use Rattle.vm_model.specs.Given.{given, carving, carving_groups}
-use Rattle.vm_model.specs.History.{World, Local, started, answered, answered_of, moved_to, opening_world, opening_answers, callers_from}
+use Rattle.vm_model.specs.History.{World, Local, started, answered, answered_of, moved_to, opening_world, opening_answers, callers_from, with_callers}
 use Rattle.vm_model.specs.Space.{lowest}
 use Rattle.map_laws.proofs.SearchEnds.{is_zero, lowest_fit, highest_fit}
 use Rattle.map_laws.proofs.PlaceRows.{PlaceRow, NotCut, SettledBlock, SettledGroups, Mapped, place_row}
-use Rattle.map_laws.proofs.KeptThroughSteps.{there, set_cases, append_cases, IsStep, IsLasting, not_over, has_call}
+use Rattle.map_laws.proofs.KeptThroughSteps.{there, set_cases, append_cases, IsOwn, IsStep, IsLasting, not_over, has_call}
 use Rattle.vm_model.specs.declared.areas.AreaKind.TheVariants as kind
 use Rattle.vm_model.specs.declared.calls.Reply.TheVariants as reply
 
@@ -223,6 +223,31 @@ moved_has P l have h (Answer r made) is =
     let e = answers_call l r made h in
     subst (λ (x : Local). P x.place) (sym e.2) (begins_with P l.setup have l.opening _ (slice_get l.calls (suc (length l.answers))))
 
+-- What each of several callers has.
+
+-- callers at their start
+pub all_started : (P : Local → Type 0) (c : Setup) (answers : List Answered) (first : ℕ) (calls : List (List Call)) → ((i : ℕ) (own : List Call) → P (started c answers i own))
+    → (j : ℕ) (l : Local) → slice_get (callers_from c answers first calls) j ≡ Some l → P l
+all_started P c answers first [] begin j l h = cc
+all_started P c answers first (own ∷ more) begin zero l h = let e : started c answers first own ≡ l = cc in subst P e (begin first own)
+all_started P c answers first (own ∷ more) begin (suc j) l h = all_started P c answers (suc first) more begin j l h
+
+-- callers of a world, with those that join them
+pub all_joined : (P : Local → Type 0) (c : Setup) (calls : List (List Call)) (w : World) → ((k : ℕ) (l : Local) → slice_get w.locals k ≡ Some l → P l)
+    → ((i : ℕ) (own : List Call) → P (started c (opening_answers w.locals) i own)) → (k : ℕ) (l : Local) → slice_get (with_callers c calls w).locals k ≡ Some l → P l
+all_joined P c calls w all begin k l h =
+    elim (append_cases w.locals (callers_from c (opening_answers w.locals) 1 calls) k l h) [ inl e ↦ all k l e | inr e ↦ all_started P c (opening_answers w.locals) 1 calls begin e.0 l e.2 ]
+
+-- callers of which one has moved
+pub all_moved : (P : Local → Type 0) (locals : List Local) (k : ℕ) (moved : Local) → P moved → ((j : ℕ) (x : Local) → slice_get locals j ≡ Some x → j ≢ k → P x)
+    → (j : ℕ) (x : Local) → slice_get (slice_set locals k moved) j ≡ Some x → P x
+all_moved P locals k moved own others j x h = elim (set_cases locals k j moved x h) [ inl e ↦ subst P (sym e.1) own | inr e ↦ others j x e.1 e.0 ]
+
+-- answers of a caller, with one more
+pub all_answered : (P : Answered → Type 0) (answers : List Answered) (a : Answered) → ((i : ℕ) (b : Answered) → slice_get answers i ≡ Some b → P b) → P a
+    → (i : ℕ) (b : Answered) → slice_get (answers ++ a ∷ []) i ≡ Some b → P b
+all_answered P answers a all own i b h = grind (arith, append_cases)
+
 -- a fact of each caller by its setup and place alone
 pub record AllStand (P : Setup → Place → Type 0) (w : World) : Type 0 where
   pub each : (k : ℕ) (l : Local) → slice_get w.locals k ≡ Some l → P l.setup l.place
@@ -231,40 +256,24 @@ pub moved_setup : (l : Local) (n : Next) → (moved_to l n).setup ≡ l.setup
 moved_setup l n = grind (arith, nat_tests)
 
 -- such a fact lasts where each section keeps it and each beginning has it
-pub stand_lasts : (c : Setup) (calls : List (List Call)) (P : Setup → Place → Type 0) → HaveBeginnings (P c) c
-    → ((m : PlainMap) (p : Place) (s : Section) → P c p → given c m (ask c p) ≡ Some s → OnNext (P c) (next c p s)) → IsLasting c calls (AllStand P)
+abbrev pub IsKeptAtPlaces : (Setup → Place → Type 0) → Setup → Type 0
+IsKeptAtPlaces P c = (m : PlainMap) (p : Place) (s : Section) → P c p → given c m (ask c p) ≡ Some s → OnNext (P c) (next c p s)
+
+pub stand_lasts : (c : Setup) (calls : List (List Call)) (P : Setup → Place → Type 0) → HaveBeginnings (P c) c → IsKeptAtPlaces P c → IsLasting c calls (AllStand P)
 stand_lasts c calls P have keeps = record {
-  steps = λ w k l s framed all step.
-      let is = framed.own k l step.here in record {
-        each = λ j x h. elim (set_cases w.locals l.caller j (moved_to l (next l.setup l.place s)) x h) [
-          | inl e ↦ subst (λ (y : Local). P y.setup y.place) (sym e.1) (subst (λ d. P d (moved_to l (next l.setup l.place s)).place) (sym (moved_setup l _ ∙ is.setup))
-              (moved_has (P c) l (subst (HaveBeginnings (P c)) (sym is.setup) have) (has_call c k l is (not_over l.setup w.map l.place s step.gives)) _ (stepped w k l s is.setup (all.each k l step.here) step)))
-          | inr e ↦ all.each j x e.1
-        ];
-      };
-  joins = λ w framed one all over. record {
-    each = λ k l h. elim (append_cases w.locals (callers_from c (opening_answers w.locals) 1 calls) k l h) [
-      | inl e ↦ all.each k l e
-      | inr e ↦ joined (opening_answers w.locals) 1 calls e.0 l e.2
-    ];
+  steps = λ w k l s framed all step. record {
+    each = all_moved (λ x. P x.setup x.place) w.locals l.caller _ (own w k l s (framed.own k l step.here) (all.each k l step.here) step) (λ j x h apart. all.each j x h);
   };
+  joins = λ w framed one all over. record { each = all_joined (λ x. P x.setup x.place) c calls w all.each (λ i own. begins_with (P c) c have (opening_answers w.locals) [] (slice_get own 0)) };
 }
   where
-    stepped : (w : World) (k : ℕ) (l : Local) (s : Section) → l.setup ≡ c → P l.setup l.place → IsStep w k l s → OnNext (P c) (next l.setup l.place s)
-    stepped w k l s e is step = subst (λ d. OnNext (P c) (next d l.place s)) (sym e)
-        (keeps w.map l.place s (subst (λ d. P d l.place) e is) (subst (λ d. given d w.map (ask d l.place) ≡ Some s) e step.gives))
-
-    joined : (answers : List Answered) (first : ℕ) (more : List (List Call)) (j : ℕ) (l : Local) → slice_get (callers_from c answers first more) j ≡ Some l → P l.setup l.place
-    joined answers first [] j l h = cc
-    joined answers first (own ∷ more) zero l h = let e : started c answers first own ≡ l = cc in subst (λ (x : Local). P x.setup x.place) e (begins_with (P c) c have answers [] (slice_get own 0))
-    joined answers first (own ∷ more) (suc j) l h = joined answers (suc first) more j l h
+    own : (w : World) (k : ℕ) (l : Local) (s : Section) → IsOwn c k l → P l.setup l.place → IsStep w k l s → P (moved_to l (next l.setup l.place s)).setup (moved_to l (next l.setup l.place s)).place
+    own w k l s is here step = subst (λ d. P d (moved_to l (next l.setup l.place s)).place) (sym (moved_setup l _))
+        (moved_has (P l.setup) l (subst (λ d. HaveBeginnings (P d) d) (sym is.setup) have) (has_call c k l is (not_over l.setup w.map l.place s step.gives)) _
+        (subst (IsKeptAtPlaces P) (sym is.setup) keeps w.map l.place s here step.gives))
 
 pub proper_lasts : (c : Setup) (calls : List (List Call)) → IsLasting c calls (AllStand IsProper)
 proper_lasts c calls = stand_lasts c calls IsProper (proper_begins c) (λ m p s. proper_next c m p s)
 
 pub stand_first : (P : Setup → Place → Type 0) (c : Setup) (opening : List Call) (calls : List (List Call)) → HaveBeginnings (P c) c → AllStand P (opening_world c opening calls)
-stand_first P c opening calls have = record { each = first }
-  where
-    first : (k : ℕ) (l : Local) → slice_get (started c [] 0 opening ∷ []) k ≡ Some l → P l.setup l.place
-    first zero l h = let e : started c [] 0 opening ≡ l = cc in subst (λ (x : Local). P x.setup x.place) e (begins_with (P c) c have [] [] (slice_get opening 0))
-    first (suc k) l h = cc
+stand_first P c opening calls have = record { each = all_started (λ x. P x.setup x.place) c [] 0 (opening ∷ []) (λ i own. begins_with (P c) c have [] [] (slice_get own 0)) }

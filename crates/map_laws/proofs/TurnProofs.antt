@@ -12,7 +12,7 @@ use Rattle.vm_model.specs.Given.{given, can_move}
 use Rattle.map_laws.proofs.AskRows.{ask_row}
 use Rattle.map_laws.proofs.GivenMeets.{given_meets, taking_is}
 use Rattle.vm_model.specs.Next.{Next, Go, Answer, next}
-use Rattle.map_laws.proofs.ProperPlaces.{IsProper, no_span, AllStand, HaveBeginnings, AtOver, begins_with, answers_call, proper_begins, proper_lasts, stand_first}
+use Rattle.map_laws.proofs.ProperPlaces.{IsProper, no_span, AllStand, HaveBeginnings, AtOver, begins_with, moved_has, all_started, proper_begins, proper_lasts, stand_first}
 use Rattle.map_laws.proofs.PlaceRows.{PlaceRow, FoundNoGroups, AgainNoGroups, place_row}
 use Rattle.vm_model.specs.declared.calls.Call.{Call}
 use Rattle.vm_model.specs.Calls.{Answered}
@@ -129,8 +129,7 @@ no_alloc_begins c _ _ = refl
 module _ (has : Place → Bool) (none : (c : Setup) → HaveBeginnings (Has has false) c) where
   has_moved : (l : Local) → length l.answers < length l.calls → (n : Next) → has (moved_to l n).place ≡ has_next has n
   has_moved l h (Go p) = refl
-  has_moved l h (Answer r made) = let e = answers_call l r made h in
-      ap (λ (x : Local). has x.place) e.2 ∙ begins_with (Has has false) l.setup (none l.setup) l.opening _ (slice_get l.calls (suc (length l.answers)))
+  has_moved l h (Answer r made) = moved_has (Has has false) l (none l.setup) h (Answer r made) tt
 
   -- callers at their start have no turn
   turn_first : (c : Setup) (opening : List Call) (calls : List (List Call)) → IsTurnKept (opening_world c opening calls) None has
@@ -139,17 +138,11 @@ module _ (has : Place → Bool) (none : (c : Setup) → HaveBeginnings (Has has 
     holder = λ k e. cc;
   }
 
-  no_turn_starts : (c : Setup) (answers : List Answered) (first : ℕ) (more : List (List Call)) (j : ℕ) (l : Local) → slice_get (callers_from c answers first more) j ≡ Some l → has l.place ≡ false
-  no_turn_starts c answers first [] j l h = cc
-  no_turn_starts c answers first (own ∷ more) zero l h = let e : started c answers first own ≡ l = cc in
-      subst (λ (x : Local). has x.place ≡ false) e (begins_with (Has has false) c (none c) answers [] (slice_get own 0))
-  no_turn_starts c answers first (own ∷ more) (suc j) l h = no_turn_starts c answers (suc first) more j l h
-
   turn_joins : (c : Setup) (calls : List (List Call)) (w : World) (t : Option ℕ) → IsTurnKept w t has → IsTurnKept (with_callers c calls w) t has
   turn_joins c calls w t kept = record {
     mine = λ k l at h. elim (append_cases w.locals (callers_from c (opening_answers w.locals) 1 calls) k l at) [
       | inl e ↦ kept.mine k l e h
-      | inr e ↦ let no = no_turn_starts c (opening_answers w.locals) 1 calls e.0 l e.2 in cc
+      | inr e ↦ let no = all_started (λ x. has x.place ≡ false) c (opening_answers w.locals) 1 calls (λ i own. begins_with (Has has false) c (none c) (opening_answers w.locals) [] (slice_get own 0)) e.0 l e.2 in cc
     ];
     holder = λ k e. let was = kept.holder k e in (was.0, append_first w.locals _ k was.0 was.1, was.2);
   }

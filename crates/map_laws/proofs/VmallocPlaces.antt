@@ -12,12 +12,12 @@ use Rattle.vm_model.specs.Places.{Place, Refusing, Finding, FindingAgain, Mappin
 use Rattle.vm_model.specs.Next.{Next, Go, Answer, next, found, without_space}
 use Rattle.vm_model.specs.Calls.{Answered, begin, begin_call, align_pages, is_bad_vmalloc_size, is_bad_vmalloc_align}
 use Rattle.vm_model.specs.Given.{given, carving}
-use Rattle.vm_model.specs.History.{World, Local, started, answered, moved_to, opening_world, opening_answers, callers_from}
+use Rattle.vm_model.specs.History.{World, Local, started, answered, moved_to, opening_world, opening_answers}
 use Rattle.vm_model.specs.Laws.{IsMadeAligned}
 use Rattle.map_laws.proofs.PlaceRows.{PlaceRow, Refused, place_row}
-use Rattle.map_laws.proofs.KeptThroughSteps.{set_cases, append_cases, IsLasting, not_over, has_call}
+use Rattle.map_laws.proofs.KeptThroughSteps.{IsLasting, not_over, has_call}
 use Rattle.map_laws.proofs.SearchEnds.{is_zero, lowest_fit}
-use Rattle.map_laws.proofs.ProperPlaces.{answers_call, either_place}
+use Rattle.map_laws.proofs.ProperPlaces.{answers_call, either_place, all_answered, all_joined, all_moved}
 
 abbrev pub IsSearchAt : ℕ → Search → Aim → Type 0
 IsSearchAt k (ForPages pages align) (ForArea kd) = align ≡ k
@@ -95,14 +95,10 @@ made_at _ _ h = tt
 
 answered_aligned : (l : Local) (a : Answered) → IsLocalAligned l → IsMadeAligned a.call a.made → IsLocalAligned (answered l a)
 answered_aligned l a is made = record {
-  answers = λ i b h. elim (append_cases l.answers (a ∷ []) i b h) [ inl e ↦ is.answers i b e | inr e ↦ new_answer e.0 b e.2 ];
+  answers = all_answered (λ x. IsMadeAligned x.call x.made) l.answers a is.answers made;
   now = λ bytes align h. starts_at l.setup l.opening (l.answers ++ a ∷ []) (slice_get l.calls (suc (length l.answers))) bytes align
       ((let n : suc (length l.answers) ≡ length (l.answers ++ a ∷ []) = omega (arith, length-append l.answers (a ∷ [])) in ap (slice_get l.calls) n) ∙ h);
 }
-  where
-    new_answer : (j : ℕ) (b : Answered) → slice_get (a ∷ []) j ≡ Some b → IsMadeAligned b.call b.made
-    new_answer zero b h = let same : a ≡ b = cc in subst (λ (x : Answered). IsMadeAligned x.call x.made) same made
-    new_answer (suc j) b h = cc
 
 moved_aligned : (l : Local) (m : PlainMap) (s : Section) → length l.answers < length l.calls → given l.setup m (ask l.setup l.place) ≡ Some s → IsLocalAligned l → (n : Next) → next l.setup l.place s ≡ n → IsLocalAligned (moved_to l n)
 moved_aligned l m s call gives is (Go p) e = record { answers = is.answers; now = λ bytes align h. subst (IsNextAt (align_pages align)) e (next_at l.setup m (align_pages align) l.place s (is.now bytes align h) gives) }
@@ -117,20 +113,11 @@ started_aligned c opening k own = record { answers = λ i a h. cc; now = λ byte
 pub aligned_lasts : (c : Setup) (calls : List (List Call)) → IsLasting c calls AreAligned
 aligned_lasts c calls = record {
   steps = λ w k l s framed all step. record {
-    each = λ j x h. elim (set_cases w.locals l.caller j (moved_to l (next l.setup l.place s)) x h) [
-      | inl e ↦ subst IsLocalAligned (sym e.1) (moved_aligned l w.map s (has_call c k l (framed.own k l step.here) (not_over l.setup w.map l.place s step.gives)) step.gives (all.each k l step.here) (next l.setup l.place s) refl)
-      | inr e ↦ all.each j x e.1
-    ];
+    each = all_moved IsLocalAligned w.locals l.caller _
+        (moved_aligned l w.map s (has_call c k l (framed.own k l step.here) (not_over l.setup w.map l.place s step.gives)) step.gives (all.each k l step.here) (next l.setup l.place s) refl) (λ j x h apart. all.each j x h);
   };
-  joins = λ w framed one all over. record {
-    each = λ k l h. elim (append_cases w.locals (callers_from c (opening_answers w.locals) 1 calls) k l h) [ inl e ↦ all.each k l e | inr e ↦ joined (opening_answers w.locals) 1 calls e.0 l e.2 ];
-  };
+  joins = λ w framed one all over. record { each = all_joined IsLocalAligned c calls w all.each (started_aligned c (opening_answers w.locals)) };
 }
-  where
-    joined : (answers : List Answered) (first : ℕ) (more : List (List Call)) (j : ℕ) (l : Local) → slice_get (callers_from c answers first more) j ≡ Some l → IsLocalAligned l
-    joined answers first [] j l h = cc
-    joined answers first (own ∷ more) zero l h = let e : started c answers first own ≡ l = cc in subst IsLocalAligned e (started_aligned c answers first own)
-    joined answers first (own ∷ more) (suc j) l h = joined answers (suc first) more j l h
 
 pub aligned_first : (c : Setup) (opening : List Call) (calls : List (List Call)) → AreAligned (opening_world c opening calls)
 aligned_first c opening calls = grind (arith, started_aligned)

@@ -167,8 +167,7 @@ module _ (c : Setup) (m : PlainMap) (k : ℕ) (numbered : AreNumbered m) (long :
   }
     where
       same_test_at : (other : ObjectAt) → other.chunk ≡ at.chunk → other.off ≡ at.off → is_live_object other serial m.chunks ≡ is_live_object at serial m.chunks
-      same_test_at other e f = ap (λ n. is_some (find (λ (o : Object). (o.off == other.off) && lives_as serial o.life) (flat_map (λ (h : Chunk). h.objects) (chunks_numbered n m.chunks)))) e
-          ∙ ap (λ n. is_some (find (λ (o : Object). (o.off == n) && lives_as serial o.life) (flat_map (λ (h : Chunk). h.objects) (chunks_numbered at.chunk m.chunks)))) f
+      same_test_at other e f = grind arith
 
   spared_moved : (all : AreChunksFine c (λ number off. placing number off ⊎ IsBeingPlaced number off Sparing) m.chunks) (chunk base : ℕ) (populated : List ℕ) → IsLegalAs c m k (Spare chunk base populated) → IsObjectMoved c m k placing (Spare chunk base populated) (Go (Depopulating base populated))
   spared_moved all chunk base populated legal = record {
@@ -190,8 +189,7 @@ module _ (c : Setup) (m : PlainMap) (k : ℕ) (numbered : AreNumbered m) (long :
   object_by (Choosing bytes align) s all proper at chunked (inr w) legal = as_o (Choosing bytes align) all s (NoPlace bytes align w.0) w.1 legal (λ l. idle_o (Choosing bytes align) all (NoPlace bytes align w.0) _ refl refl refl)
   object_by (AddingChunk base chunk bytes align) s all proper at chunked w legal = as_o (AddingChunk base chunk bytes align) all s (AddChunk chunk base w.0 align w.1) w.3 legal (λ l. new_moved base chunk bytes align all w.0 w.1 (subst IsObjectSize (sym w.2) proper) l)
   object_by (Populating object missing) s all proper at chunked (inl w) legal = as_o (Populating object missing) all s (Populate object missing) w legal (λ l. same_o (Populating object missing) all (Populate object missing) _ refl (λ number off mine. mine) at)
-  object_by (Populating object missing) s all proper at chunked (inr w) legal = as_o (Populating object missing) all s (NoFrames (length (pages_in_units c object.base missing))) w legal
-      (λ l. same_o (Populating object missing) all (NoFrames (length (pages_in_units c object.base missing))) _ refl (λ number off mine. mine) at)
+  object_by (Populating object missing) s all proper at chunked (inr w) legal = search as_o
   object_by (SettlingObject object) s all proper at chunked w legal = as_o (SettlingObject object) all s (SettleObject object w.0) w.1 legal (λ l. lived_moved (SettlingObject object) all object w.0 _ at (λ number off mine. mine) tt)
   object_by (Unplacing object) s all proper at chunked w legal = as_o (Unplacing object) all s (Unplace object) w legal (λ l. unplaced_moved object all _ at tt)
   object_by (ChoosingAtomic bytes align) s all proper at chunked (inl w) legal = as_o (ChoosingAtomic bytes align) all s (PlaceAtomic w.0 align) w.2 legal
@@ -201,15 +199,13 @@ module _ (c : Setup) (m : PlainMap) (k : ℕ) (numbered : AreNumbered m) (long :
   object_by (SettlingAtomic object) s all proper at chunked w legal = as_o (SettlingAtomic object) all s (SettleObject object w.0) w.1 legal (λ l. lived_moved (SettlingAtomic object) all object w.0 _ at (λ number off mine. absurd mine) tt)
   object_by (FreeingObject object serial) s all proper at chunked (inl w) legal = as_o (FreeingObject object serial) all s (FreeObject object serial) w legal (λ l. freed_moved object serial all _ l tt)
   object_by (FreeingObject object serial) s all proper at chunked (inr w) legal = as_o (FreeingObject object serial) all s (ObjectNotLive object serial) w legal (λ l. idle_o (FreeingObject object serial) all (ObjectNotLive object serial) _ refl refl tt)
-  object_by (SettlingGroups base chunk bytes align) s all proper at chunked w legal = as_o (SettlingGroups base chunk bytes align) all s (Settle (group_areas c chunk base) w.0) w.1 legal
-      (λ l. same_o (SettlingGroups base chunk bytes align) all (Settle (group_areas c chunk base) w.0) _ refl (λ number off mine. mine) tt)
+  object_by (SettlingGroups base chunk bytes align) s all proper at chunked w legal = search as_o
   object_by Sparing s all proper at chunked (inl w) legal = as_o Sparing all s (Spare w.0 w.1 w.2) w.3 legal (λ l. spared_moved all w.0 w.1 w.2 l)
   object_by Sparing s all proper at chunked (inr w) legal = as_o Sparing all s NoSpare w legal (λ l. idle_o Sparing all NoSpare _ refl refl refl)
   object_by (Depopulating base populated) s all proper at chunked w legal = as_o (Depopulating base populated) all s (Depopulate base populated) w legal (λ l. same_o (Depopulating base populated) all (Depopulate base populated) _ refl (λ number off mine. mine) tt)
   object_by (NextFill filled) s all proper at chunked (inl w) legal = as_o (NextFill filled) all s (NextPage w.0 w.1 w.2) w.3 legal (λ l. same_o (NextFill filled) all (NextPage w.0 w.1 w.2) _ refl (λ number off mine. mine) tt)
   object_by (NextFill filled) s all proper at chunked (inr w) legal = as_o (NextFill filled) all s Enough w legal (λ l. idle_o (NextFill filled) all Enough _ refl refl refl)
   object_by (Filling chunk base page filled) s all proper at chunked (inl w) legal = as_o (Filling chunk base page filled) all s (Fill base page) w legal (λ l. same_o (Filling chunk base page filled) all (Fill base page) _ refl (λ number off mine. mine) tt)
-  object_by (Filling chunk base page filled) s all proper at chunked (inr w) legal = as_o (Filling chunk base page filled) all s (NoFrames (length (pages_in_units c base (page ∷ [])))) w legal
-      (λ l. same_o (Filling chunk base page filled) all (NoFrames (length (pages_in_units c base (page ∷ [])))) _ refl (λ number off mine. mine) tt)
+  object_by (Filling chunk base page filled) s all proper at chunked (inr w) legal = search as_o
   object_by (NotingFilled chunk page filled) s all proper at chunked w legal = grind (arith, paged_fine, others_only, there, paged_keeps)
   object_by p s all proper at chunked w legal = plain_o p all s refl refl (λ number off mine. mine) w

@@ -29,28 +29,7 @@ changed_before : (chunks : List Chunk) (number : ℕ) (change : Chunk → Chunk)
     → ((h : Chunk) (o : Object) → IsIn o (change h).objects → o.life ≡ Lives serial → IsIn o h.objects) → IsObject (change_chunk number change chunks) at (Lives serial) → IsObject chunks at (Lives serial)
 changed_before chunks number change at serial numbers bases back is =
     let was = keyed_is (λ (x : Chunk). x.number) number change chunks is.chunk is.there in
-    elim was.2 [
-      | inl own ↦ object_of chunks was.0 at (Lives serial) (record {
-        there = was.1;
-        numbered = sym (numbers was.0) ∙ ap (λ (h : Chunk). h.number) (sym own.1) ∙ is.numbered;
-        based = sym (bases was.0) ∙ ap (λ (h : Chunk). h.base) (sym own.1) ∙ is.based;
-        object = is.object;
-        object_there = back was.0 is.object (subst (λ (h : Chunk). IsIn is.object h.objects) own.1 is.object_there) is.lives;
-        off = is.off;
-        bytes = is.bytes;
-        lives = is.lives;
-      })
-      | inr other ↦ object_of chunks was.0 at (Lives serial) (record {
-        there = was.1;
-        numbered = ap (λ (h : Chunk). h.number) (sym other.1) ∙ is.numbered;
-        based = ap (λ (h : Chunk). h.base) (sym other.1) ∙ is.based;
-        object = is.object;
-        object_there = subst (λ (h : Chunk). IsIn is.object h.objects) other.1 is.object_there;
-        off = is.off;
-        bytes = is.bytes;
-        lives = is.lives;
-      })
-    ]
+    grind arith
 
 -- an object that is placed is in a caller's hand
 placed_back : (k : ℕ) (own : ObjectAt) (serial : ℕ) (h : Chunk) (o : Object) → IsIn o (with_object k own h).objects → o.life ≡ Lives serial → IsIn o h.objects
@@ -75,16 +54,7 @@ settled_before : (chunks : List Chunk) (own at : ObjectAt) (given serial : ℕ) 
 settled_before chunks own at given serial is =
     let was = keyed_is (λ (x : Chunk). x.number) own.chunk (with_live_object own (Lives given)) chunks is.chunk is.there in
     elim was.2 [
-      | inr other ↦ Was (SettleObject own given) (object_of chunks was.0 at (Lives serial) (record {
-        there = was.1;
-        numbered = ap (λ (h : Chunk). h.number) (sym other.1) ∙ is.numbered;
-        based = ap (λ (h : Chunk). h.base) (sym other.1) ∙ is.based;
-        object = is.object;
-        object_there = subst (λ (h : Chunk). IsIn is.object h.objects) other.1 is.object_there;
-        off = is.off;
-        bytes = is.bytes;
-        lives = is.lives;
-      }))
+      | inr other ↦ Was (SettleObject own given) (object_of chunks was.0 at (Lives serial) (grind arith))
       | inl mine ↦ by_object was.0 was.1 mine.0 mine.1
           (keyed_is (λ (o : Object). o.off) own.off (λ (o : Object). record o { life = Lives given }) was.0.objects is.object (subst (λ (h : Chunk). IsIn is.object h.objects) mine.1 is.object_there))
     ]
@@ -103,16 +73,7 @@ settled_before chunks own at given serial is =
           bytes = ap (λ (x : Object). x.bytes) (sym mine.1) ∙ is.bytes;
           lives = refl;
         })) (sym is.numbered ∙ ap (λ (x : Chunk). x.number) f ∙ e) (sym is.off ∙ ap (λ (x : Object). x.off) mine.1 ∙ mine.0))
-    by_object h there e f (o, o_there, inr other) = Was (SettleObject own given) (object_of chunks h at (Lives serial) (record {
-      there = there;
-      numbered = ap (λ (x : Chunk). x.number) (sym f) ∙ is.numbered;
-      based = ap (λ (x : Chunk). x.base) (sym f) ∙ is.based;
-      object = o;
-      object_there = o_there;
-      off = ap (λ (x : Object). x.off) (sym other.1) ∙ is.off;
-      bytes = ap (λ (x : Object). x.bytes) (sym other.1) ∙ is.bytes;
-      lives = ap (λ (x : Object). x.life) (sym other.1) ∙ is.lives;
-    }))
+    by_object h there e f (o, o_there, inr other) = Was (SettleObject own given) (object_of chunks h at (Lives serial) (grind arith))
 
 pub came_from : (c : Setup) (m : PlainMap) (k : ℕ) (s : Section) (at : ObjectAt) (serial : ℕ) → IsObject (effect_as c m k s).chunks at (Lives serial) → CameFrom m.chunks at serial s
 came_from c m k (PlaceObject own align missing) at serial is = Was (PlaceObject own align missing) (changed_before m.chunks own.chunk (with_object k own) at serial (λ h. refl) (λ h. refl) (placed_back k own serial) is)
@@ -137,8 +98,4 @@ pub one_object : (c : Setup) (placing : ℕ → ℕ → Type 0) (chunks : List C
 one_object c placing chunks fine at own life life' is is' e f =
     let chunk = same_chunk chunks is.chunk is'.chunk fine.once is.there is'.there (is.numbered ∙ e ∙ sym is'.numbered) in
     let one = object_only c placing chunks fine own life' is' is.chunk is.object is.there (is.numbered ∙ e) is.object_there (is.off ∙ f) in
-    record {
-      base = sym is.based ∙ ap (λ (h : Chunk). h.base) chunk ∙ is'.based;
-      bytes = sym is.bytes ∙ ap (λ (o : Object). o.bytes) one ∙ is'.bytes;
-      lives = sym is.lives ∙ ap (λ (o : Object). o.life) one ∙ is'.lives;
-    }
+    search
