@@ -16,13 +16,13 @@ use Rattle.vm_model.specs.Places.{Place, Made, MadeArea, GivingAlloc, SettlingAr
 use Rattle.vm_model.specs.Next.{Next, Go, Answer, next}
 use Rattle.vm_model.specs.Told.{serial_given}
 use Rattle.vm_model.specs.Calls.{Answered, begin}
-use Rattle.vm_model.specs.History.{World, Local, started, moved_to, made_by, opening_world, opening_answers, callers_from, with_callers}
+use Rattle.vm_model.specs.History.{World, Local, started, moved_to, made_by, opening_world, opening_answers, with_callers}
 use Rattle.vm_model.specs.LegalHistory.{Meets}
 use Rattle.map_laws.proofs.PlaceRows.{place_row}
-use Rattle.map_laws.proofs.KeptThroughSteps.{set_cases, append_cases, IsFramed, not_over, has_call}
+use Rattle.map_laws.proofs.KeptThroughSteps.{IsFramed, not_over, has_call}
 use Rattle.map_laws.proofs.TestsAndFilters.{IsIn, filter_has}
 use Rattle.map_laws.proofs.SearchEnds.{and_both}
-use Rattle.map_laws.proofs.ProperPlaces.{IsPlainKind, IsProper, AllStand, either_place, answers_call}
+use Rattle.map_laws.proofs.ProperPlaces.{IsPlainKind, IsProper, AllStand, either_place, answers_call, all_answered, all_joined, all_moved, all_started}
 use Rattle.map_laws.proofs.OutMoves.{with_in}
 use Rattle.map_laws.proofs.areas.AreaStarts.{areas_after}
 use Rattle.map_laws.proofs.areas.AreaWorlds.{IsLegalStep}
@@ -136,15 +136,11 @@ module _ (m : PlainMap) (c : Setup) (opening own : List Answered) (p : (i : ℕ)
   begin_plain None = tt
   begin_plain (Some call) = grind (arith, either_place, nat_tests)
 
-plain_answers : (m : PlainMap) (answers : List Answered) (a : Answered) → ((i : ℕ) (b : Answered) → slice_get answers i ≡ Some b → IsPlainMade m b.made) → IsPlainMade m a.made
-    → (i : ℕ) (b : Answered) → slice_get (answers ++ a ∷ []) i ≡ Some b → IsPlainMade m b.made
-plain_answers m answers a all is i b h = grind (arith, append_cases, nat_tests)
-
 moved_plain : (m : PlainMap) (l : Local) (n : Next) → length l.answers < length l.calls → IsPlainCaller m l → IsPlainNext m n → IsPlainCaller m (moved_to l n)
 moved_plain m l (Go p) call is to = record { answers = is.answers; opening = is.opening; place = to }
 moved_plain m l (Answer r made) call is to =
     let e = answers_call l r made call in
-    let more = plain_answers m l.answers (record { call = e.0; reply = r; made = made; own_event = suc l.events }) is.answers to in
+    let more = all_answered (λ x. IsPlainMade m x.made) l.answers (record { call = e.0; reply = r; made = made; own_event = suc l.events }) is.answers to in
     subst (IsPlainCaller m) (sym e.2) (record { answers = more; opening = is.opening; place = begin_plain m l.setup l.opening _ is.opening more (slice_get l.calls (suc (length l.answers))) })
 
 caller_stays : (c : Setup) (m : PlainMap) (k : ℕ) (s : Section) → IsLegalAs c m k s → (l : Local) → IsPlainCaller m l → IsPlainCaller (effect_as c m k s) l
@@ -160,24 +156,20 @@ plain_step c w k l s framed proper is step =
     let legal : IsLegalAs l.setup w.map l.caller s = subst (λ i. IsLegalAs l.setup w.map i s) (sym own.caller) step.legal in
     let caller = is.each k l step.step.here in record {
       given = given_after l.setup w.map l.caller s legal is.given;
-      each = λ j x h. elim (set_cases w.locals l.caller j (moved_to l (next l.setup l.place s)) x h) [
-        | inl e ↦ subst (IsPlainCaller (effect_as l.setup w.map l.caller s)) (sym e.1)
-            (moved_plain (effect_as l.setup w.map l.caller s) l (next l.setup l.place s) (has_call c k l own (not_over l.setup w.map l.place s step.step.gives)) (caller_stays l.setup w.map l.caller s legal l caller)
-            (plain_after l.setup w.map l.caller l.place s (proper.each k l step.step.here) is.given caller.place step.meets legal))
-        | inr e ↦ caller_stays l.setup w.map l.caller s legal x (is.each j x e.1)
-      ];
+      each = all_moved (IsPlainCaller (effect_as l.setup w.map l.caller s)) w.locals l.caller _
+          (moved_plain (effect_as l.setup w.map l.caller s) l (next l.setup l.place s) (has_call c k l own (not_over l.setup w.map l.place s step.step.gives)) (caller_stays l.setup w.map l.caller s legal l caller)
+          (plain_after l.setup w.map l.caller l.place s (proper.each k l step.step.here) is.given caller.place step.meets legal))
+          (λ j x h apart. caller_stays l.setup w.map l.caller s legal x (is.each j x h));
     }
 
+started_plain : (c : Setup) (m : PlainMap) (answers : List Answered) → ((i : ℕ) (a : Answered) → slice_get answers i ≡ Some a → IsPlainMade m a.made) → (k : ℕ) (own : List Call) → IsPlainCaller m (started c answers k own)
+started_plain c m answers all k own = record { answers = λ i a f. cc; opening = all; place = begin_plain m c answers [] all (λ i a f. cc) (slice_get own 0) }
+
 pub plain_first : (c : Setup) (opening : List Call) (calls : List (List Call)) → IsPlainWorld (opening_world c opening calls)
-plain_first c opening calls = record { given = record { below = λ a there. (let at = there.at in cc) }; each = first }
-  where
-    first : (k : ℕ) (l : Local) → slice_get (started c [] 0 opening ∷ []) k ≡ Some l → IsPlainCaller (opening_world c opening calls).map l
-    first zero l h = let e : started c [] 0 opening ≡ l = cc in subst (IsPlainCaller (opening_world c opening calls).map) e (record {
-      answers = λ i a f. cc;
-      opening = λ i a f. cc;
-      place = begin_plain (opening_world c opening calls).map c [] [] (λ i a f. cc) (λ i a f. cc) (slice_get opening 0);
-    })
-    first (suc k) l h = cc
+plain_first c opening calls = record {
+  given = record { below = λ a there. (let at = there.at in cc) };
+  each = all_started (IsPlainCaller (opening_world c opening calls).map) c [] 0 (opening ∷ []) (started_plain c (opening_world c opening calls).map [] (λ i a f. cc));
+}
 
 opening_plain : (m : PlainMap) (locals : List Local) → ((k : ℕ) (l : Local) → slice_get locals k ≡ Some l → IsPlainCaller m l) → (i : ℕ) (a : Answered) → slice_get (opening_answers locals) i ≡ Some a → IsPlainMade m a.made
 opening_plain m [] all i a h = cc
@@ -186,15 +178,8 @@ opening_plain m (l ∷ locals) all i a h = (all 0 l refl).answers i a h
 pub plain_joins : (c : Setup) (calls : List (List Call)) (w : World) → IsPlainWorld w → IsPlainWorld (with_callers c calls w)
 plain_joins c calls w is = record {
   given = is.given;
-  each = λ k l h. elim (append_cases w.locals (callers_from c (opening_answers w.locals) 1 calls) k l h) [ inl e ↦ is.each k l e | inr e ↦ joined (opening_answers w.locals) (opening_plain w.map w.locals is.each) 1 calls e.0 l e.2 ];
+  each = all_joined (IsPlainCaller w.map) c calls w is.each (started_plain c w.map (opening_answers w.locals) (opening_plain w.map w.locals is.each));
 }
-  where
-    joined : (answers : List Answered) → ((i : ℕ) (a : Answered) → slice_get answers i ≡ Some a → IsPlainMade w.map a.made) → (first : ℕ) (more : List (List Call)) (j : ℕ) (l : Local)
-        → slice_get (callers_from c answers first more) j ≡ Some l → IsPlainCaller w.map l
-    joined answers all first [] j l h = cc
-    joined answers all first (own ∷ more) zero l h = let e : started c answers first own ≡ l = cc in
-        subst (IsPlainCaller w.map) e (record { answers = λ i a f. cc; opening = all; place = begin_plain w.map c answers [] all (λ i a f. cc) (slice_get own 0) })
-    joined answers all first (own ∷ more) (suc j) l h = joined answers all (suc first) more j l h
 
 -- the area that is removed is a plain one
 pub removed_plain : (m : PlainMap) (start serial : ℕ) → IsPlainSerial m serial → (area : Area) → named_areas start serial m.areas ≡ area ∷ [] → IsPlainKind area.kind

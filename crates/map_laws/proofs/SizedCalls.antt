@@ -15,7 +15,7 @@ use Rattle.vm_model.specs.declared.calls.Call.TheVariants.{Add, AllocAtomic, All
 use Rattle.vm_model.specs.declared.calls.Target.{Target}
 use Rattle.map_laws.proofs.PlaceRows.{place_row}
 use Rattle.map_laws.proofs.AskRows.{ask_row}
-use Rattle.map_laws.proofs.ProperPlaces.{either_place, OnNext, answers_call}
+use Rattle.map_laws.proofs.ProperPlaces.{either_place, OnNext, answers_call, all_answered}
 use Rattle.std.proofs.lemmas.Option.{same_Some}
 use Rattle.map_laws.proofs.KeptThroughSteps.{set_cases, append_cases, not_over, has_call}
 use Rattle.map_laws.proofs.areas.AreaWorlds.{IsLegallyLasting}
@@ -221,7 +221,7 @@ module _ (own : List Call) (l : Local) (a : Answered) (is : IsLocalSized own l) 
   answered_sized = record {
     calls = is.calls;
     ordered = λ i b h. elim (append_cases l.answers (a ∷ []) i b h) [ inl e ↦ is.ordered i b e | inr e ↦ ordered_last i e.0 b e.1 e.2 ];
-    sized = λ i b bytes h f. elim (append_cases l.answers (a ∷ []) i b h) [ inl e ↦ is.sized i b bytes e f | inr e ↦ sized_last e.0 b bytes e.2 f ];
+    sized = λ i b bytes h f. all_answered (λ x. (n : ℕ) → call_bytes x.call ≡ Some n → IsMadeSized n x.made) l.answers a (λ j x g n. is.sized j x n g) made i b h bytes f;
     now = λ call bytes h f. begin_sized l.setup l.opening (l.answers ++ a ∷ []) (slice_get l.calls (suc (length l.answers))) call bytes (ap (slice_get l.calls) one_more ∙ h) f;
     used = begin_use (answered l a) l.setup (slice_get l.calls (suc (length l.answers))) (ap (slice_get l.calls) (sym one_more));
   }
@@ -229,10 +229,6 @@ module _ (own : List Call) (l : Local) (a : Answered) (is : IsLocalSized own l) 
       ordered_last : (i j : ℕ) (b : Answered) → i ≡ length l.answers + j → slice_get (a ∷ []) j ≡ Some b → slice_get l.calls i ≡ Some b.call
       ordered_last i zero b e h = let same : a ≡ b = same_Some a b h in let n : i ≡ length l.answers = omega arith in ap (slice_get l.calls) n ∙ here ∙ ap (λ (x : Answered). Some x.call) same
       ordered_last i (suc j) b e h = cc
-
-      sized_last : (j : ℕ) (b : Answered) (bytes : ℕ) → slice_get (a ∷ []) j ≡ Some b → call_bytes b.call ≡ Some bytes → IsMadeSized bytes b.made
-      sized_last zero b bytes h f = let same : a ≡ b = same_Some a b h in subst (λ (x : Answered). IsMadeSized bytes x.made) same (made bytes (ap (λ (x : Answered). call_bytes x.call) same ∙ f))
-      sized_last (suc j) b bytes h f = cc
 
 module _ (own : List Call) (l : Local) (s : Section) (is : IsLocalSized own l) (call : length l.answers < length l.calls) (meets : Meets l.setup (ask l.setup l.place) s) where
   moved_sized : (n : Next) → next l.setup l.place s ≡ n → IsLocalSized own (moved_to l n)

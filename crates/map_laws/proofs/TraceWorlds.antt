@@ -16,11 +16,11 @@ use Rattle.map_laws.proofs.areas.AreaWorlds.{moved_caller, IsAreaWorld, IsLegalS
 use Rattle.map_laws.proofs.chunks.ChunkDispatch.{IsUnchunked, chunk_by}
 use Rattle.map_laws.proofs.chunks.ChunkAdded.{IsNumberNext, chunk_number, number_after, number_alloc, same_or_alloc}
 use Rattle.map_laws.proofs.chunks.ChunkWorlds.{alone, unchunked_begins, IsChunkWorld, OthersPopulate, chunk_first, chunk_joins, chunk_sided, chunk_step, chunks_here, none_populates}
-use Rattle.map_laws.proofs.KeptThroughSteps.{append_cases, set_cases, there, SomeOther, Someone, other_or, others_still, someone_joins, IsFramed, has_call, not_over}
+use Rattle.map_laws.proofs.KeptThroughSteps.{there, SomeOther, Someone, other_or, others_still, someone_joins, IsFramed, has_call, not_over}
 use Rattle.map_laws.proofs.objects.ObjectChanges.{same_fine}
 use Rattle.map_laws.proofs.objects.ObjectFacts.{AreChunksFine, IsBeingPlaced, IsObject, IsObjectAt, next_placed}
 use Rattle.map_laws.proofs.objects.ObjectMoves.{IsObjectMoved, Kills, unhanded_at, object_by}
-use Rattle.map_laws.proofs.ProperPlaces.{HaveBeginnings, AtOver, OnNext, answers_call, begins_with, IsProper}
+use Rattle.map_laws.proofs.ProperPlaces.{HaveBeginnings, AtOver, OnNext, begins_with, moved_has, IsProper, all_joined, all_moved, all_started}
 use Rattle.map_laws.specs.TwoTurns.{AreTurnsKept}
 use Rattle.std.proofs.lemmas.List.Sums.{sum_by-append, sum_by-cons}
 use Rattle.vm_model.specs.Areas.{areas_of, group_areas, group_kinds, spans_of}
@@ -77,82 +77,57 @@ module _ (c : Setup) (w : World) (k : ℕ) (l : Local) (here : slice_get w.local
   pub objects_here : AreChunksFine c (λ number off. OthersPlace w k number off ⊎ IsBeingPlaced number off l.place) w.map.chunks
   objects_here = same_fine c (SomeonePlaces w) _ w.map.chunks w.map.chunks refl (λ number off. other_or (IsBeingPlaced number off) w k l here) kept.fine
 
-module _ (c : Setup) (w : World) (l : Local) (s : Section) (kept : IsObjectWorld c w) (turns : AreTurnsKept w) (here : slice_get w.locals l.caller ≡ Some l) (callers : (j : ℕ) (x : Local) → slice_get w.locals j ≡ Some x → x.caller ≡ j) (call : length l.answers < length l.calls)
-    (meets : Meets c (ask c l.place) s) (legal : IsLegalAs c w.map l.caller s) (moved : IsObjectMoved c w.map l.caller (OthersPlace w l.caller) s (next c l.place s)) where
-  abbrev after_local : Local
-  after_local = moved_to l (next c l.place s)
-
-  abbrev after_world : List Event → World
-  after_world events = record { map = effect_as c w.map l.caller s; locals = slice_set w.locals l.caller after_local; events = events }
+module _ (w : World) (l : Local) (s : Section) (kept : IsObjectWorld l.setup w) (turns : AreTurnsKept w) (here : slice_get w.locals l.caller ≡ Some l) (callers : (j : ℕ) (x : Local) → slice_get w.locals j ≡ Some x → x.caller ≡ j)
+    (call : length l.answers < length l.calls) (meets : Meets l.setup (ask l.setup l.place) s) (legal : IsLegalAs l.setup w.map l.caller s) (moved : IsObjectMoved l.setup w.map l.caller (OthersPlace w l.caller) s (next l.setup l.place s)) where
+  abbrev after_map : PlainMap
+  after_map = (made_by w l s).map
 
   moved_placed : (n : Next) (number off : ℕ) → next_placed n number off → IsBeingPlaced number off (moved_to l n).place
   moved_placed n number off b = grind arith
 
-  joined_placed : (events : List Event) (number off : ℕ) → OthersPlace w l.caller number off ⊎ next_placed (next c l.place s) number off → SomeonePlaces (after_world events) number off
-  joined_placed events number off b = others_still (IsBeingPlaced number off) w l.caller l here after_local (effect_as c w.map l.caller s) events
-      (elim b [ inl other ↦ inl other | inr own ↦ inr (moved_placed (next c l.place s) number off own) ])
+  joined_placed : (number off : ℕ) → OthersPlace w l.caller number off ⊎ next_placed (next l.setup l.place s) number off → SomeonePlaces (made_by w l s) number off
+  joined_placed number off b = others_still (IsBeingPlaced number off) w l.caller l here (moved_to l (next l.setup l.place s)) after_map (made_by w l s).events
+      (elim b [ inl other ↦ inl other | inr own ↦ inr (moved_placed (next l.setup l.place s) number off own) ])
 
-  moved_hand : (n : Next) → OnNext (IsObjectAt (effect_as c w.map l.caller s) l.caller) n → IsObjectAt (effect_as c w.map l.caller s) l.caller (moved_to l n).place
-  moved_hand (Go p) h = h
-  moved_hand (Answer r made) h = let e = answers_call l r made call in
-      unhanded_at (effect_as c w.map l.caller s) l.caller (moved_to l (Answer r made)).place (subst (λ (x : Local). IsUnchunked x.place) (sym e.2) (begins_with IsUnchunked l.setup (unchunked_begins l.setup) l.opening _ (slice_get l.calls (suc (length l.answers)))))
-
-  moved_number : (n : Next) → OnNext (IsNumberNext (effect_as c w.map l.caller s)) n → IsNumberNext (effect_as c w.map l.caller s) (moved_to l n).place
-  moved_number (Go p) h = h
-  moved_number (Answer r made) h = let e = answers_call l r made call in
-      let none : IsUnnumbered (moved_to l (Answer r made)).place = subst (λ (x : Local). IsUnnumbered x.place) (sym e.2) (begins_with IsUnnumbered l.setup (unnumbered_begins l.setup) l.opening _ (slice_get l.calls (suc (length l.answers)))) in λ number f. cc
-
-  other_hand : (j : ℕ) (x : Local) → slice_get w.locals j ≡ Some x → j ≢ l.caller → IsObjectAt (effect_as c w.map l.caller s) x.caller x.place
-  other_hand j x there apart = hand_stays w.map (effect_as c w.map l.caller s) x.caller x.place
+  other_hand : (j : ℕ) (x : Local) → slice_get w.locals j ≡ Some x → j ≢ l.caller → IsObjectAt after_map x.caller x.place
+  other_hand j x there apart = hand_stays w.map after_map x.caller x.place
       (λ at is. moved.keeps at (InHand x.caller) is (hand_lives l.caller x.caller s (λ e. apart (sym (callers j x there) ∙ e)))) (kept.hands j x there)
 
-  other_number : (j : ℕ) (x : Local) → slice_get w.locals j ≡ Some x → j ≢ l.caller → IsNumberNext (effect_as c w.map l.caller s) x.place
-  other_number j x there apart number e = elim (same_or_alloc c w.map l.caller l.place s meets) [
+  other_number : (j : ℕ) (x : Local) → slice_get w.locals j ≡ Some x → j ≢ l.caller → IsNumberNext after_map x.place
+  other_number j x there apart number e = elim (same_or_alloc l.setup w.map l.caller l.place s meets) [
     | inl same ↦ kept.numbers j x there number e ∙ sym same
     | inr alloc ↦ absurd (let no = alone w l.caller l here turns j x there apart alloc in let yes = number_alloc x.place number e in cc)
   ]
 
-  pub object_step : (m' : PlainMap) → m' ≡ effect_as c w.map l.caller s → (locals : List Local) → locals ≡ slice_set w.locals l.caller after_local → (events : List Event) → IsObjectWorld c (record { map = m'; locals = locals; events = events })
-  object_step m' e locals f events = subst (λ m. IsObjectWorld c (record { map = m; locals = locals; events = events })) (sym e) (subst (λ ls. IsObjectWorld c (record { map = effect_as c w.map l.caller s; locals = ls; events = events })) (sym f) (record {
-    fine = same_fine c _ (SomeonePlaces (after_world events)) (effect_as c w.map l.caller s).chunks (effect_as c w.map l.caller s).chunks refl (joined_placed events) moved.fine;
-    hands = λ j x at. elim (set_cases w.locals l.caller j after_local x at) [
-      | inl g ↦ subst (λ (y : Local). IsObjectAt (effect_as c w.map l.caller s) y.caller y.place) (sym g.1)
-          (subst (λ i. IsObjectAt (effect_as c w.map l.caller s) i after_local.place) (sym (moved_caller l (next c l.place s) call)) (moved_hand (next c l.place s) moved.own))
-      | inr g ↦ other_hand j x g.1 g.0
-    ];
-    numbers = λ j x at. elim (set_cases w.locals l.caller j after_local x at) [
-      | inl g ↦ subst (λ (y : Local). IsNumberNext (effect_as c w.map l.caller s) y.place) (sym g.1)
-          (moved_number (next c l.place s) (number_after c w.map l.caller l.place s meets legal (kept.numbers l.caller l here)))
-      | inr g ↦ other_number j x g.1 g.0
-    ];
-  }))
+  pub object_step : IsObjectWorld l.setup (made_by w l s)
+  object_step = record {
+    fine = same_fine l.setup _ (SomeonePlaces (made_by w l s)) after_map.chunks after_map.chunks refl joined_placed moved.fine;
+    hands = all_moved (λ x. IsObjectAt after_map x.caller x.place) w.locals l.caller _ (subst (λ i. IsObjectAt after_map i (moved_to l (next l.setup l.place s)).place) (sym (moved_caller l (next l.setup l.place s) call))
+        (moved_has (IsObjectAt after_map l.caller) l (λ p opens. unhanded_at after_map l.caller p (unchunked_begins l.setup p opens)) call _ moved.own)) other_hand;
+    numbers = all_moved (λ x. IsNumberNext after_map x.place) w.locals l.caller _
+        (moved_has (IsNumberNext after_map) l (λ p opens number f. (let none = unnumbered_begins l.setup p opens in cc)) call _ (number_after l.setup w.map l.caller l.place s meets legal (kept.numbers l.caller l here))) other_number;
+  }
 
 -- callers at their start have no object and no chunk
-module _ (c : Setup) (m : PlainMap) (answers : List Answered) where
-  hands_at : (first : ℕ) (more : List (List Call)) (j : ℕ) (l : Local) → slice_get (callers_from c answers first more) j ≡ Some l → IsObjectAt m l.caller l.place
-  hands_at first [] j l h = cc
-  hands_at first (own ∷ more) zero l h = let e : started c answers first own ≡ l = cc in
-      subst (λ (x : Local). IsObjectAt m x.caller x.place) e (unhanded_at m first (started c answers first own).place (begins_with IsUnchunked c (unchunked_begins c) answers [] (slice_get own 0)))
-  hands_at first (own ∷ more) (suc j) l h = hands_at (suc first) more j l h
+module _ (c : Setup) (m : PlainMap) (answers : List Answered) (k : ℕ) (own : List Call) where
+  started_hand : IsObjectAt m k (started c answers k own).place
+  started_hand = unhanded_at m k _ (begins_with IsUnchunked c (unchunked_begins c) answers [] (slice_get own 0))
 
-  numbers_at : (first : ℕ) (more : List (List Call)) (j : ℕ) (l : Local) → slice_get (callers_from c answers first more) j ≡ Some l → IsNumberNext m l.place
-  numbers_at first [] j l h = cc
-  numbers_at first (own ∷ more) zero l h = let e : started c answers first own ≡ l = cc in
-      subst (λ (x : Local). IsNumberNext m x.place) e (let none = begins_with IsUnnumbered c (unnumbered_begins c) answers [] (slice_get own 0) in λ number f. cc)
-  numbers_at first (own ∷ more) (suc j) l h = numbers_at (suc first) more j l h
+  started_number : IsNumberNext m (started c answers k own).place
+  started_number number f = let none = begins_with IsUnnumbered c (unnumbered_begins c) answers [] (slice_get own 0) in cc
 
 pub object_joins : (c : Setup) (calls : List (List Call)) (w : World) → IsObjectWorld c w → IsObjectWorld c (with_callers c calls w)
 object_joins c calls w is = record {
   fine = same_fine c (SomeonePlaces w) (SomeonePlaces (with_callers c calls w)) w.map.chunks w.map.chunks refl (λ number off. someone_joins (IsBeingPlaced number off) w (callers_from c (opening_answers w.locals) 1 calls)) is.fine;
-  hands = λ k l h. elim (append_cases w.locals (callers_from c (opening_answers w.locals) 1 calls) k l h) [ inl e ↦ is.hands k l e | inr e ↦ hands_at c w.map (opening_answers w.locals) 1 calls e.0 l e.2 ];
-  numbers = λ k l h. elim (append_cases w.locals (callers_from c (opening_answers w.locals) 1 calls) k l h) [ inl e ↦ is.numbers k l e | inr e ↦ numbers_at c w.map (opening_answers w.locals) 1 calls e.0 l e.2 ];
+  hands = all_joined (λ x. IsObjectAt w.map x.caller x.place) c calls w is.hands (started_hand c w.map (opening_answers w.locals));
+  numbers = all_joined (λ x. IsNumberNext w.map x.place) c calls w is.numbers (started_number c w.map (opening_answers w.locals));
 }
 
 pub object_first : (c : Setup) (opening : List Call) (calls : List (List Call)) → IsObjectWorld c (opening_world c opening calls)
 object_first c opening calls = record {
   fine = record { once = λ number. omega arith; each = λ h there. (let at = there.at in cc) };
-  hands = λ k l h. hands_at c (opening_world c opening calls).map [] 0 (opening ∷ []) k l h;
-  numbers = λ k l h. numbers_at c (opening_world c opening calls).map [] 0 (opening ∷ []) k l h;
+  hands = all_started (λ x. IsObjectAt (opening_world c opening calls).map x.caller x.place) c [] 0 (opening ∷ []) (started_hand c (opening_world c opening calls).map []);
+  numbers = all_started (λ x. IsNumberNext (opening_world c opening calls).map x.place) c [] 0 (opening ∷ []) (started_number c (opening_world c opening calls).map []);
 }
 
 -- What every reached world of a trace has, of areas, blocks, parts, chunks, objects and callers.
@@ -226,74 +201,55 @@ module _ (c : Setup) (setup : IsSetup c) (w : World) (framed : IsFramed c w) (is
     pub once_here : (page : ℕ) → own_uses c w.map l.place page ≤ 1
     once_here = subst (λ d. (page : ℕ) → own_uses d w.map l.place page ≤ 1) (framed.own k l here).setup (own_once w k l is.area here)
 
-  module _ (k : ℕ) (l : Local) (s : Section) (step : IsLegalStep w k l s) where
-    at_caller : slice_get w.locals l.caller ≡ Some l
-    at_caller = subst (λ i. slice_get w.locals i ≡ Some l) (sym (framed.own k l step.step.here).caller) step.step.here
+-- over the setup and the number that its caller has
+module _ (w : World) (l : Local) (s : Section) (setup : IsSetup l.setup) (framed : IsFramed l.setup w) (is : IsTraceWorld l.setup w) (step : IsLegalStep w l.caller l s) where
+  has_call_here : length l.answers < length l.calls
+  has_call_here = has_call l.setup l.caller l (framed.own l.caller l step.step.here) (not_over l.setup w.map l.place s step.step.gives)
 
-    legal_here : IsLegalAs c w.map l.caller s
-    legal_here = let own = framed.own k l step.step.here in subst (λ d. IsLegalAs d w.map l.caller s) own.setup (subst (λ i. IsLegalAs l.setup w.map i s) (sym own.caller) step.legal)
+  sided : IsChunkSided l.setup w.map l.place
+  sided = sided_here l.setup setup w framed is l.caller l step.step.here
 
-    meets_here : Meets c (ask c l.place) s
-    meets_here = subst (λ d. Meets d (ask d l.place) s) (framed.own k l step.step.here).setup step.meets
+  plain : IsRemovedPlain w.map l.place
+  plain = plain_here l.setup w framed is l.caller l step.step.here
 
-    has_call_here : length l.answers < length l.calls
-    has_call_here = has_call c k l (framed.own k l step.step.here) (not_over l.setup w.map l.place s step.step.gives)
+  once : (page : ℕ) → times page (spans_of w.map.areas) ≤ 1
+  once = areas_once l.setup w framed is l.caller l step.step.here
 
-    step_blocks : IsBlockWorld c (made_by w l s)
-    step_blocks =
-        let own = framed.own k l step.step.here in
-        let moved = block_by c w.map l.caller is.area.fine (has_parts c setup) is.blocks.blocks l.place s (sided_here k l step.step.here) (proper_here k l step.step.here) (holding_here k l step.step.here) (plain_here c w framed is k l step.step.here)
-        (once_here k l step.step.here) (own_names c w framed is k l step.step.here) (is.blocks.each k l step.step.here) meets_here legal_here in
-        block_step c w l s is.blocks at_caller (λ j x h. (framed.own j x h).caller) has_call_here moved own.setup
-        (made_by w l s).map (ap (λ d. effect_as d w.map l.caller s) own.setup) (made_by w l s).locals (ap (λ d. slice_set w.locals l.caller (moved_to l (next d l.place s))) own.setup) (made_by w l s).events
+  names : (start : ℕ) → count_of start (block_starts w.map.blocks) + count_of start (block_out l.place) ≤ 1
+  names = own_names l.setup w framed is l.caller l step.step.here
 
-    moved_chunks : IsChunkMoved c w.map l.caller (OthersPopulate w l.caller) l.place s (next c l.place s)
-    moved_chunks = chunk_by c setup.units w.map l.caller is.chunks.numbered (areas_once c w framed is k l step.step.here) (OthersPopulate w l.caller) is.area.fine is.full.each (has_parts c setup).some is.blocks.blocks l.place s
-        (none_populates w l.caller l at_caller is.turns.turns) (chunks_here w l.caller l at_caller is.turns.turns c is.chunks) (proper_here k l step.step.here) (holding_here k l step.step.here) (plain_here c w framed is k l step.step.here)
-        (is.blocks.each k l step.step.here) (is.chunks.each k l step.step.here) meets_here legal_here
+  step_blocks : IsBlockWorld l.setup (made_by w l s)
+  step_blocks = block_step l.setup w l s is.blocks step.step.here (λ j x h. (framed.own j x h).caller) has_call_here
+      (block_by l.setup w.map l.caller is.area.fine (has_parts l.setup setup) is.blocks.blocks l.place s sided (is.turns.proper.each l.caller l step.step.here) (is.area.each l.caller l step.step.here) plain (own_once w l.caller l is.area step.step.here)
+      names (is.blocks.each l.caller l step.step.here) step.meets step.legal) refl (made_by w l s).map refl (made_by w l s).locals refl (made_by w l s).events
 
-    step_chunks : IsChunkWorld c (made_by w l s)
-    step_chunks =
-        let own = framed.own k l step.step.here in
-        chunk_step c w l s is.chunks is.turns.turns at_caller has_call_here moved_chunks
-        (made_by w l s).map (ap (λ d. effect_as d w.map l.caller s) own.setup) (made_by w l s).locals (ap (λ d. slice_set w.locals l.caller (moved_to l (next d l.place s))) own.setup) (made_by w l s).events
+  moved_chunks : IsChunkMoved l.setup w.map l.caller (OthersPopulate w l.caller) l.place s (next l.setup l.place s)
+  moved_chunks = chunk_by l.setup setup.units w.map l.caller is.chunks.numbered once (OthersPopulate w l.caller) is.area.fine is.full.each (has_parts l.setup setup).some is.blocks.blocks l.place s
+      (none_populates w l.caller l step.step.here is.turns.turns) (chunks_here w l.caller l step.step.here is.turns.turns l.setup is.chunks) (is.turns.proper.each l.caller l step.step.here) (is.area.each l.caller l step.step.here) plain
+      (is.blocks.each l.caller l step.step.here) (is.chunks.each l.caller l step.step.here) step.meets step.legal
 
-    moved_objects : IsObjectMoved c w.map l.caller (OthersPlace w l.caller) s (next c l.place s)
-    moved_objects = object_by c w.map l.caller is.chunks.numbered (λ h there. (is.chunks.chunks h there).long) (OthersPlace w l.caller) l.place s (objects_here c w l.caller l at_caller is.objects) (proper_here k l step.step.here)
-        (is.objects.hands k l step.step.here) moved_chunks.own meets_here legal_here
+  moved_objects : IsObjectMoved l.setup w.map l.caller (OthersPlace w l.caller) s (next l.setup l.place s)
+  moved_objects = object_by l.setup w.map l.caller is.chunks.numbered (λ h there. (is.chunks.chunks h there).long) (OthersPlace w l.caller) l.place s (objects_here l.setup w l.caller l step.step.here is.objects)
+      (is.turns.proper.each l.caller l step.step.here) (is.objects.hands l.caller l step.step.here) moved_chunks.own step.meets step.legal
 
-    step_objects : IsObjectWorld c (made_by w l s)
-    step_objects =
-        let own = framed.own k l step.step.here in
-        object_step c w l s is.objects is.turns.turns at_caller (λ j x h. (framed.own j x h).caller) has_call_here meets_here legal_here moved_objects
-        (made_by w l s).map (ap (λ d. effect_as d w.map l.caller s) own.setup) (made_by w l s).locals (ap (λ d. slice_set w.locals l.caller (moved_to l (next d l.place s))) own.setup) (made_by w l s).events
+  outside : IsOutside l.setup w.map l.place
+  outside = block_outside l.setup w.map l.caller once is.blocks.blocks l.place sided plain (is.blocks.each l.caller l step.step.here) (λ start. (let n = names start in omega arith))
 
-    step_uses : AreObjectsMade (made_by w l s)
-    step_uses =
-        let own = framed.own k l step.step.here in
-        made_step c w l s is.uses at_caller has_call_here (not_over l.setup w.map l.place s step.step.gives) meets_here legal_here (SomeonePlaces w) is.objects.fine (is.objects.hands k l step.step.here) moved_objects.keeps
-        (made_by w l s).map (ap (λ d. effect_as d w.map l.caller s) own.setup) (made_by w l s).locals (ap (λ d. slice_set w.locals l.caller (moved_to l (next d l.place s))) own.setup) (made_by w l s).events
-
-    outside_here : IsOutside l.setup w.map l.place
-    outside_here = subst (λ d. IsOutside d w.map l.place) (sym (framed.own k l step.step.here).setup)
-        (block_outside c w.map l.caller (areas_once c w framed is k l step.step.here) is.blocks.blocks l.place (sided_here k l step.step.here) (plain_here c w framed is k l step.step.here) (is.blocks.each k l step.step.here)
-        (λ start. (let n = own_names c w framed is k l step.step.here start in omega arith)))
-
-    pub trace_step : (calls : List (List Call)) → IsTraceWorld c (made_by w l s)
-    trace_step calls =
-        let own = framed.own k l step.step.here in let proper = is.turns.proper.each k l step.step.here in record {
-          turns = (turns_last c calls).steps w k l s framed is.turns step.step;
-          area = area_kept c w k l s framed is.area proper outside_here step;
-          plain = plain_step c w k l s framed is.turns.proper is.plain step;
-          blocks = step_blocks;
-          chunks = step_chunks;
-          objects = step_objects;
-          uses = step_uses;
-          made = subst (λ d. AreMadeWell d (made_by w l s).map.areas) own.setup (made_section l.setup w.map l.caller l.place s proper step.meets (subst (λ d. AreMadeWell d w.map.areas) (sym own.setup) is.made));
-          clean = (clean_lasts c calls).steps w k l s framed is.clean step;
-          aligned = (aligned_lasts c calls).steps w k l s framed is.aligned step.step;
-          full = full_after l.setup w.map l.caller (subst (λ d. 1 ≤ d.block_pages) (sym own.setup) (has_parts c setup).some) (subst AreGroups (sym own.setup) setup.groups) l.place s proper step.meets is.full;
-        }
+  trace_step : IsTraceWorld l.setup (made_by w l s)
+  trace_step = let proper = is.turns.proper.each l.caller l step.step.here in record {
+    turns = (turns_last l.setup []).steps w l.caller l s framed is.turns step.step;
+    area = area_kept l.setup w l.caller l s framed is.area proper outside step;
+    plain = plain_step l.setup w l.caller l s framed is.turns.proper is.plain step;
+    blocks = step_blocks;
+    chunks = chunk_step w l s is.chunks is.turns.turns step.step.here has_call_here moved_chunks;
+    objects = object_step w l s is.objects is.turns.turns step.step.here (λ j x h. (framed.own j x h).caller) has_call_here step.meets step.legal moved_objects;
+    uses = made_step l.setup w l s is.uses step.step.here has_call_here (not_over l.setup w.map l.place s step.step.gives) step.meets step.legal (SomeonePlaces w) is.objects.fine (is.objects.hands l.caller l step.step.here) moved_objects.keeps
+        (made_by w l s).map refl (made_by w l s).locals refl (made_by w l s).events;
+    made = made_section l.setup w.map l.caller l.place s proper step.meets is.made;
+    clean = (clean_lasts l.setup []).steps w l.caller l s framed is.clean step;
+    aligned = (aligned_lasts l.setup []).steps w l.caller l s framed is.aligned step.step;
+    full = full_after l.setup w.map l.caller (has_parts l.setup setup).some setup.groups l.place s proper step.meets is.full;
+  }
 
 module _ (c : Setup) (opening : List Call) (calls : List (List Call)) where
   -- callers at their start have no block
@@ -306,29 +262,27 @@ module _ (c : Setup) (opening : List Call) (calls : List (List Call)) where
     callers_out start (suc first) answers more,
   )
 
-  callers_at : (m : PlainMap) (answers : List Answered) (first : ℕ) (more : List (List Call)) (j : ℕ) (l : Local) → slice_get (callers_from c answers first more) j ≡ Some l → IsBlockAt c m l.caller l.place
-  callers_at m answers first [] j l h = cc
-  callers_at m answers first (own ∷ more) zero l h = let e : started c answers first own ≡ l = cc in
-      subst (λ (x : Local). IsBlockAt c m x.caller x.place) e (unblocky_at c m first (started c answers first own).place (begins_with IsUnblocky c (unblocky_begins c) answers [] (slice_get own 0)))
-  callers_at m answers first (own ∷ more) (suc j) l h = callers_at m answers (suc first) more j l h
+  started_block : (m : PlainMap) (answers : List Answered) (k : ℕ) (own : List Call) → IsBlockAt c m k (started c answers k own).place
+  started_block m answers k own = unblocky_at c m k _ (begins_with IsUnblocky c (unblocky_begins c) answers [] (slice_get own 0))
 
   block_joins : (w : World) → IsBlockWorld c w → IsBlockWorld c (with_callers c calls w)
   block_joins w is = record {
     blocks = is.blocks;
     named = λ start. (let before = is.named start in omega (arith, sum_by-append (λ (x : Local). count_of start (block_out x.place)) w.locals (callers_from c (opening_answers w.locals) 1 calls), callers_out start 1 (opening_answers w.locals) calls));
-    each = λ k l h. elim (append_cases w.locals (callers_from c (opening_answers w.locals) 1 calls) k l h) [ inl e ↦ is.each k l e | inr e ↦ callers_at w.map (opening_answers w.locals) 1 calls e.0 l e.2 ];
+    each = all_joined (λ x. IsBlockAt c w.map x.caller x.place) c calls w is.each (started_block w.map (opening_answers w.locals));
   }
 
   block_first : IsBlockWorld c (opening_world c opening calls)
   block_first = record {
     blocks = λ b there. (let at = there.at in cc);
     named = λ start. omega (arith, callers_out start 0 [] (opening ∷ []));
-    each = λ k l h. callers_at (opening_world c opening calls).map [] 0 (opening ∷ []) k l h;
+    each = all_started (λ x. IsBlockAt c (opening_world c opening calls).map x.caller x.place) c [] 0 (opening ∷ []) (started_block (opening_world c opening calls).map []);
   }
 
   pub trace_lasts : IsTrace c opening calls → IsLegallyLasting c calls (IsTraceWorld c)
   trace_lasts trace = record {
-    steps = λ w k l s framed is step. trace_step c trace.setup w framed is k l s step calls;
+    steps = λ w k l s framed is step. (let own = framed.own k l step.step.here in subst (λ d. IsSetup d → IsFramed d w → IsTraceWorld d w → IsTraceWorld d (made_by w l s)) own.setup
+        (λ setup framed is. trace_step w l s setup framed is (subst (λ i. IsLegalStep w i l s) (sym own.caller) step)) trace.setup framed is);
     joins = λ w framed one is over. record {
       turns = (turns_last c calls).joins w framed one is.turns over;
       area = area_joins c calls w is.area;

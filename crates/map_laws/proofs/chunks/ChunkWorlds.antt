@@ -6,7 +6,7 @@ use Rattle.vm_model.specs.Calls.{Answered}
 use Rattle.vm_model.specs.Carried.{IsBeingPopulated, SomeoneIsPopulating, has_alloc}
 use Rattle.vm_model.specs.Effects.{effect_as}
 use Rattle.vm_model.specs.Events.{Event, Section}
-use Rattle.vm_model.specs.History.{Local, World, callers_from, moved_to, opening_answers, opening_world, started, with_callers}
+use Rattle.vm_model.specs.History.{Local, World, callers_from, made_by, moved_to, opening_answers, opening_world, started, with_callers}
 use Rattle.vm_model.specs.Legal.{OnPages}
 use Rattle.vm_model.specs.Next.{Answer, Go, Next, next}
 use Rattle.vm_model.specs.Places.{Depopulating, Filling, Finding, FindingAgain, Place, Populating, UnlinkingGroups}
@@ -23,8 +23,8 @@ use Rattle.map_laws.proofs.chunks.ChunkFacts.{AreGroupsLive, IsChunkAt, IsChunkF
 use Rattle.map_laws.proofs.chunks.ChunkDispatch.{groups_no_block, groups_unlinked, IsUnchunked, unchunked_at}
 use Rattle.map_laws.proofs.chunks.ChunkMoves.{IsChunkMoved, next_busy, groups_free}
 use Rattle.map_laws.proofs.chunks.ChunkRows.{AreNumbered}
-use Rattle.map_laws.proofs.KeptThroughSteps.{append_cases, set_cases, there, SomeOther, other_or, others_still, someone_joins}
-use Rattle.map_laws.proofs.ProperPlaces.{HaveBeginnings, AtOver, OnNext, answers_call, begins_with}
+use Rattle.map_laws.proofs.KeptThroughSteps.{there, SomeOther, other_or, others_still, someone_joins}
+use Rattle.map_laws.proofs.ProperPlaces.{HaveBeginnings, AtOver, begins_with, moved_has, all_joined, all_moved, all_started}
 use Rattle.map_laws.specs.TwoTurns.{AreTurnsKept}
 
 module _ (c : Setup) (units : AreUnits c) (groups : AreGroups c) (m : PlainMap) (once : (page : ℕ) → times page (spans_of m.areas) ≤ 1) (full : (a : Area) → IsIn a m.areas → 1 ≤ a.span.pages) (some : 1 ≤ c.block_pages)
@@ -78,53 +78,37 @@ module _ (w : World) (k : ℕ) (l : Local) (here : slice_get w.locals k ≡ Some
   pub chunks_here : (c : Setup) → IsChunkWorld c w → (h : Chunk) → IsIn h w.map.chunks → IsChunkFine c w.map (λ number page. OthersPopulate w k number page ⊎ IsBeingPopulated number page l.place) h
   chunks_here c kept h there = busier c w.map _ _ h (λ page b. other_or (IsBeingPopulated h.number page) w k l here b) (kept.chunks h there)
 
-module _ (c : Setup) (w : World) (l : Local) (s : Section) (kept : IsChunkWorld c w) (turns : AreTurnsKept w) (here : slice_get w.locals l.caller ≡ Some l) (call : length l.answers < length l.calls)
-    (moved : IsChunkMoved c w.map l.caller (OthersPopulate w l.caller) l.place s (next c l.place s)) where
-  abbrev after_local : Local
-  after_local = moved_to l (next c l.place s)
-
-  abbrev after_world : List Event → World
-  after_world events = record { map = effect_as c w.map l.caller s; locals = slice_set w.locals l.caller after_local; events = events }
-
+module _ (w : World) (l : Local) (s : Section) (kept : IsChunkWorld l.setup w) (turns : AreTurnsKept w) (here : slice_get w.locals l.caller ≡ Some l) (call : length l.answers < length l.calls)
+    (moved : IsChunkMoved l.setup w.map l.caller (OthersPopulate w l.caller) l.place s (next l.setup l.place s)) where
   moved_busy : (n : Next) (number page : ℕ) → next_busy n number page → IsBeingPopulated number page (moved_to l n).place
   moved_busy n number page b = grind arith
 
-  moved_at : (n : Next) → OnNext (IsChunkAt c (effect_as c w.map l.caller s)) n → IsChunkAt c (effect_as c w.map l.caller s) (moved_to l n).place
-  moved_at (Go p) h = h
-  moved_at (Answer r made) h = let e = answers_call l r made call in
-      unchunked_at c (effect_as c w.map l.caller s) (moved_to l (Answer r made)).place (subst (λ (x : Local). IsUnchunked x.place) (sym e.2) (begins_with IsUnchunked l.setup (unchunked_begins l.setup) l.opening _ (slice_get l.calls (suc (length l.answers)))))
+  joined_busy : (number page : ℕ) → OthersPopulate w l.caller number page ⊎ next_busy (next l.setup l.place s) number page → SomeoneIsPopulating (made_by w l s) number page
+  joined_busy number page b = others_still (IsBeingPopulated number page) w l.caller l here (moved_to l (next l.setup l.place s)) (made_by w l s).map (made_by w l s).events
+      (elim b [ inl other ↦ inl other | inr own ↦ inr (moved_busy (next l.setup l.place s) number page own) ])
 
-  joined_busy : (events : List Event) (number page : ℕ) → OthersPopulate w l.caller number page ⊎ next_busy (next c l.place s) number page → SomeoneIsPopulating (after_world events) number page
-  joined_busy events number page b = others_still (IsBeingPopulated number page) w l.caller l here after_local (effect_as c w.map l.caller s) events
-      (elim b [ inl other ↦ inl other | inr own ↦ inr (moved_busy (next c l.place s) number page own) ])
-
-  pub chunk_step : (m' : PlainMap) → m' ≡ effect_as c w.map l.caller s → (locals : List Local) → locals ≡ slice_set w.locals l.caller after_local → (events : List Event) → IsChunkWorld c (record { map = m'; locals = locals; events = events })
-  chunk_step m' e locals f events = subst (λ m. IsChunkWorld c (record { map = m; locals = locals; events = events })) (sym e) (subst (λ ls. IsChunkWorld c (record { map = effect_as c w.map l.caller s; locals = ls; events = events })) (sym f) (record {
-    chunks = λ h there. busier c (effect_as c w.map l.caller s) _ _ h (λ page b. joined_busy events h.number page b) (moved.chunks h there);
+  pub chunk_step : IsChunkWorld l.setup (made_by w l s)
+  chunk_step = record {
+    chunks = λ h there. busier l.setup (made_by w l s).map _ _ h (joined_busy h.number) (moved.chunks h there);
     numbered = moved.numbered;
-    each = λ j x at. elim (set_cases w.locals l.caller j after_local x at) [
-      | inl g ↦ subst (λ (y : Local). IsChunkAt c (effect_as c w.map l.caller s) y.place) (sym g.1) (moved_at (next c l.place s) moved.own)
-      | inr g ↦ moved.others x.place (alone w l.caller l here turns j x g.1 g.0) (kept.each j x g.1)
-    ];
-  }))
+    each = all_moved (λ x. IsChunkAt l.setup (made_by w l s).map x.place) w.locals l.caller _ (moved_has (IsChunkAt l.setup (made_by w l s).map) l (λ p opens. unchunked_at l.setup (made_by w l s).map p (unchunked_begins l.setup p opens)) call _ moved.own)
+        (λ j x at apart. moved.others x.place (alone w l.caller l here turns j x at apart) (kept.each j x at));
+  }
 
 -- callers at their start have no chunk
-callers_at : (c : Setup) (m : PlainMap) (answers : List Answered) (first : ℕ) (more : List (List Call)) (j : ℕ) (l : Local) → slice_get (callers_from c answers first more) j ≡ Some l → IsChunkAt c m l.place
-callers_at c m answers first [] j l h = cc
-callers_at c m answers first (own ∷ more) zero l h = let e : started c answers first own ≡ l = cc in
-    subst (λ (x : Local). IsChunkAt c m x.place) e (unchunked_at c m (started c answers first own).place (begins_with IsUnchunked c (unchunked_begins c) answers [] (slice_get own 0)))
-callers_at c m answers first (own ∷ more) (suc j) l h = callers_at c m answers (suc first) more j l h
+started_chunk : (c : Setup) (m : PlainMap) (answers : List Answered) (k : ℕ) (own : List Call) → IsChunkAt c m (started c answers k own).place
+started_chunk c m answers k own = unchunked_at c m _ (begins_with IsUnchunked c (unchunked_begins c) answers [] (slice_get own 0))
 
 pub chunk_joins : (c : Setup) (calls : List (List Call)) (w : World) → IsChunkWorld c w → IsChunkWorld c (with_callers c calls w)
 chunk_joins c calls w is = record {
   chunks = λ h there. busier c w.map _ _ h (λ page b. someone_joins (IsBeingPopulated h.number page) w (callers_from c (opening_answers w.locals) 1 calls) b) (is.chunks h there);
   numbered = is.numbered;
-  each = λ k l h. elim (append_cases w.locals (callers_from c (opening_answers w.locals) 1 calls) k l h) [ inl e ↦ is.each k l e | inr e ↦ callers_at c w.map (opening_answers w.locals) 1 calls e.0 l e.2 ];
+  each = all_joined (λ x. IsChunkAt c w.map x.place) c calls w is.each (started_chunk c w.map (opening_answers w.locals));
 }
 
 pub chunk_first : (c : Setup) (opening : List Call) (calls : List (List Call)) → IsChunkWorld c (opening_world c opening calls)
 chunk_first c opening calls = record {
   chunks = λ h there. (let at = there.at in cc);
   numbered = record { low = λ h there. (let at = there.at in cc); same = λ h h' there there' e. (let at = there.at in cc) };
-  each = λ k l h. callers_at c (opening_world c opening calls).map [] 0 (opening ∷ []) k l h;
+  each = all_started (λ x. IsChunkAt c (opening_world c opening calls).map x.place) c [] 0 (opening ∷ []) (started_chunk c (opening_world c opening calls).map []);
 }
