@@ -85,10 +85,7 @@ module _ (c : Setup) (units : AreUnits c) (m : PlainMap) (k : ℕ) (numbered : A
   added_grown : AreGrown m added_map
   added_grown = record {
     next = let e = legal.1 in omega arith;
-    back = λ h there low. (let was = object_rows.back h there in elim (old_or_new was.0 was.1) [
-      | inl old ↦ (was.0, old, sym was.2.number, (λ page e. was.2.populated page ∙ e))
-      | inr new ↦ absurd (let e = new_number was.0 new in let f = was.2.number in omega arith)
-    ]);
+    back = λ h there low. (let was = object_rows.back h there in (grind (arith, old_or_new)));
   }
 
   added_lacking : IsLacking c added_map at missing
@@ -127,8 +124,7 @@ page_bit bits bytes off more page is whole low high = by_order (nat_le (1024 * p
 -- what a row of tests says at a place
 pub row_test : (test : ℕ → Bool) (n first i : ℕ) (b : Bool) → slice_get (map test (count_from n first)) i ≡ Some b → test (first + i) ≡ b
 row_test test zero first i b e = cc
-row_test test (suc n) first zero b e = ap test (let f : first + 0 ≡ first = omega arith in f) ∙ cc
-row_test test (suc n) first (suc i) b e = ap test (let f : first + suc i ≡ suc first + i = omega arith in f) ∙ row_test test n (suc first) i b e
+row_test test (suc n) first i b e = grind (arith, row_test test n)
 
 -- a page's bits are covered where the page is listed
 covers_page : (bit page : ℕ) (pages : List ℕ) → is_among pages page ≡ true → holds (span (1024 * page) 1024) bit ≡ true → covers (map (λ page. span (1024 * page) 1024) pages) bit ≡ true
@@ -140,8 +136,7 @@ free_page : (c : Setup) (h : Chunk) (bit page : ℕ) → page < c.unit_pages →
 free_page c h bit page low free here = by_test (is_populated h page) refl
   where
     open_bit : covers (map object_bits h.objects ++ map (λ page. span (1024 * page) 1024) (unpopulated_pages c h)) bit ≡ false
-    open_bit = ap (covers (map object_bits h.objects ++ map (λ page. span (1024 * page) 1024) (unpopulated_pages c h))) (let f : bit ≡ 0 + bit = omega arith in f)
-        ∙ row_test (covers (map object_bits h.objects ++ map (λ page. span (1024 * page) 1024) (unpopulated_pages c h))) (unit_bits c) 0 bit false free
+    open_bit = grind (arith, row_test)
 
     by_test : (t : Bool) → is_populated h page ≡ t → slice_get h.populated page ≡ Some true
     by_test true e = populated_at h page e
@@ -174,8 +169,7 @@ module _ (c : Setup) (units : AreUnits c) (m : PlainMap) (k : ℕ) (numbered : A
   -- it lives from then on
   module _ (at : ObjectAt) (all : (h : Chunk) → IsIn h m.chunks → IsChunkFine c m (λ number page. busy number page ⊎ IsBeingPopulated number page (SettlingAtomic at)) h) (own : IsPlacedAt m at) where
     painted_same : (h : Chunk) → IsIn h m.chunks → h.number ≡ at.chunk → (page : ℕ) (t : Bool) → is_among (pages_of_object at) page ≡ t → slice_get (paint (is_among (pages_of_object at)) true h.populated) page ≡ slice_get h.populated page
-    painted_same h there e page true f = let was = own.populated h there e page f in painted_still (is_among (pages_of_object at)) true h.populated page was ∙ sym was
-    painted_same h there e page false f = unpainted (is_among (pages_of_object at)) true h.populated page f
+    painted_same h there e page t f = grind (arith, painted_still, unpainted)
 
     live_rows : (serial : ℕ) → AreSameRows m (effect_as c m k (SettleObject at serial))
     live_rows serial = rows_changed m (effect_as c m k (SettleObject at serial)) at.chunk (with_live_object at (Lives serial)) refl refl
@@ -255,7 +249,4 @@ module _ (c : Setup) where
     same_or_alloc p s w = grind (arith, asks_chunk, next_same, adds_nothing)
 
     pub number_after : (p : Place) (s : Section) → Meets c (ask c p) s → IsLegalAs c m k s → IsNumberNext m p → OnNext (IsNumberNext (effect_as c m k s)) (next c p s)
-    number_after (Choosing bytes align) s (inl w) legal is = subst (λ (x : Section). OnNext (IsNumberNext (effect_as c m k x)) (next c (Choosing bytes align) x)) (sym w.3) (λ number e. cc)
-    number_after (Choosing bytes align) s (inr w) legal is = grind arith
-    number_after (AddingChunk base chunk bytes align) s w legal is = subst (λ (x : Section). OnNext (IsNumberNext (effect_as c m k x)) (next c (AddingChunk base chunk bytes align) x)) (sym w.3) (λ number e. cc)
-    number_after p s w legal is = grind (arith, next_same, adds_nothing, number_next)
+    number_after p s x3 legal is = grind arith

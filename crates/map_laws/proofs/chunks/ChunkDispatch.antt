@@ -160,9 +160,7 @@ module _ (c : Setup) (units : AreUnits c) (m : PlainMap) (k : ℕ) (numbered : A
     populated_is page h =
         let at = among_in page (populated_pages c spare) h in
         let was = filter_has (is_populated spare) (count_from c.unit_pages 0) at.place page at.at in
-        let low = count_from-below c.unit_pages 0 was.there.place page was.there.at in
-        let l : page < c.unit_pages = omega arith in
-        (l, populated_at spare page was.passes)
+        grind (arith, count_from-below, populated_at)
 
     unpopulated : (page cpu unit : ℕ) → slice_get c.units cpu ≡ Some unit → page < c.unit_pages → is_among (pages_in_units c spare.base (populated_pages c spare)) (spare.base + unit + page) ≡ false → IsUnmapped m (spare.base + unit + page)
     unpopulated page cpu unit at low out = let fine = all spare there in let is = there_at spare.populated page (omega (arith, fine.long)) in by_value is.0 is.1
@@ -330,8 +328,7 @@ module _ (c : Setup) (units : AreUnits c) (m : PlainMap) (k : ℕ) (numbered : A
   chunk_by (MappingPart part) s none all proper own plain block at (inl w) legal = as_c (MappingPart part) all s (MapPages (mapped_pages part)) w legal (λ l. framed_c (MappingPart part) all (MapPages (mapped_pages part)) _ refl refl refl refl refl (part_apart part block.0))
   chunk_by (MappingPart part) s none all proper own plain block at (inr w) legal = as_c (MappingPart part) all s (NoFrames part.pages) w legal (λ l. still_c (MappingPart part) all (NoFrames part.pages) _ (λ number page mine. mine) refl tt)
   chunk_by (UnmappingPart part) s none all proper own plain block at w legal = as_c (UnmappingPart part) all s (Unmap (mapped_pages part)) w legal (λ l. framed_c (UnmappingPart part) all (Unmap (mapped_pages part)) _ refl refl refl refl refl (part_apart part block.0))
-  chunk_by (Removing start serial) s none all proper own plain block at (inl w) legal = as_c (Removing start serial) all s (Remove start serial w.0) w.1 legal
-      (λ l. apart_c (Removing start serial) all (Remove start serial w.0) _ refl refl refl refl (λ number. removed_stays c m k once start serial w.0 number l (plain w.0 l)))
+  chunk_by (Removing start serial) s none all proper own plain block at (inl w) legal = search (as_c, apart_c, removed_stays)
   chunk_by (Removing start serial) s none all proper own plain block at (inr w) legal = as_c (Removing start serial) all s (AreaNotLive start serial) w legal (λ l. still_c (Removing start serial) all (AreaNotLive start serial) _ (λ number page mine. mine) refl tt)
   chunk_by (PurgeUnlinking gone extra after) s none all proper own plain block at w legal = as_c (PurgeUnlinking gone extra after) all s (Unlink gone) w legal (λ l. unlinked_c (PurgeUnlinking gone extra after) all gone _ refl refl block)
   chunk_by (UnlinkingBlock start r) s none all proper own plain block at w legal = as_c (UnlinkingBlock start r) all s (Unlink (start ∷ [])) w legal
@@ -344,15 +341,13 @@ module _ (c : Setup) (units : AreUnits c) (m : PlainMap) (k : ℕ) (numbered : A
   chunk_by (AddingChunk base chunk bytes align) s none all proper own plain block at w legal = as_c (AddingChunk base chunk bytes align) all s (AddChunk chunk base w.0 align w.1) w.3 legal
       (λ l. chunk_added c units m k numbered busy base chunk bytes align all at w.0 w.1 (subst IsObjectSize (sym w.2) proper) l)
   chunk_by (Populating object missing) s none all proper own plain block at (inl w) legal = as_c (Populating object missing) all s (Populate object missing) w legal (λ l. populate_moved c units m k numbered once busy (none refl) object missing all at l)
-  chunk_by (Populating object missing) s none all proper own plain block at (inr w) legal = as_c (Populating object missing) all s (NoFrames (length (pages_in_units c object.base missing))) w legal
-      (λ l. still_c (Populating object missing) all (NoFrames (length (pages_in_units c object.base missing))) _ (λ number page mine. mine) refl tt)
+  chunk_by (Populating object missing) s none all proper own plain block at (inr w) legal = search as_c
   chunk_by (SettlingObject object) s none all proper own plain block at w legal = as_c (SettlingObject object) all s (SettleObject object w.0) w.1 legal (λ l. lives_moved c units m k numbered once busy (none refl) object w.0 _ all at tt)
   chunk_by (Unplacing object) s none all proper own plain block at w legal = as_c (Unplacing object) all s (Unplace object) w legal (λ l. still_c (Unplacing object) all (Unplace object) _ (λ number page mine. mine) refl tt)
   chunk_by (ChoosingAtomic bytes align) s none all proper own plain block at (inl w) legal = as_c (ChoosingAtomic bytes align) all s (PlaceAtomic w.0 align) w.2 legal
       (λ l. atomic_moved c units m k numbered once busy bytes align all w.0 (subst IsObjectSize (sym w.1) proper) l)
   chunk_by (ChoosingAtomic bytes align) s none all proper own plain block at (inr w) legal = as_c (ChoosingAtomic bytes align) all s (NoAtomic bytes align) w legal (λ l. still_c (ChoosingAtomic bytes align) all (NoAtomic bytes align) _ (λ number page mine. mine) refl tt)
-  chunk_by (Zeroing object) s none all proper own plain block at w legal = as_c (Zeroing object) all s (Zero object) w legal
-      (λ l. still_c (Zeroing object) all (Zero object) _ (λ number page mine. mine) refl (chunk_at_stays c units m (effect_as c m k (Zero object)) (plain_rows c m k (Zero object) refl) (λ number. plain_stays c m k (Zero object) number refl) (λ h there. (all h there).live) (SettlingAtomic object) at))
+  chunk_by (Zeroing object) s none all proper own plain block at w legal = search (as_c, still_c, chunk_at_stays, plain_rows)
   chunk_by (SettlingAtomic object) s none all proper own plain block at w legal = as_c (SettlingAtomic object) all s (SettleObject object w.0) w.1 legal (λ l. atomic_lives c units m k numbered once busy object all at w.0 _ tt)
   chunk_by Sparing s none all proper own plain block at (inl w) legal = as_c Sparing all s (Spare w.0 w.1 w.2) w.3 legal (λ l. spared_c (none refl) all w.0 w.1 w.2 l)
   chunk_by Sparing s none all proper own plain block at (inr w) legal = as_c Sparing all s NoSpare w legal (λ l. still_c Sparing all NoSpare _ (λ number page mine. mine) refl tt)
@@ -360,7 +355,6 @@ module _ (c : Setup) (units : AreUnits c) (m : PlainMap) (k : ℕ) (numbered : A
   chunk_by (NextFill filled) s none all proper own plain block at (inl w) legal = as_c (NextFill filled) all s (NextPage w.0 w.1 w.2) w.3 legal (λ l. next_moved c units m k numbered once busy filled all w.0 w.1 w.2 l)
   chunk_by (NextFill filled) s none all proper own plain block at (inr w) legal = as_c (NextFill filled) all s Enough w legal (λ l. still_c (NextFill filled) all Enough _ (λ number page mine. mine) refl tt)
   chunk_by (Filling chunk base page filled) s none all proper own plain block at (inl w) legal = as_c (Filling chunk base page filled) all s (Fill base page) w legal (λ l. fill_moved c units m k numbered once busy (none refl) chunk base page filled all at l)
-  chunk_by (Filling chunk base page filled) s none all proper own plain block at (inr w) legal = as_c (Filling chunk base page filled) all s (NoFrames (length (pages_in_units c base (page ∷ [])))) w legal
-      (λ l. still_c (Filling chunk base page filled) all (NoFrames (length (pages_in_units c base (page ∷ [])))) _ (λ number own mine. mine) refl tt)
+  chunk_by (Filling chunk base page filled) s none all proper own plain block at (inr w) legal = search as_c
   chunk_by (NotingFilled chunk page filled) s none all proper own plain block at w legal = as_c (NotingFilled chunk page filled) all s (Filled chunk page) w legal (λ l. filled_moved c units m k numbered once busy (none refl) chunk page filled _ all at tt)
   chunk_by p s none all proper own plain block at w legal = plain_c p all s refl refl refl w

@@ -48,18 +48,11 @@ pub record IsLower (c : Setup) (number page extra : ℕ) (before after : List Ch
 -- Populating pages.
 
 painted_hole : (t b : Bool) → one_if (not (if t then true else b)) ≤ one_if (not b)
-painted_hole true b = omega arith
-painted_hole false b = omega arith
+painted_hole t b = grind arith
 
 paint_fewer : (test : ℕ → Bool) (p : ℕ) (bits : List Bool) → holes_in (paint_from p test true bits) ≤ holes_in bits
 paint_fewer test p [] = omega arith
-paint_fewer test p (b ∷ bits) = omega (
-  arith,
-  painted_hole (test p) b,
-  paint_fewer test (suc p) bits,
-  sum_by-cons (λ b. one_if (not b)) b bits,
-  sum_by-cons (λ b. one_if (not b)) (if test p then true else b) (paint_from (suc p) test true bits),
-)
+paint_fewer test p (b ∷ bits) = search (paint_fewer test (suc p) bits, painted_hole, sum_by-cons, arith) depth 6
 
 paint_closes : (test : ℕ → Bool) (p : ℕ) (bits : List Bool) (k : ℕ)
     → one_if (is_open (slice_get bits k)) + holes_in (paint_from p test true bits) ≤ one_if (is_open (slice_get (paint_from p test true bits) k)) + holes_in bits
@@ -70,13 +63,7 @@ paint_closes test p (b ∷ bits) zero = omega (
   sum_by-cons (λ b. one_if (not b)) b bits,
   sum_by-cons (λ b. one_if (not b)) (if test p then true else b) (paint_from (suc p) test true bits),
 )
-paint_closes test p (b ∷ bits) (suc k) = omega (
-  arith,
-  painted_hole (test p) b,
-  paint_closes test (suc p) bits k,
-  sum_by-cons (λ b. one_if (not b)) b bits,
-  sum_by-cons (λ b. one_if (not b)) (if test p then true else b) (paint_from (suc p) test true bits),
-)
+paint_closes test p (b ∷ bits) (suc k) = search (paint_closes test (suc p) bits k, painted_hole, sum_by-cons, arith) depth 6
 
 -- a change of a chunk that only populates pages
 pub record OnlyFills (change : Chunk → Chunk) : Type 0 where
@@ -107,24 +94,17 @@ module _ (c : Setup) (number page : ℕ) where
 
   lower_cons : (h h' : Chunk) (xs ys : List Chunk) → worth c h' ≤ worth c h → 3 * open_in number page h + worth c h' ≤ 3 * open_in number page h' + worth c h
       → IsLower c number page 0 xs ys → IsLower c number page 0 (h ∷ xs) (h' ∷ ys)
-  lower_cons h h' xs ys a b more = record {
-    less = (let p = more.less in omega (arith, sum_by-cons (worth c) h xs, sum_by-cons (worth c) h' ys));
-    closes = (let p = more.closes in omega (arith, sum_by-cons (worth c) h xs, sum_by-cons (worth c) h' ys, sum_by-cons (open_in number page) h xs, sum_by-cons (open_in number page) h' ys));
-  }
+  lower_cons h h' xs ys a b more = search (sum_by-cons, arith) depth 6
 
   lower_drop : (h : Chunk) (xs ys : List Chunk) → IsLower c number page 0 xs ys → IsLower c number page 0 (h ∷ xs) ys
-  lower_drop h xs ys more = record {
-    less = (let p = more.less in omega (arith, sum_by-cons (worth c) h xs));
-    closes = (let p = more.closes in omega (arith, one_if_le ((h.number == number) && is_open (slice_get h.populated page)), sum_by-cons (worth c) h xs, sum_by-cons (open_in number page) h xs));
-  }
+  lower_drop h xs ys more = search (sum_by-cons, one_if_le, arith) depth 6
 
   pub lower_change : (own : ℕ) (change : Chunk → Chunk) → OnlyFills change → (chunks : List Chunk) → IsLower c number page 0 chunks (change_chunk own change chunks)
   lower_change own change fills [] = lower_same []
   lower_change own change fills (h ∷ chunks) = grind (arith, lower_change own change fills chunks, lower_cons, nat_tests)
 
   lower_if : (p : Chunk → Bool) (b : Bool) (h : Chunk) (xs ys : List Chunk) → IsLower c number page 0 xs ys → IsLower c number page 0 (h ∷ xs) (cond b (h ∷ ys) ys)
-  lower_if p true h xs ys more = lower_cons h h xs ys (omega arith) (omega arith) more
-  lower_if p false h xs ys more = lower_drop h xs ys more
+  lower_if p b h xs ys more = grind (arith, lower_cons, lower_drop)
 
   lower_filter : (p : Chunk → Bool) (chunks : List Chunk) → IsLower c number page 0 chunks (filter p chunks)
   lower_filter p [] = lower_same []
@@ -135,10 +115,7 @@ module _ (c : Setup) (number page : ℕ) where
   empty_holes (suc n) = omega (arith, sum_by-cons (λ b. one_if (not b)) false (replicate n false), empty_holes n)
 
   lower_new : (chunk base : ℕ) (chunks : List Chunk) → IsLower c number page (15 + cpus c + 3 * c.unit_pages) chunks (chunks ++ new_chunk c chunk base ∷ [])
-  lower_new chunk base chunks = record {
-    less = omega (arith, sum_by-append (worth c) chunks (new_chunk c chunk base ∷ []), empty_holes c.unit_pages);
-    closes = omega (arith, sum_by-append (worth c) chunks (new_chunk c chunk base ∷ []), sum_by-append (open_in number page) chunks (new_chunk c chunk base ∷ []), empty_holes c.unit_pages);
-  }
+  lower_new chunk base chunks = grind (arith, sum_by-append, empty_holes)
 
   pub lower_section : (m : PlainMap) (k : ℕ) (s : Section) → IsLower c number page (added c s) m.chunks (effect_as c m k s).chunks
   lower_section m k s = grind (arith, lower_new, lower_change, object_fills, live_fills, free_fills, lower_filter, page_fills, lower_same, nat_tests)
@@ -159,18 +136,7 @@ zero_mod : (k : ℕ) → (0 % k == 0) ≡ true
 zero_mod k = let z : 0 % k ≡ 0 = omega arith in grind (arith, nat_tests)
 
 lowest_zero : (n k align : ℕ) → k ≤ n → 0 < n → lowest (map (covers []) (count_from n 0)) k align ≡ Some 0
-lowest_zero n k align h p = case n refl
-  where
-    bits : List Bool
-    bits = map (covers []) (count_from n 0)
-
-    case : (i : ℕ) → n ≡ i → lowest (map (covers []) (count_from n 0)) k align ≡ Some 0
-    case zero e = absurd (omega arith)
-    case (suc i) e =
-        the_lowest_fits (map (covers []) (count_from n 0)) k align
-        ∙ ap (λ j. find (fits (map (covers []) (count_from n 0)) k align) (count_from j 0)) (length_bits n 0 ∙ e)
-        ∙ ap (λ b. cond (b && begins_free k (map (covers []) (count_from n 0))) (Some 0) (find (fits (map (covers []) (count_from n 0)) k align) (count_from i 1))) (zero_mod align)
-        ∙ ap (λ b. cond b (Some 0) (find (fits (map (covers []) (count_from n 0)) k align) (count_from i 1))) (none_taken n 0 k h)
+lowest_zero n k align h p = grind (arith, the_lowest_fits, none_taken)
 
 new_fit : (c : Setup) (number base bytes align : ℕ) → 8 ≤ c.unit_pages → bytes ≤ 32768 → plain_fit c bytes align (new_chunk c number base) ≡ Some 0
 new_fit c number base bytes align u b = ap (option_map (λ bit. 4 * bit)) (lowest_zero (unit_bits c) (bytes / 4) (align / 4) (omega arith) (omega arith))
@@ -223,25 +189,21 @@ chunk_page : (c : Setup) (h : Chunk) (p : Chunk × ℕ) → length h.populated �
 chunk_page c h p size e =
     let is = page_is h (slice_get (unpopulated_pages c h) 0) p e in
     let kept = filter_has (λ page. not (is_populated h page)) (count_from c.unit_pages 0) 0 p.1 is.1 in
-    let low = count_from-below c.unit_pages 0 kept.there.place p.1 kept.there.at in
-    (is.0, hole_is h.populated p.1 (omega arith) kept.passes)
+    grind (arith, count_from-below, hole_is)
 
 unless_full : (b : Bool) (o : Option (Chunk × ℕ)) (p : Chunk × ℕ) → (if b then None else o) ≡ Some p → o ≡ Some p
-unless_full true o p e = cc
-unless_full false o p e = e
+unless_full b o p e = grind arith
 
 page_of : (c : Setup) (chunks : List Chunk) (o : Option Chunk) (p : Chunk × ℕ) → ((i : ℕ) (h : Chunk) → slice_get chunks i ≡ Some h → length h.populated ≡ c.unit_pages)
     → ((h : Chunk) → o ≡ Some h → IsIn h chunks) → option_and_then (page_in c) o ≡ Some p → IsFillable chunks p.0 p.1
 page_of c chunks None p sized from e = cc
 page_of c chunks (Some h) p sized from e =
     let at = from h refl in
-    let is = chunk_page c h p (sized at.place h at.at) e in
-    record { there = subst (λ (x : Chunk). IsIn x chunks) is.0 at; unpopulated = subst (λ (x : Chunk). slice_get x.populated p.1 ≡ Some false) is.0 is.1 }
+    grind (arith, chunk_page)
 
 pub page_fillable : (c : Setup) (chunks : List Chunk) (p : Chunk × ℕ) → ((i : ℕ) (h : Chunk) → slice_get chunks i ≡ Some h → length h.populated ≡ c.unit_pages)
     → page_to_fill c chunks ≡ Some p → IsFillable chunks p.0 p.1
 page_fillable c chunks p sized e =
-    let holed : List Chunk = filter (λ h. not (length (unpopulated_pages c h) == 0)) chunks in
     page_of c chunks (least_by (slot c) (filter (λ h. not (length (unpopulated_pages c h) == 0)) chunks)) p sized
     (λ h is. let at = least_in (slot c) _ h is in (filter_has (λ h. not (length (unpopulated_pages c h) == 0)) chunks at.place h at.at).there)
     (unless_full (nat_le 4 (empty_count c chunks)) _ p e)

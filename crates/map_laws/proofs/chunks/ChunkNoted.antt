@@ -52,20 +52,7 @@ module _ (c : Setup) (units : AreUnits c) (m : PlainMap) (k : ℕ) (numbered : A
 
   -- the chunk with its new pages, before anything else is looked at
   noted_fine : (h : Chunk) → IsIn h m.chunks → h.number ≡ number → IsChunkFine c m (λ i page. busy i page ⊎ ⊥) (change h)
-  noted_fine h there e = let fine = all h there in record {
-    live = subst (λ i. AreGroupsLive c m i (change h).base) (sym (numbers h)) (subst (AreGroupsLive c m h.number) (sym (bases h)) fine.live);
-    long = ap (λ (l : List Bool). length l) (paints h) ∙ length-paint_from test true h.populated 0 ∙ fine.long;
-    clean = subst (λ b. OnEach (groups_at c b) (λ page. slice_get m.stale page ≡ Some false)) (sym (bases h)) fine.clean;
-    populated = λ page g. subst (λ b. OnUnits c b page (IsMapped m)) (sym (bases h)) (elim (painted_true test h.populated page (ap (λ l. slice_get l page) (sym (paints h)) ∙ g)) [
-      | inl own ↦ subst (λ b. OnUnits c b page (IsMapped m)) (sym (noted_base h there e)) (mapped page own)
-      | inr was ↦ fine.populated page was
-    ]);
-    outer = subst (λ b. (page : ℕ) → covers (groups_at c b) page ≡ true → is_among (pages_in_units c b (count_from c.unit_pages 0)) page ≡ false → IsUnmapped m page) (sym (bases h)) fine.outer;
-    spare = λ page g. (let was = painted_false test h.populated page (ap (λ l. slice_get l page) (sym (paints h)) ∙ g) in elim (fine.spare page was.1) [
-      | inl bare ↦ inl (subst (λ b. OnUnits c b page (IsUnmapped m)) (sym (bases h)) bare)
-      | inr b ↦ absurd (elim b [ inl other ↦ none h.number page other | inr own ↦ (let yes = mine page (subst (λ i. IsBeingPopulated i page p) e own) in let no = was.0 in cc) ])
-    ]);
-  }
+  noted_fine h there e = let fine = all h there in (grind (arith, length-paint_from, painted_true, noted_base, painted_false))
 
   pub noted_grown : AreGrown m noted_map
   noted_grown = record {
@@ -78,15 +65,7 @@ module _ (c : Setup) (units : AreUnits c) (m : PlainMap) (k : ℕ) (numbered : A
   }
 
   noted_number : (h : Chunk) → IsIn h noted_map.chunks → (was : Chunk) × IsIn was m.chunks × (h.number ≡ was.number) × (((was.number ≡ number) × (h ≡ change was)) ⊎ ((was.number ≢ number) × (h ≡ was)))
-  noted_number h there = let was = keyed_is (λ (x : Chunk). x.number) number change m.chunks h (subst (IsIn h) chunks there) in (
-    was.0,
-    was.1,
-    elim was.2 [
-      | inl own ↦ ap (λ (x : Chunk). x.number) own.1 ∙ numbers was.0
-      | inr other ↦ ap (λ (x : Chunk). x.number) other.1
-    ],
-    was.2,
-  )
+  noted_number h there = let was = keyed_is (λ (x : Chunk). x.number) number change m.chunks h (subst (IsIn h) chunks there) in (grind arith)
 
   both_changed : (h h' : Chunk) → IsSameRow h h' → IsSameRow (change h) (change h')
   both_changed h h' row = grind (arith, length-paint_from, slice_get-paint)
@@ -102,16 +81,7 @@ module _ (c : Setup) (units : AreUnits c) (m : PlainMap) (k : ℕ) (numbered : A
     numbered = record {
       low = λ h there. (let was = noted_number h there in let l = numbered.low was.0 was.1 in let e = was.2 in omega (arith, next));
       same = λ h h' there there' e. (let was = noted_number h there in let was' = noted_number h' there' in
-          let row = numbered.same was.0 was'.0 was.1 was'.1 (sym was.2 ∙ e ∙ was'.2) in elim was.3 [
-            | inl one ↦ elim was'.3 [
-              | inl two ↦ subst (λ x. IsSameRow x h') (sym one.1) (subst (IsSameRow (change was.0)) (sym two.1) (both_changed was.0 was'.0 row))
-              | inr two ↦ absurd (two.0 (row.number ∙ one.0))
-            ]
-            | inr one ↦ elim was'.3 [
-              | inl two ↦ absurd (one.0 (sym row.number ∙ two.0))
-              | inr two ↦ subst (λ x. IsSameRow x h') (sym one.1) (subst (IsSameRow was.0) (sym two.1) row)
-            ]
-          ]);
+          let row = numbered.same was.0 was'.0 was.1 was'.1 (sym was.2 ∙ e ∙ was'.2) in (grind (arith, both_changed)));
     };
     own = own;
     others = λ q apart at. later_places c m noted_map noted_grown q (apart alloc) at;
