@@ -225,12 +225,18 @@ moved_has P l have h (Answer r made) is =
 
 -- What each of several callers has.
 
+-- a caller at its start has its list of calls
+pub started_caller : (c : Setup) (answers : List Answered) (first : ℕ) (calls : List (List Call)) (j : ℕ) (l : Local) → slice_get (callers_from c answers first calls) j ≡ Some l
+    → (own : List Call) × (slice_get calls j ≡ Some own) × (l ≡ started c answers (first + j) own)
+started_caller c answers first [] j l h = cc
+started_caller c answers first (own ∷ more) zero l h = (own, refl, (let n : first + 0 ≡ first = omega arith in cc))
+started_caller c answers first (own ∷ more) (suc j) l h =
+    let is = started_caller c answers (suc first) more j l h in let n : suc first + j ≡ first + suc j = omega arith in (is.0, is.1, is.2 ∙ ap (λ i. started c answers i is.0) n)
+
 -- callers at their start
 pub all_started : (P : Local → Type 0) (c : Setup) (answers : List Answered) (first : ℕ) (calls : List (List Call)) → ((i : ℕ) (own : List Call) → P (started c answers i own))
     → (j : ℕ) (l : Local) → slice_get (callers_from c answers first calls) j ≡ Some l → P l
-all_started P c answers first [] begin j l h = cc
-all_started P c answers first (own ∷ more) begin zero l h = let e : started c answers first own ≡ l = cc in subst P e (begin first own)
-all_started P c answers first (own ∷ more) begin (suc j) l h = all_started P c answers (suc first) more begin j l h
+all_started P c answers first calls begin j l h = let is = started_caller c answers first calls j l h in subst P (sym is.2) (begin (first + j) is.0)
 
 -- callers of a world, with those that join them
 pub all_joined : (P : Local → Type 0) (c : Setup) (calls : List (List Call)) (w : World) → ((k : ℕ) (l : Local) → slice_get w.locals k ≡ Some l → P l)

@@ -15,7 +15,7 @@ use Rattle.vm_model.specs.declared.calls.Call.TheVariants.{Add, AllocAtomic, All
 use Rattle.vm_model.specs.declared.calls.Target.{Target}
 use Rattle.map_laws.proofs.PlaceRows.{place_row}
 use Rattle.map_laws.proofs.AskRows.{ask_row}
-use Rattle.map_laws.proofs.ProperPlaces.{either_place, OnNext, answers_call, all_answered}
+use Rattle.map_laws.proofs.ProperPlaces.{either_place, OnNext, answers_call, all_answered, started_caller}
 use Rattle.std.proofs.lemmas.Option.{same_Some}
 use Rattle.map_laws.proofs.KeptThroughSteps.{set_cases, append_cases, not_over, has_call}
 use Rattle.map_laws.proofs.areas.AreaWorlds.{IsLegallyLasting}
@@ -263,11 +263,6 @@ pub record AreSized (opening : List Call) (calls : List (List Call)) (w : World)
   pub each : (k : ℕ) (l : Local) → slice_get w.locals k ≡ Some l → (own : List Call) × (calls_at opening calls k ≡ Some own) × IsLocalSized own l
 
 module _ (c : Setup) (opening : List Call) (calls : List (List Call)) where
-  joined_sized : (answers : List Answered) (first : ℕ) (more : List (List Call)) (j : ℕ) (l : Local) → slice_get (callers_from c answers first more) j ≡ Some l → (own : List Call) × (slice_get more j ≡ Some own) × IsLocalSized own l
-  joined_sized answers first [] j l h = cc
-  joined_sized answers first (own ∷ more) zero l h = let e = same_Some (started c answers first own) l h in (own, refl, subst (IsLocalSized own) e (started_sized c answers first own))
-  joined_sized answers first (own ∷ more) (suc j) l h = joined_sized answers (suc first) more j l h
-
   pub sized_lasts : IsLegallyLasting c calls (AreSized opening calls)
   sized_lasts = record {
     steps = λ w k l s framed all step. record {
@@ -285,7 +280,8 @@ module _ (c : Setup) (opening : List Call) (calls : List (List Call)) where
     joins = λ w framed one all over. record {
       each = λ k l h. elim (append_cases w.locals (callers_from c (opening_answers w.locals) 1 calls) k l h) [
         | inl e ↦ all.each k l e
-        | inr e ↦ (let has = joined_sized (opening_answers w.locals) 1 calls e.0 l e.2 in let n : k ≡ suc e.0 = omega (arith, one, e.1) in (has.0, ap (calls_at opening calls) n ∙ has.1, has.2))
+        | inr e ↦ (let is = started_caller c (opening_answers w.locals) 1 calls e.0 l e.2 in let n : k ≡ suc e.0 = omega (arith, one, e.1) in
+            (is.0, ap (calls_at opening calls) n ∙ is.1, subst (IsLocalSized is.0) (sym is.2) (started_sized c (opening_answers w.locals) (1 + e.0) is.0)))
       ];
     };
   }

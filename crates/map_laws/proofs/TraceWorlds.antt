@@ -244,7 +244,7 @@ module _ (w : World) (l : Local) (s : Section) (setup : IsSetup l.setup) (framed
     chunks = chunk_step w l s is.chunks is.turns.turns step.step.here has_call_here moved_chunks;
     objects = object_step w l s is.objects is.turns.turns step.step.here (λ j x h. (framed.own j x h).caller) has_call_here step.meets step.legal moved_objects;
     uses = made_step l.setup w l s is.uses step.step.here has_call_here (not_over l.setup w.map l.place s step.step.gives) step.meets step.legal (SomeonePlaces w) is.objects.fine (is.objects.hands l.caller l step.step.here) moved_objects.keeps
-        (made_by w l s).map refl (made_by w l s).locals refl (made_by w l s).events;
+        (made_by w l s).events;
     made = made_section l.setup w.map l.caller l.place s proper step.meets is.made;
     clean = (clean_lasts l.setup []).steps w l.caller l s framed is.clean step;
     aligned = (aligned_lasts l.setup []).steps w l.caller l s framed is.aligned step.step;

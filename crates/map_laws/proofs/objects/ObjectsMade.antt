@@ -21,13 +21,13 @@ use Rattle.vm_model.specs.declared.calls.Reply.{Reply}
 use Rattle.vm_model.specs.declared.calls.Target.{Target}
 use Rattle.map_laws.proofs.blocks.BlockFacts.{same_test, to_same}
 use Rattle.map_laws.proofs.TestsAndFilters.{sum_has, one_if_le, or_assoc, or_false, or_none}
-use Rattle.map_laws.proofs.KeptThroughSteps.{append_cases, append_first, set_cases, set_other, there}
+use Rattle.map_laws.proofs.KeptThroughSteps.{append_cases, append_first, set_other, there}
 use Rattle.map_laws.proofs.SizedCalls.{AreWellNamed, IsMakingNone, IsNoObject, IsNow, begun_now, flight, freeing_place, is_using, makes_object, making_none, next_made}
 use Rattle.map_laws.proofs.objects.ObjectChanges.{lived_object}
 use Rattle.map_laws.proofs.objects.ObjectFacts.{AreChunksFine, IsObject, IsObjectAt, same_place}
 use Rattle.map_laws.proofs.objects.ObjectMoves.{Kills}
 use Rattle.map_laws.proofs.OutMoves.{sum_two}
-use Rattle.map_laws.proofs.ProperPlaces.{HaveBeginnings, AtOver, OnNext, answers_call, begins_with}
+use Rattle.map_laws.proofs.ProperPlaces.{HaveBeginnings, AtOver, OnNext, all_moved, answers_call, begins_with, started_caller}
 use Rattle.vm_model.specs.declared.calls.Reply.TheVariants as reply
 
 abbrev pub is_made : ℕ → Made → ℕ
@@ -242,34 +242,21 @@ module _ (c : Setup) (w : World) (l : Local) (s : Section) (kept : AreObjectsMad
   opened_stays : (events : List Event) (answers : List Answered) → IsOpened w answers → IsOpened (after_world events) answers
   opened_stays events answers x2 = grind (arith, set_other, nat_tests)
 
-  pub made_step : (m' : PlainMap) → m' ≡ after_map → (locals : List Local) → locals ≡ slice_set w.locals l.caller after_local → (events : List Event) → AreObjectsMade (record { map = m'; locals = locals; events = events })
-  made_step m' e locals f events = subst (λ m. AreObjectsMade (record { map = m; locals = locals; events = events })) (sym e) (subst (λ ls. AreObjectsMade (record { map = after_map; locals = ls; events = events })) (sym f) (record {
+  pub made_step : (events : List Event) → AreObjectsMade (after_world events)
+  made_step events = record {
     few = few_after;
-    live = λ j i x a at. elim (set_cases w.locals l.caller j after_local x at) [
-      | inl g ↦ subst (λ (y : Local). slice_get y.answers i ≡ Some a → was_freed y.answers (suc i) ≡ false → IsMadeLive after_map a.made) (sym g.1) (own_live (next c l.place s) refl i a)
-      | inr g ↦ other_live j i x a g.1 g.0
-    ];
-    flying = λ j x at. elim (set_cases w.locals l.caller j after_local x at) [ inl g ↦ subst (λ (y : Local). IsMadeLive after_map (flight y.place)) (sym g.1) (own_flying (next c l.place s) refl) | inr g ↦ other_flying j x g.1 g.0 ];
-    opening = λ j x at. elim (set_cases w.locals l.caller j after_local x at) [
-      | inl g ↦ subst (λ (y : Local). IsOpened (after_world events) y.opening) (sym g.1) (subst (IsOpened (after_world events)) (sym (own_opening (next c l.place s))) (opened_stays events l.opening (kept.opening l.caller l here)))
-      | inr g ↦ opened_stays events x.opening (kept.opening j x g.1)
-    ];
-    calls = λ j x at. elim (set_cases w.locals l.caller j after_local x at) [
-      | inl g ↦ subst (λ (y : Local). AreWellNamed y.calls) (sym g.1) (subst AreWellNamed (sym (own_calls (next c l.place s))) (kept.calls l.caller l here))
-      | inr g ↦ kept.calls j x g.1
-    ];
-    now = λ j x at. elim (set_cases w.locals l.caller j after_local x at) [ inl g ↦ subst (λ (y : Local). IsNow y y.place) (sym g.1) (own_now (next c l.place s) refl) | inr g ↦ kept.now j x g.1 ];
-  }))
+    live = λ j i x a at. all_moved (λ y. (i : ℕ) (a : Answered) → slice_get y.answers i ≡ Some a → was_freed y.answers (suc i) ≡ false → IsMadeLive after_map a.made) w.locals l.caller after_local
+        (own_live (next c l.place s) refl) (λ j x at apart i a. other_live j i x a at apart) j x at i a;
+    flying = all_moved (λ y. IsMadeLive after_map (flight y.place)) w.locals l.caller after_local (own_flying (next c l.place s) refl) other_flying;
+    opening = all_moved (λ y. IsOpened (after_world events) y.opening) w.locals l.caller after_local
+        (subst (IsOpened (after_world events)) (sym (own_opening (next c l.place s))) (opened_stays events l.opening (kept.opening l.caller l here))) (λ j x at apart. opened_stays events x.opening (kept.opening j x at));
+    calls = all_moved (λ y. AreWellNamed y.calls) w.locals l.caller after_local (subst AreWellNamed (sym (own_calls (next c l.place s))) (kept.calls l.caller l here)) (λ j x at apart. kept.calls j x at);
+    now = all_moved (λ y. IsNow y y.place) w.locals l.caller after_local (own_now (next c l.place s) refl) (λ j x at apart. kept.now j x at);
+  }
 
 -- Callers at their start.
 
 module _ (c : Setup) (answers : List Answered) where
-  started_at : (P : Local → Type 0) → ((k : ℕ) (own : List Call) → AreWellNamed own → P (started c answers k own)) → (first : ℕ) (more : List (List Call)) → ((k : ℕ) (own : List Call) → slice_get more k ≡ Some own → AreWellNamed own)
-      → (j : ℕ) (l : Local) → slice_get (callers_from c answers first more) j ≡ Some l → P l
-  started_at P has first [] named j l h = cc
-  started_at P has first (own ∷ more) named zero l h = let e : started c answers first own ≡ l = cc in subst P e (has first own (named 0 own refl))
-  started_at P has first (own ∷ more) named (suc j) l h = started_at P has (suc first) more (λ k x e. named (suc k) x e) j l h
-
   grounded : (k : ℕ) (own : List Call) → flight (started c answers k own).place ≡ MadeNothing
   grounded k own = begins_with IsGrounded c (grounded_begins c) answers [] (slice_get own 0)
 
@@ -311,7 +298,8 @@ module _ (c : Setup) (opening : List Call) (calls : List (List Call)) (named : (
       cases : (k : ℕ) (l : Local) → slice_get (with_callers c calls w).locals k ≡ Some l → (slice_get w.locals k ≡ Some l) ⊎ AreStarted c (opening_answers w.locals) w.map l
       cases k l h = elim (append_cases w.locals (callers_from c (opening_answers w.locals) 1 calls) k l h) [
         | inl e ↦ inl e
-        | inr e ↦ inr (started_at c (opening_answers w.locals) (AreStarted c (opening_answers w.locals) w.map) (started_is c (opening_answers w.locals) w.map) 1 calls named e.0 l e.2)
+        | inr e ↦ let own = started_caller c (opening_answers w.locals) 1 calls e.0 l e.2 in
+            inr (subst (AreStarted c (opening_answers w.locals) w.map) (sym own.2) (started_is c (opening_answers w.locals) w.map (1 + e.0) own.0 (named e.0 own.0 own.1)))
       ]
 
       older : (answers : List Answered) → IsOpened w answers → IsOpened (with_callers c calls w) answers
@@ -333,4 +321,5 @@ made_first c opening calls named = record {
     only (suc k) own e = cc
 
     start : (k : ℕ) (l : Local) → slice_get (opening_world c opening calls).locals k ≡ Some l → AreStarted c [] (opening_world c opening calls).map l
-    start k l h = started_at c [] (AreStarted c [] (opening_world c opening calls).map) (started_is c [] (opening_world c opening calls).map) 0 (opening ∷ []) only k l h
+    start k l h = let own = started_caller c [] 0 (opening ∷ []) k l h in
+        subst (AreStarted c [] (opening_world c opening calls).map) (sym own.2) (started_is c [] (opening_world c opening calls).map (0 + k) own.0 (only k own.0 own.1))
