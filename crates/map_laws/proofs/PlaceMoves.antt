@@ -106,10 +106,7 @@ module _ (c : Setup) (m : PlainMap) (k : ℕ) (fine : IsMapFine m) where
     pub quiet_moved : (s : Section) (n : Next) → is_quiet s ≡ true → OnNext IsUnbearing n → IsMoved c m k p s n
     quiet_moved s n h none = let is = quiet c m k s h in record {
       source = λ page t. (let no = is.untouching page in cc);
-      uses = λ page. (let a : times page (spans_of (effect_as c m k s).areas) ≡ times page (spans_of m.areas) = ap (λ l. times page (spans_of l)) is.areas in
-          let w : times page (effect_as c m k s).waiting ≡ times page m.waiting = ap (times page) is.waiting in
-          let f : as_free (slice_get (effect_as c m k s).marks page) ≡ as_free (slice_get m.marks page) = ap (λ l. as_free (slice_get l page)) is.marks in
-          omega (arith, unbearing_uses (effect_as c m k s) n page none));
+      uses = λ page. (grind arith);
       own = unbearing_own (effect_as c m k s) n none;
       fine = outer_map c m k p s fine once (quiet_outer s h);
     }
@@ -118,8 +115,7 @@ module _ (c : Setup) (m : PlainMap) (k : ℕ) (fine : IsMapFine m) where
 
     carve_uses : (place : Span) (page : ℕ) (b : Bool) → holds place page ≡ b → (holds place page ≡ true → IsMarked m Free page)
         → one_if (holds place page) + as_free (slice_get (paint (holds place) (Held k) m.marks) page) ≤ as_free (slice_get m.marks page)
-    carve_uses place page true e free = omega (arith, painted_free (holds place) (Held k) m.marks page refl, ap one_if e, ap (λ b. if b then 0 else as_free (slice_get m.marks page)) e, free_one m page (free e))
-    carve_uses place page false e free = omega (arith, painted_free (holds place) (Held k) m.marks page refl, ap one_if e, ap (λ b. if b then 0 else as_free (slice_get m.marks page)) e)
+    carve_uses place page b e free = grind (arith, painted_free)
 
     carve_outer : (place : Span) (align : ℕ) → IsLegalAs c m k (Carve place align) → IsOuter c m k p (Carve place align) fine once
     carve_outer place align legal = record {
@@ -269,14 +265,7 @@ module _ (c : Setup) (m : PlainMap) (k : ℕ) (fine : IsMapFine m) where
     unmap_moved after = record {
       source = λ page t. (let n = unmap_outer.source page t in omega arith);
       uses = λ page. omega arith;
-      own = record {
-        held = own.held;
-        flushed = λ page e. cc;
-        bare = λ page e. cc;
-        mapped = λ page e. cc;
-        unmapped = λ page e. unmap_frames page (split_area area.kind area.span page (sym (covers_one area.span page) ∙ e));
-        hull = tt;
-      };
+      own = grind (arith, unmap_frames, split_area);
       fine = outer_map c m k (UnmappingArea area) (Unmap (mapped_part area.kind area.span)) fine once unmap_outer;
     }
 
@@ -293,8 +282,7 @@ module _ (c : Setup) (m : PlainMap) (k : ℕ) (fine : IsMapFine m) where
     wait_area page i a h e false t = untouched c m k (Wait spans waiting) page t
 
     wait_marked : (page : ℕ) → (b : Bool) → covers m.waiting page ≡ b → (b || covers spans page) ≡ true → IsMarked (effect_as c m k (Wait spans waiting)) Waits page
-    wait_marked page true w e = painted_still (covers spans) Waits m.marks page (fine.waits page w)
-    wait_marked page false w e = painted (covers spans) Waits (Held k) m.marks page e (marked page e)
+    wait_marked page b w e = grind (arith, painted_still, painted)
 
     wait_free : (page : ℕ) → InSpans page spans → as_free (slice_get (paint (covers spans) Waits m.marks) page) ≤ as_free (slice_get m.marks page)
     wait_free page x1 = grind (arith, painted_free, nat_tests)
@@ -302,8 +290,7 @@ module _ (c : Setup) (m : PlainMap) (k : ℕ) (fine : IsMapFine m) where
     pub wait_moved : (n : Next) → OnNext IsUnbearing n → IsMoved c m k p (Wait spans waiting) n
     wait_moved n none_next = record {
       source = λ page t. (let q = covers_times page spans t in omega (arith, held_times page));
-      uses = λ page. (let z : times page (flushed p) ≡ 0 = ap (times page) none in
-          omega (arith, unbearing_uses c m k fine (effect_as c m k (Wait spans waiting)) n page none_next, held_times page, wait_free page (in_spans page spans), times-append page m.waiting spans));
+      uses = λ page. (grind (arith, wait_free, in_spans, times-append));
       own = unbearing_own c m k fine (effect_as c m k (Wait spans waiting)) n none_next;
       fine = record {
         areas = λ i a h. area_stays m (effect_as c m k (Wait spans waiting)) a (λ page e. wait_area page i a h e _ refl) (fine.areas i a h);
@@ -340,12 +327,7 @@ module _ (c : Setup) (m : PlainMap) (k : ℕ) (fine : IsMapFine m) where
         let same : is.0 ≡ s = (let g = is.1 in cc) in subst (λ (x : Span). holds x page ≡ true) same is.2
 
     pub take_moved : (o : Option Span) → hull (m.waiting ++ option_to_list extra) ≡ o → IsMoved c m k (PurgeCollecting extra after) (TakeWaiting m.waiting) (after_collecting m.waiting o after)
-    take_moved None e = record {
-      source = λ page t. (let n = covers_times page m.waiting t in omega arith);
-      uses = λ page. omega (arith, take_free page (in_spans page m.waiting));
-      own = holds_nothing c (effect_as c m k (TakeWaiting m.waiting)) k (PurgeGiving after) refl;
-      fine = take_fine;
-    }
+    take_moved None e = grind (arith, covers_times, take_free, in_spans, take_fine)
     take_moved (Some s) e = record {
       source = λ page t. (let n = covers_times page m.waiting t in omega arith);
       uses = λ page. omega (arith, take_free page (in_spans page m.waiting));
@@ -373,22 +355,10 @@ module _ (c : Setup) (m : PlainMap) (k : ℕ) (fine : IsMapFine m) where
         painted (holds s) false was.0 m.stale page (own.hull page e) was.1
 
     pub flush_moved : (list : List Span) → waited ≡ list → IsMoved c m k (PurgeFlushing s waited after) (Flush s) (after_flush list after)
-    flush_moved [] e = record {
-      source = λ page t. cc;
-      uses = λ page. omega arith;
-      own = holds_nothing c (effect_as c m k (Flush s)) k (PurgeGiving after) refl;
-      fine = outer_map c m k (PurgeFlushing s waited after) (Flush s) fine once flush_outer;
-    }
+    flush_moved [] e = search (holds_nothing, outer_map, flush_outer, arith) depth 6
     flush_moved (t ∷ list) e = subst (λ spans. IsMoved c m k (PurgeFlushing s waited after) (Flush s) (Go (PurgeReturning spans after))) e (record {
       source = λ page t. cc;
       uses = λ page. omega arith;
-      own = record {
-        held = λ page e. cc;
-        flushed = own.flushed;
-        bare = λ page e. record { unmapped = own.unmapped page e; not_stale = flush_clean page e };
-        mapped = λ page e. cc;
-        unmapped = λ page e. cc;
-        hull = tt;
-      };
+      own = grind (arith, flush_clean);
       fine = outer_map c m k (PurgeFlushing s waited after) (Flush s) fine once flush_outer;
     })

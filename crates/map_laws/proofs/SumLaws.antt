@@ -16,7 +16,7 @@ use Rattle.map_laws.proofs.KeptThroughSteps.{set_cases, set_same, append_cases, 
 use Rattle.map_laws.proofs.Deeds.{SettlesAt, settles_at, sums_at, adds_at}
 use Rattle.map_laws.proofs.waits.WaitStories.{WhichEvent, Before, Last, which_event}
 use Rattle.map_laws.proofs.objects.ObjectFacts.{IsObject, IsObjectAt}
-use Rattle.map_laws.proofs.TraceWorlds.{SomeonePlaces, IsTraceWorld, trace_lasts, trace_first}
+use Rattle.map_laws.proofs.TraceWorlds.{SomeonePlaces, IsTraceWorld, by_caller, trace_lasts, trace_first}
 use Rattle.map_laws.proofs.objects.ObjectWords.{IsWordOf, word_mapped, zeroed_own, grown, add_within, sum_within}
 use Rattle.map_laws.proofs.FrameWords.{sums_zero, added_more, added_same, adds_nothing, HaveCells, have_cells_section, have_cells_first}
 use Rattle.map_laws.proofs.objects.ObjectsBefore.{CameFrom, Was, Settled, came_from, one_object}
@@ -28,7 +28,7 @@ use Rattle.vm_model.specs.Space.{is_among}
 use Rattle.vm_model.specs.Next.{next}
 use Rattle.vm_model.specs.Calls.{Answered}
 use Rattle.vm_model.specs.Rules.{IsSetup, IsTrace}
-use Rattle.map_laws.proofs.ProperPlaces.{OnNext, HaveBeginnings, AtOver, begins_with, moved_has}
+use Rattle.map_laws.proofs.ProperPlaces.{OnNext, HaveBeginnings, AtOver, all_started, begins_with, moved_has}
 use Rattle.map_laws.proofs.areas.AreaWorlds.{IsLegalStep, IsLegallyLasting, legally_lasts, event_legal}
 use Rattle.map_laws.proofs.chunks.ChunkFacts.{IsChunkAt, unit_page}
 use Rattle.map_laws.proofs.MapLaws.{object_done, populated_mapped, copies_once}
@@ -209,63 +209,36 @@ module _ (c : Setup) (opening : List Call) (calls : List (List Call)) (trace : I
   usable : (w : World) (framed : IsFramed c w) (is : IsSumWorld c opening calls w) (k : ℕ) (l : Local) (here : slice_get w.locals k ≡ Some l) → IsUsable c w.map l.place
   usable w framed is k l here = grind (arith, add_within, named_live, sum_within)
 
-  -- Each legal section keeps it.
+-- Each legal section keeps it.
 
-  module _ (w : World) (k : ℕ) (l : Local) (s : Section) (framed : IsFramed c w) (is : IsSumWorld c opening calls w) (step : IsLegalStep w k l s) where
-    setup : l.setup ≡ c
-    setup = (framed.own k l step.step.here).setup
+module _ (opening : List Call) (calls : List (List Call)) (w : World) (l : Local) (s : Section) (trace : IsTrace l.setup opening calls) (framed : IsFramed l.setup w) (is : IsSumWorld l.setup opening calls w) (step : IsLegalStep w l.caller l s) where
+  trace_now : IsTraceWorld l.setup (made_by w l s)
+  trace_now = (trace_lasts l.setup opening calls trace).steps w l.caller l s framed is.trace step
 
-    caller : l.caller ≡ k
-    caller = (framed.own k l step.step.here).caller
+  cells_now : HaveCells l.setup (made_by w l s).map
+  cells_now = have_cells_section l.setup w.map l.caller s is.cells
 
-    abbrev moved : Local
-    moved = moved_to l (next l.setup l.place s)
+  zeroes : (at : ObjectAt) → IsZeroedAt (moved_to l (next l.setup l.place s)).place at → Zeroes at s
+  zeroes = moved_has (IsJustZeroed s) l (just_begins (IsJustZeroed s) l.setup (λ p none at is. absurd (none at is)))
+      (has_call l.setup l.caller l (framed.own l.caller l step.step.here) (not_over l.setup w.map l.place s step.step.gives)) (next l.setup l.place s) (zeroed_next l.setup l.place s step.meets)
 
-    abbrev by : Setup → ℕ → World
-    by d i = record { map = effect_as d w.map i s; locals = slice_set w.locals i (moved_to l (next l.setup l.place s)); events = w.events ++ (record { caller = i; section = s }) ∷ [] }
+  sum_step : IsSumWorld l.setup opening calls (made_by w l s)
+  sum_step = record {
+    trace = trace_now;
+    cells = cells_now;
+    sized = (sized_lasts l.setup opening calls).steps w l.caller l s framed is.sized step;
+    summed = summed_section l.setup w (words_own l.setup trace.setup w framed is.trace is.cells) is.summed l.caller l step.step.here (own_hand l.setup trace.setup w framed is.trace l.caller l step.step.here)
+        (usable l.setup opening calls trace w framed is l.caller l step.step.here) s step.meets step.legal (moved_to l (next l.setup l.place s))
+        (words_own l.setup trace.setup (made_by w l s) (framed_step l.setup w l.caller l s framed step.step) trace_now cells_now) zeroes;
+  }
 
-    same : made_by w l s ≡ by c k
-    same = ap (λ d. by d l.caller) setup ∙ ap (by c) caller
-
-    meets : Meets c (ask c l.place) s
-    meets = subst (λ d. Meets d (ask d l.place) s) setup step.meets
-
-    legal : IsLegalAs c w.map k s
-    legal = subst (λ d. IsLegalAs d w.map k s) setup step.legal
-
-    trace_now : IsTraceWorld c (made_by w l s)
-    trace_now = (trace_lasts c opening calls trace).steps w k l s framed is.trace step
-
-    cells_now : HaveCells c (by c k).map
-    cells_now = have_cells_section c w.map k s is.cells
-
-    own_now : AreWordsOwn c (by c k)
-    own_now = words_own c trace.setup (by c k) (subst (IsFramed c) same (framed_step c w k l s framed step.step)) (subst (IsTraceWorld c) same trace_now) cells_now
-
-    zeroes : (at : ObjectAt) → IsZeroedAt moved.place at → Zeroes at s
-    zeroes = moved_has (IsJustZeroed s) l (just_begins (IsJustZeroed s) l.setup (λ p none at is. absurd (none at is))) (has_call c k l (framed.own k l step.step.here) (not_over l.setup w.map l.place s step.step.gives)) (next l.setup l.place s)
-        (subst (λ d. OnNext (IsJustZeroed s) (next d l.place s)) (sym setup) (zeroed_next c l.place s meets))
-
-    sum_step : IsSumWorld c opening calls (made_by w l s)
-    sum_step = record {
-      trace = trace_now;
-      cells = subst (λ v. HaveCells c v.map) (sym same) cells_now;
-      sized = (sized_lasts c opening calls).steps w k l s framed is.sized step;
-      summed = subst (IsSummed c) (sym same)
-          (summed_section c w (words_own c trace.setup w framed is.trace is.cells) is.summed k l step.step.here (own_hand c trace.setup w framed is.trace k l step.step.here) (usable w framed is k l step.step.here) s meets legal moved own_now zeroes);
-    }
-
-  -- Callers begin without an object.
-
-  starts_unsettling : (answers : List Answered) (number : ℕ) (more : List (List Call)) (j : ℕ) (l : Local) → slice_get (callers_from c answers number more) j ≡ Some l → IsUnsettling l.place
-  starts_unsettling answers number [] j l h = cc
-  starts_unsettling answers number (own ∷ more) zero l h = let e = same_Some (started c answers number own) l h in
-      subst (λ (x : Local). IsUnsettling x.place) e (begins_with IsUnsettling c (just_begins IsUnsettling c (λ p none. none)) answers [] (slice_get own 0))
-  starts_unsettling answers number (own ∷ more) (suc j) l h = starts_unsettling answers (suc number) more j l h
+module _ (c : Setup) (opening : List Call) (calls : List (List Call)) (trace : IsTrace c opening calls) where
+  started_unsettling : (answers : List Answered) (k : ℕ) (own : List Call) → IsUnsettling (started c answers k own).place
+  started_unsettling answers k own = begins_with IsUnsettling c (just_begins IsUnsettling c (λ p none. none)) answers [] (slice_get own 0)
 
   sum_lasts : IsLegallyLasting c calls (IsSumWorld c opening calls)
   sum_lasts = record {
-    steps = sum_step;
+    steps = λ w k l s framed is step. by_caller (λ d v. IsTrace d opening calls → IsSumWorld d opening calls v) (λ w l s framed is step trace. sum_step opening calls w l s trace framed (is trace) step) c w k l s framed (λ t. is) step trace;
     joins = λ w framed one is over. record {
       trace = (trace_lasts c opening calls trace).joins w framed one is.trace over;
       cells = is.cells;
@@ -277,16 +250,12 @@ module _ (c : Setup) (opening : List Call) (calls : List (List Call)) (trace : I
         sums = is.summed.sums;
         zeroed = λ k l at here zeroed cpu index byte word. elim (append_cases w.locals (callers_from c (opening_answers w.locals) 1 calls) k l here) [
           | inl e ↦ is.summed.zeroed k l at e zeroed cpu index byte word
-          | inr e ↦ absurd (starts_unsettling (opening_answers w.locals) 1 calls e.0 l e.2 at zeroed)
+          | inr e ↦ absurd (all_started (λ x. IsUnsettling x.place) c (opening_answers w.locals) 1 calls (started_unsettling (opening_answers w.locals)) e.0 l e.2 at zeroed)
         ];
         told = is.summed.told;
       };
     };
   }
-
-  first_unsettling : (k : ℕ) (l : Local) → slice_get (opening_world c opening calls).locals k ≡ Some l → IsUnsettling l.place
-  first_unsettling zero l h = let e = same_Some (started c [] 0 opening) l h in subst (λ (x : Local). IsUnsettling x.place) e (begins_with IsUnsettling c (just_begins IsUnsettling c (λ p none. none)) [] [] (slice_get opening 0))
-  first_unsettling (suc k) l h = cc
 
   sum_first : IsSumWorld c opening calls (opening_world c opening calls)
   sum_first = record {
@@ -298,7 +267,7 @@ module _ (c : Setup) (opening : List Call) (calls : List (List Call)) (trace : I
       unique = λ at own serial is is'. (let none = is.there.at in cc);
       later = λ serial index high. refl;
       sums = λ at serial index is inside. (let none = is.there.at in cc);
-      zeroed = λ k l at here zeroed cpu index byte word. absurd (first_unsettling k l here at zeroed);
+      zeroed = λ k l at here zeroed cpu index byte word. absurd (all_started (λ x. IsUnsettling x.place) c [] 0 (opening ∷ []) (started_unsettling []) k l here at zeroed);
       told = λ i caller serial index at total h. cc;
     };
   }

@@ -12,7 +12,7 @@ use Rattle.vm_model.specs.Places.{Place, ask, SettlingArea, SettlingBlock, Settl
 use Rattle.vm_model.specs.PlainMap.{InHand, PlainMap}
 use Rattle.vm_model.specs.Setup.{Setup}
 use Rattle.vm_model.specs.declared.calls.Call.{Call}
-use Rattle.map_laws.proofs.areas.AreaWorlds.{moved_caller, IsAreaWorld, IsLegalStep, IsLegallyLasting, area_kept, legally_lasts, own_once, AreFramesClean, clean_first, clean_lasts}
+use Rattle.map_laws.proofs.areas.AreaWorlds.{IsKeptByLegal, moved_caller, IsAreaWorld, IsLegalStep, IsLegallyLasting, area_kept, legally_lasts, own_once, AreFramesClean, clean_first, clean_lasts}
 use Rattle.map_laws.proofs.chunks.ChunkDispatch.{IsUnchunked, chunk_by}
 use Rattle.map_laws.proofs.chunks.ChunkAdded.{IsNumberNext, chunk_number, number_after, number_alloc, same_or_alloc}
 use Rattle.map_laws.proofs.chunks.ChunkWorlds.{alone, unchunked_begins, IsChunkWorld, OthersPopulate, chunk_first, chunk_joins, chunk_sided, chunk_step, chunks_here, none_populates}
@@ -201,7 +201,12 @@ module _ (c : Setup) (setup : IsSetup c) (w : World) (framed : IsFramed c w) (is
     pub once_here : (page : ℕ) → own_uses c w.map l.place page ≤ 1
     once_here = subst (λ d. (page : ℕ) → own_uses d w.map l.place page ≤ 1) (framed.own k l here).setup (own_once w k l is.area here)
 
--- over the setup and the number that its caller has
+-- what a legal section keeps over the setup and the number that its caller has, it keeps
+pub by_caller : (P : Setup → World → Type 0) → ((w : World) (l : Local) (s : Section) → IsFramed l.setup w → P l.setup w → IsLegalStep w l.caller l s → P l.setup (made_by w l s)) → (c : Setup) → IsKeptByLegal c (P c)
+by_caller P keeps c w k l s framed is step =
+    let own = framed.own k l step.step.here in
+    subst (λ d. IsFramed d w → P d w → P d (made_by w l s)) own.setup (λ framed is. keeps w l s framed is (subst (λ i. IsLegalStep w i l s) (sym own.caller) step)) framed is
+
 module _ (w : World) (l : Local) (s : Section) (setup : IsSetup l.setup) (framed : IsFramed l.setup w) (is : IsTraceWorld l.setup w) (step : IsLegalStep w l.caller l s) where
   has_call_here : length l.answers < length l.calls
   has_call_here = has_call l.setup l.caller l (framed.own l.caller l step.step.here) (not_over l.setup w.map l.place s step.step.gives)
@@ -281,8 +286,7 @@ module _ (c : Setup) (opening : List Call) (calls : List (List Call)) where
 
   pub trace_lasts : IsTrace c opening calls → IsLegallyLasting c calls (IsTraceWorld c)
   trace_lasts trace = record {
-    steps = λ w k l s framed is step. (let own = framed.own k l step.step.here in subst (λ d. IsSetup d → IsFramed d w → IsTraceWorld d w → IsTraceWorld d (made_by w l s)) own.setup
-        (λ setup framed is. trace_step w l s setup framed is (subst (λ i. IsLegalStep w i l s) (sym own.caller) step)) trace.setup framed is);
+    steps = λ w k l s framed is step. by_caller (λ d v. IsSetup d → IsTraceWorld d v) (λ w l s framed is step setup. trace_step w l s setup framed (is setup) step) c w k l s framed (λ setup. is) step trace.setup;
     joins = λ w framed one is over. record {
       turns = (turns_last c calls).joins w framed one is.turns over;
       area = area_joins c calls w is.area;

@@ -148,8 +148,7 @@ module _ (c : Setup) (placing placing' : ℕ → ℕ → Type 0) (k : ℕ) (at :
   alive o = if o.off == at.off then record o { life = Lives serial } else o
 
   alive_same : (o : Object) (t : Bool) → ((if t then record o { life = Lives serial } else o).off ≡ o.off) × ((if t then record o { life = Lives serial } else o).bytes ≡ o.bytes)
-  alive_same o true = (refl, refl)
-  alive_same o false = (refl, refl)
+  alive_same o t = grind arith
 
   alive_bits : (objects : List Object) → map object_bits (map alive objects) ≡ map object_bits objects
   alive_bits [] = refl
@@ -174,8 +173,7 @@ module _ (c : Setup) (placing placing' : ℕ → ℕ → Type 0) (k : ℕ) (at :
       shaped = λ o is. (let was = was_object h.objects o is in shaped_as c was.0 o was.2 was.3 ((fine.each h there).shaped was.0 was.1));
       bits = λ bit. (let few = (fine.each h there).bits bit in omega (arith, ap (times bit) (alive_bits h.objects)));
       settled = λ o is. (let was = was_object h.objects o is in elim ((fine.each h there).settled was.0 was.1) [
-        | inl done ↦ inl (λ page f. painted_still (is_among (pages_of_object at)) true h.populated page
-            (done page (ap (λ n. is_among (pages_of_bytes n was.0.bytes) page) (sym was.2) ∙ ap (λ n. is_among (pages_of_bytes o.off n) page) (sym was.3) ∙ f)))
+        | inl done ↦ inl (grind (arith, painted_still))
         | inr placed ↦ elim (more h.number was.0.off placed) [
           | inl still ↦ inr (subst (placing' h.number) (sym was.2) still)
           | inr own ↦ inl (λ page f. now_populated h o was.0 there was.1 was.2 was.3 own.0 own.1 page f)
@@ -253,13 +251,7 @@ module _ (c : Setup) (placing placing' : ℕ → ℕ → Type 0) (chunks : List 
   }
     where
       counted : (n : ℕ) → count_of n (chunk_numbers (chunks ++ new_chunk c number base ∷ [])) ≡ count_of n (chunk_numbers chunks) + one_if (number == n)
-      counted n = omega (
-        arith,
-        count_sum (λ (x : Chunk). x.number) n (chunks ++ new_chunk c number base ∷ []),
-        count_sum (λ (x : Chunk). x.number) n chunks,
-        sum_by-append (λ (x : Chunk). one_if (x.number == n)) chunks (new_chunk c number base ∷ []),
-        sum_by-cons (λ (x : Chunk). one_if (x.number == n)) (new_chunk c number base) [],
-      )
+      counted n = search (count_sum, sum_by-append, arith) depth 6
 
       none_there : (n : ℕ) → number ≡ n → (total : ℕ) → count_of n (chunk_numbers chunks) ≡ total → total ≡ 0
       none_there n e zero f = refl

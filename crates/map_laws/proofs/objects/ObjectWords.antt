@@ -162,27 +162,16 @@ pub one_word : (c : Setup) (chunks : List Chunk) (at own : ObjectAt) (life life'
 one_word c chunks at own life life' cpu cpu' index index' byte once is is' word word' =
     let hit = hit_of c chunks at life cpu index byte is word in let hit' = hit_of c chunks own life' cpu' index' byte is' word' in
     let one = one_hit c byte chunks once is.there.place is'.there.place is.object_there.place is'.object_there.place cpu cpu' hit hit' in
-    let units : Some word.unit ≡ Some word'.unit = sym word.at_unit ∙ ap (slice_get c.units) one.same ∙ word'.at_unit in
-    let unit : word.unit ≡ word'.unit = same_Some word.unit word'.unit units in
-    let based : at.base ≡ own.base = sym is.based ∙ ap (λ (h : Chunk). h.base) one.chunk ∙ is'.based in
-    let off : at.off ≡ own.off = sym is.off ∙ ap (λ (o : Object). o.off) one.object ∙ is'.off in
-    record {
-      chunk = sym is.numbered ∙ ap (λ (h : Chunk). h.number) one.chunk ∙ is'.numbered;
-      off = off;
-      same_cpu = one.same;
-      same_index = (let e = word.is in let f = word'.is in omega arith);
-    }
+    grind arith
 
 -- Its page, and its word.
 
 pub word_mapped : (c : Setup) (m : PlainMap) (at : ObjectAt) (cpu index byte : ℕ) → IsWordy at → IsWordOf c at cpu index byte → OnPages (object_pages c at) (IsMapped m) → (frame : ℕ) × HasFrame m.frames byte frame
 word_mapped c m at cpu index byte wordy word mapped =
-    let a = wordy.start.at in let b = wordy.long.at in let e = word.is in let low = word.inside in
     let page : ℕ = (at.off + 4 * index) / 4096 in
     let among : is_among (pages_of_object at) page ≡ true = counted (suc ((at.off + at.bytes - 1) / 4096) - at.off / 4096) (at.off / 4096) page (omega arith) (omega arith) in
     let there : is_among (object_pages c at) (at.base + word.unit + page) ≡ true = page_in_units c at.base page cpu word.unit (pages_of_object at) word.at_unit among in
-    let same : byte / 4096 ≡ at.base + word.unit + page = omega arith in
-    let is = mapped (at.base + word.unit + page) there in (is.0, ap (slice_get m.frames) same ∙ is.1)
+    grind arith
 
 word_read : (c : Setup) (m : PlainMap) (at : ObjectAt) (cpu index byte : ℕ) → IsWordOf c at cpu index byte → word_of c m at cpu index ≡ word_at m.frames m.cells byte
 word_read c m at cpu index byte word = ap (word_at m.frames m.cells) (ap (λ u. copy_at at u + 4 * index) (get_or_from_slice_get c.units cpu word.unit 0 word.at_unit) ∙ sym word.is)
@@ -234,12 +223,7 @@ module _ (c : Setup) (m : PlainMap) (k : ℕ) (copies : (byte : ℕ) → times b
 
 pub frame_stays : (c : Setup) (m : PlainMap) (k : ℕ) (s : Section) (page f f' : ℕ) → IsLegalAs c m k s → slice_get m.frames page ≡ Some (Some f) → slice_get (effect_as c m k s).frames page ≡ Some (Some f')
     → slice_get (effect_as c m k s).frames page ≡ slice_get m.frames page
-frame_stays c m k (MapPages s) page f f' legal h g = grind (arith, in_row, covers_one, holds_from, ungiven, nat_tests)
-frame_stays c m k (Populate at missing) page f f' legal h g = grind (arith, ungiven, nat_tests)
-frame_stays c m k (Fill base own) page f f' legal h g = grind (arith, ungiven, nat_tests)
-frame_stays c m k (Unmap s) page f f' legal h g = grind (arith, painted, unpainted, nat_tests)
-frame_stays c m k (Depopulate base pages) page f f' legal h g = grind (arith, painted, unpainted, nat_tests)
-frame_stays c m k _ page f f' legal h g = refl
+frame_stays c m k s page f f' legal h g = grind (arith, in_row, ungiven, painted, unpainted)
 
 -- the sections that change words
 abbrev moves_words : Section → Bool
@@ -267,7 +251,6 @@ module _ (c : Setup) (frames : List (Option ℕ)) (cells : List ℤ) (own : Obje
   -- its words are 0
   pub zeroed_own : (cpu index byte f : ℕ) → IsWordOf c own cpu index byte → HasFrame frames byte f → word_at frames zeroed byte ≡ pos 0
   zeroed_own cpu index byte f word h =
-      let a = wordy.start.at in let b = wordy.long.at in let e = word.is in let low = word.inside in
       let page : ℕ = (own.off + 4 * index) / 4096 in
       let among : is_among (pages_of_object own) page ≡ true = counted (suc ((own.off + own.bytes - 1) / 4096) - own.off / 4096) (own.off / 4096) page (omega arith) (omega arith) in
       let place = among_in page (pages_of_object own) among in
@@ -292,23 +275,16 @@ module _ (c : Setup) (frames : List (Option ℕ)) (cells : List ℤ) (own : Obje
         let r = holds_to (span (1024 * frame + (words_in_page own.off own.bytes page).start) (words_in_page own.off own.bytes page).pages) cell hit in
         let inner : ℕ = cell - 1024 * frame in
         let inside = zeroed_within own.off own.bytes page wordy.start wordy.long inner (holds_from (words_in_page own.off own.bytes page) inner (omega arith) (omega arith)) in
-        let low = inside.0 in let high = inside.1 in let few = inside.2 in
-        let start : 1024 * frame ≤ cell = omega arith in
-        let lower : (byte % 4096) / 4 < 1024 = omega arith in
         let one : frame ≡ f = omega arith in
         let there : slice_get frames (own.base + unit + page) ≡ Some (Some frame) = e ∙ ap (λ x. Some x) g in
         let same : own.base + unit + page ≡ byte / 4096 = apart (own.base + unit + page) (byte / 4096) frame there (h ∙ ap (λ n. Some (Some n)) (sym one)) in
-        let a = wordy.start.at in let b = wordy.long.at in let w = word.at in
-        let exact : inner ≡ (byte % 4096) / 4 = omega arith in
-        let whole : byte ≡ 4096 * (own.base + unit + page) + 4 * inner = omega arith in
         never cpu ((byte - copy_at own unit) / 4) (record { unit = unit; at_unit = at; inside = omega arith; is = omega arith })
 
     pub zeroed_other : word_at frames zeroed byte ≡ word_at frames cells byte
     zeroed_other =
         word_is frames zeroed byte f h
         ∙ ap (λ o. unwrap_or o (pos 0)) (zero_words-other frames own.off own.bytes cell (map (λ unit. own.base + unit) c.units) cells
-        (λ j unit at page frame g hit. (let was = mapped_at (λ unit. own.base + unit) c.units j unit at in
-        elsewhere_by j was.0 page frame (slice_get frames (own.base + was.0 + page)) was.1 refl (ap (λ n. joined_option (slice_get frames (n + page))) was.2 ∙ g) hit)))
+        (λ j unit at page frame g hit. (grind (arith, mapped_at, elsewhere_by))))
         ∙ sym (word_is frames cells byte f h)
 
 -- The word of an add and the words of a sum are in their object, and the processor of an add is there.
@@ -340,13 +316,7 @@ alloc_is P o h = grind arith
 -- an answer of a caller that made the object
 module _ (own : List Call) (l : Local) (sized : IsLocalSized own l) (at : ObjectAt) (serial index j : ℕ) (made : made_in (slice_get l.answers j) ≡ MadeObject at serial) where
   answer_within : (o : Option Call) → ((call : Call) → o ≡ Some call → slice_get own j ≡ Some call) → IsAllocCall (λ bytes. index < words_for bytes) o → 4 * index < at.bytes
-  answer_within o from ruled =
-      let alloc = alloc_is (λ bytes. index < words_for bytes) o ruled in
-      let answer = made_some (slice_get l.answers j) at serial made in
-      let named : slice_get l.calls j ≡ Some alloc.call = ap (λ l. slice_get l j) sized.calls ∙ from alloc.call alloc.there in
-      let same : answer.0.call ≡ alloc.call = same_Some answer.0.call alloc.call (sym (sized.ordered j answer.0 answer.1) ∙ named) in
-      let size : IsMadeSized (4 * words_for alloc.asked) (MadeObject at serial) = subst (IsMadeSized (4 * words_for alloc.asked)) answer.2 (sized.sized j answer.0 (4 * words_for alloc.asked) answer.1 (ap call_bytes same ∙ alloc.bytes)) in
-      let fits = alloc.fits in omega arith
+  answer_within o from ruled = grind (arith, alloc_is)
 
 module _ (c : Setup) (opening : List Call) (calls : List (List Call)) (trace : IsTrace c opening calls) (w : World) (sized : AreSized opening calls w) (made : AreObjectsMade w) (k : ℕ) (l : Local) (here : slice_get w.locals k ≡ Some l) where
   abbrev before_of : ℕ → List Call
@@ -359,18 +329,7 @@ module _ (c : Setup) (opening : List Call) (calls : List (List Call)) (trace : I
   -- the word is in the object that the target names
   named_within : (i : ℕ) (own : List Call) (t : Target) (at : ObjectAt) (serial index : ℕ) (b : Bool) → IsLocalSized own l → made_in (slice_get (if b then l.opening else l.answers) (t.call - 1)) ≡ MadeObject at serial
       → IsAllocCall (λ bytes. index < words_for bytes) (slice_get (if b then before_of i else take (length l.answers) own) (t.call - 1)) → 4 * index < at.bytes
-  named_within i own t at serial index false is e ruled =
-      answer_within own l is at serial index (t.call - 1) e (slice_get (take (length l.answers) own) (t.call - 1)) (λ call h. taken_at own (length l.answers) (t.call - 1) call h) ruled
-  named_within zero own t at serial index true is e ruled = absurd ruled
-  named_within (suc i) own t at serial index true is e ruled = elim (made.opening k l here) [
-    | inl none ↦ (let nothing : made_in (slice_get [] (t.call - 1)) ≡ MadeObject at serial = ap (λ answers. made_in (slice_get answers (t.call - 1))) (sym none) ∙ e in cc)
-    | inr first ↦ (
-        let has = sized.each 0 first.0 first.1 in
-        let same : opening ≡ has.0 = same_Some opening has.0 has.1 in
-        answer_within has.0 first.0 has.2 at serial index (t.call - 1) (ap (λ answers. made_in (slice_get answers (t.call - 1))) (sym first.3) ∙ e) (slice_get opening (t.call - 1)) (λ call h. ap (λ l. slice_get l (t.call - 1)) (sym same) ∙ h)
-        ruled
-        )
-  ]
+  named_within i own t at serial index b is e ruled = grind (arith, answer_within, taken_at)
 
   pub add_within : (at : ObjectAt) (serial cpu index : ℕ) (amount : ℤ) → l.place ≡ Adding at serial cpu index amount → (cpu < cpus c) × (4 * index < at.bytes)
   add_within at serial cpu index amount e =
