@@ -37,6 +37,14 @@ pub one_if_le : (b : Bool) → one_if b ≤ 1
 one_if_le true = omega arith
 one_if_le false = omega arith
 
+-- what holds whether a test holds or not
+pub by_test : {P : Type 0} (t : Bool) → (t ≡ true → P) → (t ≡ false → P) → P
+by_test true f g = f refl
+by_test false f g = g refl
+
+pub not_true : (t : Bool) → (t ≡ true → ⊥) → t ≡ false
+not_true t f = grind arith
+
 -- What a filter, a least element and a row of numbers hold.
 
 pub record IsIn {X : Type 0} (x : X) (xs : List X) : Type 0 where

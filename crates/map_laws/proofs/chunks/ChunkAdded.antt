@@ -1,5 +1,5 @@
 -- Chunks that are added, and objects that are placed at once.
-use Rattle.std.proofs.Common.{List, Some, [], ap, arith, false, inl, inr, refl, replicate, slice_get, subst, suc, sym, true, zero, ℕ, ◌+◌, ◌∙◌, ◌∷◌, ◌≡◌, ◌⊎◌, Bool, map, nat_le, not, ◌*◌, ◌++◌, ◌-◌, ◌/◌, ◌<◌, ◌≤◌, None, Option}
+use Rattle.std.proofs.Common.{List, Some, [], ap, arith, false, inl, inr, refl, max, replicate, slice_get, subst, suc, sym, true, zero, ℕ, ◌+◌, ◌∙◌, ◌∷◌, ◌≡◌, ◌⊎◌, Bool, map, nat_le, not, ◌*◌, ◌++◌, ◌-◌, ◌/◌, ◌<◌, ◌≤◌, None, Option}
 use Rattle.std.proofs.lemmas.List.{length-replicate}
 use Rattle.std.proofs.lemmas.Option.{slice_get_within}
 use Rattle.vm_model.specs.Carried.{IsBeingPopulated, has_alloc, is_for_chunk, keeps_alloc}
@@ -12,7 +12,7 @@ use Rattle.vm_model.specs.Places.{AddingChunk, Populating, ChoosingAtomic, Settl
 use Rattle.vm_model.specs.PlainMap.{Chunk, PlainMap, Lives}
 use Rattle.vm_model.specs.Rules.{AreUnits}
 use Rattle.vm_model.specs.Setup.{Setup, unit_bits}
-use Rattle.map_laws.proofs.TestsAndFilters.{IsIn, count_at, filter_in, in_among, or_right, covers_append, holds_from}
+use Rattle.map_laws.proofs.TestsAndFilters.{IsIn, by_test, count_at, filter_in, in_among, or_right, covers_append, holds_from}
 use Rattle.map_laws.proofs.chunks.ChunkFacts.{AreSameRows, IsChunkAt, IsChunkFine, IsChunkOf, IsLacking, IsSameRow, chunk_stays, of_stays, unit_covered, IsPlacedAt, chunk_at_stays}
 use Rattle.map_laws.proofs.chunks.ChunkMoves.{AreGrown, IsChunkMoved, later_places, quiet_chunks}
 use Rattle.map_laws.proofs.chunks.ChunkRows.{fitting, object_low, placed_lacking, placement_is, AreNumbered, rows_changed, rows_numbered, same_row, IsFitting, fitting_bit, populated_at, plain_rows, plain_stays}
@@ -109,17 +109,9 @@ module _ (c : Setup) (units : AreUnits c) (m : PlainMap) (k : ℕ) (numbered : A
 
 page_bit : (bits : List Bool) (bytes off more page : ℕ) → (is : IsFitting bits bytes off) → bytes ≡ 4 * suc more → off / 4096 ≤ page → page ≤ (off + bytes - 1) / 4096
     → (bit : ℕ) × (slice_get bits bit ≡ Some false) × (holds (span (1024 * page) 1024) bit ≡ true)
-page_bit bits bytes off more page is whole low high = by_order (nat_le (1024 * page) is.bit) refl
-  where
-    by_order : (t : Bool) → nat_le (1024 * page) is.bit ≡ t → (bit : ℕ) × (slice_get bits bit ≡ Some false) × (holds (span (1024 * page) 1024) bit ≡ true)
-    by_order true e =
-        let first : 1024 * page ≤ is.bit = grind (arith, nat_tests) in let at = is.at in
-        let zeroth : is.bit + 0 ≡ is.bit = omega arith in
-        (is.bit, ap (slice_get bits) (sym zeroth) ∙ fitting_bit bits bytes off 0 is (omega arith), holds_from (span (1024 * page) 1024) is.bit first (omega arith))
-    by_order false e =
-        let later : is.bit < 1024 * page = grind (arith, nat_tests) in let at = is.at in
-        let there : is.bit + (1024 * page - is.bit) ≡ 1024 * page = omega arith in
-        (1024 * page, ap (slice_get bits) (sym there) ∙ fitting_bit bits bytes off (1024 * page - is.bit) is (omega arith), holds_from (span (1024 * page) 1024) (1024 * page) (omega arith) (omega arith))
+page_bit bits bytes off more page is whole low high =
+    let at = is.at in let there : is.bit + (max (1024 * page) is.bit - is.bit) ≡ max (1024 * page) is.bit = omega arith in
+    (max (1024 * page) is.bit, ap (slice_get bits) (sym there) ∙ fitting_bit bits bytes off (max (1024 * page) is.bit - is.bit) is (omega arith), holds_from (span (1024 * page) 1024) (max (1024 * page) is.bit) (omega arith) (omega arith))
 
 -- what a row of tests says at a place
 pub row_test : (test : ℕ → Bool) (n first i : ℕ) (b : Bool) → slice_get (map test (count_from n first)) i ≡ Some b → test (first + i) ≡ b
@@ -133,18 +125,11 @@ covers_page bit page (p ∷ pages) h e = grind (arith, covers_page bit page page
 
 -- a page is populated of which an atomic call may take a bit
 free_page : (c : Setup) (h : Chunk) (bit page : ℕ) → page < c.unit_pages → slice_get (atomic_bits c h) bit ≡ Some false → holds (span (1024 * page) 1024) bit ≡ true → slice_get h.populated page ≡ Some true
-free_page c h bit page low free here = by_test (is_populated h page) refl
-  where
-    open_bit : covers (map object_bits h.objects ++ map (λ page. span (1024 * page) 1024) (unpopulated_pages c h)) bit ≡ false
-    open_bit = grind (arith, row_test)
-
-    by_test : (t : Bool) → is_populated h page ≡ t → slice_get h.populated page ≡ Some true
-    by_test true e = populated_at h page e
-    by_test false e =
-        let listed = in_among page (unpopulated_pages c h) (filter_in (λ page. not (is_populated h page)) (count_from c.unit_pages 0) page page (count_at c.unit_pages 0 page low ∙ ap (λ i. Some i) (let f : 0 + page ≡ page = omega arith in f)) (ap not e)) in
-        let taken = covers_append bit (map object_bits h.objects) (map (λ page. span (1024 * page) 1024) (unpopulated_pages c h))
-        ∙ or_right (covers (map object_bits h.objects) bit) _ (covers_page bit page (unpopulated_pages c h) listed here) in
-        let no = open_bit in absurd cc
+free_page c h bit page low free here = by_test (is_populated h page) (populated_at h page) (λ e. (
+    let listed = in_among page (unpopulated_pages c h) (filter_in (λ page. not (is_populated h page)) (count_from c.unit_pages 0) page page (count_at c.unit_pages 0 page low ∙ ap (λ i. Some i) (let f : 0 + page ≡ page = omega arith in f)) (ap not e)) in
+    let taken = covers_append bit (map object_bits h.objects) (map (λ page. span (1024 * page) 1024) (unpopulated_pages c h))
+    ∙ or_right (covers (map object_bits h.objects) bit) _ (covers_page bit page (unpopulated_pages c h) listed here) in
+    let open_bit : covers (map object_bits h.objects ++ map (λ page. span (1024 * page) 1024) (unpopulated_pages c h)) bit ≡ false = grind (arith, row_test) in absurd cc))
 
 -- the pages of an object that fits at once are populated
 pub atomic_pages : (c : Setup) (h : Chunk) (at : ObjectAt) → IsObjectSize at.bytes → IsFitting (atomic_bits c h) at.bytes at.off → (page : ℕ) → is_among (pages_of_object at) page ≡ true → slice_get h.populated page ≡ Some true

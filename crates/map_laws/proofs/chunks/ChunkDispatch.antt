@@ -2,7 +2,7 @@
 use Rattle.std.proofs.Common.{◌≡◌, ◌≢◌, ℕ, zero, suc, ◌≤◌, Bool, true, false, not, List, [], ◌∷◌, slice_get, Some, refl, ap, sym, ◌∙◌, subst, arith, ◌⊎◌, inl, inr, ◌+◌, ◌<◌, ◌==◌, None, length}
 use Rattle.vm_model.specs.declared.areas.Area.{Area}
 use Rattle.vm_model.specs.declared.areas.Span.{Span}
-use Rattle.map_laws.proofs.TestsAndFilters.{IsIn, filter_in, filter_has, among_in, count_from-below, count_at, in_among, covers_one, holds_from, InSpans, Inside, Outside, in_spans, holds_to}
+use Rattle.map_laws.proofs.TestsAndFilters.{by_test, not_true, IsIn, filter_in, filter_has, among_in, count_from-below, count_at, in_among, covers_one, holds_from, InSpans, Inside, Outside, in_spans, holds_to}
 use Rattle.map_laws.proofs.chunks.ChunkFacts.{NumberStays, AreGroupsLive, start_of, IsChunkFine, IsChunkAt, chunk_stays, group_in, starts_at, live_stays, unit_page, group_page, page_in_units, unit_covered, chunk_at_stays}
 use Rattle.vm_model.specs.PlainMap.{Held, PlainMap, Chunk, Block}
 use Rattle.vm_model.specs.Events.{Remove, Unlink, Section, Depopulate, Spare, AddChunk, AreaNotLive, Enough, Fill, Filled, MapPages, NextPage, NoAtomic, NoFrames, NoPlace, NoSpare, PlaceAtomic, PlaceObject, Populate, Settle, SettleObject, Unmap, Unplace, Zero}
@@ -42,11 +42,10 @@ use Rattle.map_laws.proofs.chunks.ChunkNoted.{fill_moved, place_moved, populate_
 module _ (c : Setup) (m : PlainMap) (k : ℕ) (once : (page : ℕ) → times page (spans_of m.areas) ≤ 1) where
   -- frames of pages that are in no chunk's area
   pub framed_stays : (s : Section) (number : ℕ) → (effect_as c m k s).areas ≡ m.areas → ((page : ℕ) → touch c m s page ≡ true → IsInChunk m page → ⊥) → NumberStays m (effect_as c m k s) number
-  framed_stays s number areas apart = record { areas = λ a group there e. subst (IsIn a) (sym areas) there; still = λ page is e. by_test page is (touch c m s page) refl }
-    where
-      by_test : (page : ℕ) → IsInChunk m page → (t : Bool) → touch c m s page ≡ t → IsStill m (effect_as c m k s) page
-      by_test page is true e = absurd (apart page e is)
-      by_test page is false e = let same = untouched c m k s page e in record { frame = same.frame; clean = same.clean }
+  framed_stays s number areas apart = record {
+    areas = λ a group there e. subst (IsIn a) (sym areas) there;
+    still = λ page is e. by_test (touch c m s page) (λ t. absurd (apart page t is)) (λ t. (let same = untouched c m k s page t in record { frame = same.frame; clean = same.clean }));
+  }
 
   -- a page of a chunk's area is not held
   pub not_held_page : (fine : IsMapFine m) (page : ℕ) → IsInChunk m page → IsMarked m (Held k) page → ⊥
@@ -55,20 +54,12 @@ module _ (c : Setup) (m : PlainMap) (k : ℕ) (once : (page : ℕ) → times pag
   -- a plain area is removed
   pub removed_stays : (start serial : ℕ) (area : Area) (number : ℕ) → named_areas start serial m.areas ≡ area ∷ [] → IsPlainKind area.kind → NumberStays m (effect_as c m k (Remove start serial area)) number
   removed_stays start serial area number legal plain = record {
-    areas = λ a group there e. filter_in (λ x. not (is_area start serial x)) m.areas a there.place there.at (by_test a group there e (is_area start serial a) refl);
+    areas = λ a group there e. filter_in (λ x. not (is_area start serial x)) m.areas a there.place there.at (ap not (not_true (is_area start serial a) (λ f. (
+        let named = subst (IsIn a) legal (filter_in (is_area start serial) m.areas a there.place there.at f) in
+        let same : a ≡ area = grind arith in
+        let chunk : IsPlainKind (kind.Chunk number group) = subst IsPlainKind (ap (λ (x : Area). x.kind) (sym same) ∙ e) plain in absurd chunk))));
     still = λ page is e. record { frame = refl; clean = λ h. h };
   }
-    where
-      only : (a : Area) (i : ℕ) → slice_get (area ∷ []) i ≡ Some a → a ≡ area
-      only a zero e = (let same : area ≡ a = cc in sym same)
-      only a (suc i) e = cc
-
-      by_test : (a : Area) (group : ℕ) → IsIn a m.areas → a.kind ≡ kind.Chunk number group → (t : Bool) → is_area start serial a ≡ t → not (is_area start serial a) ≡ true
-      by_test a group there e true f =
-          let named = filter_in (is_area start serial) m.areas a there.place there.at f in
-          let same = only a named.place (ap (λ l. slice_get l named.place) (sym legal) ∙ named.at) in
-          let chunk : IsPlainKind (kind.Chunk number group) = subst IsPlainKind (ap (λ (x : Area). x.kind) (sym same) ∙ e) plain in absurd chunk
-      by_test a group there e false f = ap not f
 
   -- areas are unlinked whose starts are in no area of the chunk
   pub unlinked_stays : (starts : List ℕ) (number : ℕ) → ((a : Area) (group : ℕ) → IsIn a m.areas → a.kind ≡ kind.Chunk number group → is_among starts a.span.start ≡ false) → NumberStays m (effect_as c m k (Unlink starts)) number
@@ -77,40 +68,28 @@ module _ (c : Setup) (m : PlainMap) (k : ℕ) (once : (page : ℕ) → times pag
   module _ (full : (a : Area) → IsIn a m.areas → 1 ≤ a.span.pages) (some : 1 ≤ c.block_pages) where
     -- blocks that are out start at no chunk's area
     pub blocks_apart : (starts : List ℕ) (number : ℕ) → ((start : ℕ) → is_among starts start ≡ true → IsOut c m start) → (a : Area) (group : ℕ) → IsIn a m.areas → a.kind ≡ kind.Chunk number group → is_among starts a.span.start ≡ false
-    blocks_apart starts number outs a group there e = by_test (is_among starts a.span.start) refl
-      where
-        by_test : (t : Bool) → is_among starts a.span.start ≡ t → is_among starts a.span.start ≡ false
-        by_test true f =
-            let block = (outs a.span.start f).area in let wide = full a there in
-            absurd (in_one_kind m a.span.start once (record { area = a; there = there; holds = holds_from a.span a.span.start (omega arith) (omega arith); chunk = number; group = group; kind = e })
-            block.area block.there (area_holds c m a.span.start block a.span.start (omega arith) (omega arith)) block.cpu block.kind)
-        by_test false f = f
+    blocks_apart starts number outs a group there e = not_true (is_among starts a.span.start) (λ f. (
+        let block = (outs a.span.start f).area in let wide = full a there in
+        in_one_kind m a.span.start once (record { area = a; there = there; holds = holds_from a.span a.span.start (omega arith) (omega arith); chunk = number; group = group; kind = e })
+        block.area block.there (area_holds c m a.span.start block a.span.start (omega arith) (omega arith)) block.cpu block.kind))
+
+    -- where a group of a chunk starts is a page of that chunk
+    group_there : (base gone : ℕ) → AreGroupsLive c m gone base → (start : ℕ) → is_among (group_starts c base) start ≡ true → (is : IsInChunk m start) × (is.chunk ≡ gone)
+    group_there base gone live start f =
+        let s = start_of c base start f in let area = live s.0 s.1 s.2 in let wide = full area.area area.there in
+        let at : area.area.span.start ≡ start = ap (λ (x : Span). x.start) area.span ∙ s.3 in
+        (record { area = area.area; there = area.there; holds = holds_from area.area.span start (omega arith) (omega arith); chunk = gone; group = s.0; kind = area.kind }, refl)
 
     -- nor do the groups of another chunk
     pub groups_apart : (base gone number : ℕ) → AreGroupsLive c m gone base → number ≢ gone → (a : Area) (group : ℕ) → IsIn a m.areas → a.kind ≡ kind.Chunk number group → is_among (group_starts c base) a.span.start ≡ false
-    groups_apart base gone number live apart a group there e = by_test (is_among (group_starts c base) a.span.start) refl
-      where
-        by_test : (t : Bool) → is_among (group_starts c base) a.span.start ≡ t → is_among (group_starts c base) a.span.start ≡ false
-        by_test true f =
-            let s = start_of c base a.span.start f in let area = live s.0 s.1 s.2 in let wide = full a there in let wide' = full area.area area.there in
-            let at : area.area.span.start ≡ a.span.start = ap (λ (x : Span). x.start) area.span ∙ s.3 in
-            absurd (apart (number_once m a.span.start (once a.span.start)
-            (record { area = a; there = there; holds = holds_from a.span a.span.start (omega arith) (omega arith); chunk = number; group = group; kind = e })
-            (record { area = area.area; there = area.there; holds = holds_from area.area.span a.span.start (omega arith) (omega arith); chunk = gone; group = s.0; kind = area.kind })))
-        by_test false f = f
+    groups_apart base gone number live apart a group there e = not_true (is_among (group_starts c base) a.span.start) (λ f. (
+        let is = group_there base gone live a.span.start f in let wide = full a there in
+        apart (number_once m a.span.start (once a.span.start) (record { area = a; there = there; holds = holds_from a.span a.span.start (omega arith) (omega arith); chunk = number; group = group; kind = e }) is.0 ∙ is.1)))
 
     -- and no block's area starts where a chunk's group does
     pub groups_no_block : (base gone : ℕ) → AreGroupsLive c m gone base → (a : Area) (cpu : ℕ) → IsIn a m.areas → a.kind ≡ kind.Block cpu → is_among (group_starts c base) a.span.start ≡ false
-    groups_no_block base gone live a cpu there e = by_test (is_among (group_starts c base) a.span.start) refl
-      where
-        by_test : (t : Bool) → is_among (group_starts c base) a.span.start ≡ t → is_among (group_starts c base) a.span.start ≡ false
-        by_test true f =
-            let s = start_of c base a.span.start f in let area = live s.0 s.1 s.2 in let wide = full a there in let wide' = full area.area area.there in
-            let at : area.area.span.start ≡ a.span.start = ap (λ (x : Span). x.start) area.span ∙ s.3 in
-            absurd (in_one_kind m a.span.start once
-            (record { area = area.area; there = area.there; holds = holds_from area.area.span a.span.start (omega arith) (omega arith); chunk = gone; group = s.0; kind = area.kind })
-            a there (holds_from a.span a.span.start (omega arith) (omega arith)) cpu e)
-        by_test false f = f
+    groups_no_block base gone live a cpu there e = not_true (is_among (group_starts c base) a.span.start) (λ f. (
+        let wide = full a there in in_one_kind m a.span.start once (group_there base gone live a.span.start f).0 a there (holds_from a.span a.span.start (omega arith) (omega arith)) cpu e))
 
 -- The areas of a chunk that was given up are unlinked.
 
@@ -199,13 +178,14 @@ module _ (c : Setup) (units : AreUnits c) (m : PlainMap) (k : ℕ) (numbered : A
     bared_map = effect_as c m k (Depopulate base populated)
 
     bared_still : (n : ℕ) → n ≢ at.0 → NumberStays m bared_map n
-    bared_still n apart = record { areas = λ a group there e. there; still = λ x is e. by_test x is e _ refl }
-      where
-        by_test : (x : ℕ) (is : IsInChunk m x) → is.chunk ≡ n → (t : Bool) → is_among (pages_in_units c base populated) x ≡ t → IsStill m bared_map x
-        by_test x is e false f = record { frame = unpainted (is_among (pages_in_units c base populated)) None m.frames x f; clean = λ h. unpainted (is_among (pages_in_units c base populated)) true m.stale x f ∙ h }
-        by_test x is e true f = absurd (let u = unit_page c base x populated f in
+    bared_still n apart = record {
+      areas = λ a group there e. there;
+      still = λ x is e. by_test (is_among (pages_in_units c base populated) x)
+          (λ f. absurd (let u = unit_page c base x populated f in
             let own = group_page c m at.0 base x at.1.live (ap (covers (groups_at c base)) u.same ∙ unit_covered c base u.page u.cpu u.unit units u.at (at.2 u.page u.among).0) in
-            apart (sym e ∙ number_once m x (once x) is own.0 ∙ own.1))
+            apart (sym e ∙ number_once m x (once x) is own.0 ∙ own.1)))
+          (λ f. record { frame = unpainted (is_among (pages_in_units c base populated)) None m.frames x f; clean = λ h. unpainted (is_among (pages_in_units c base populated)) true m.stale x f ∙ h });
+    }
 
     all_unmapped : (x : ℕ) → covers (groups_at c base) x ≡ true → (t : Bool) → is_among (pages_in_units c base populated) x ≡ t → IsUnmapped bared_map x
     all_unmapped x h false f = unpainted (is_among (pages_in_units c base populated)) None m.frames x f ∙ at.3 x h f
