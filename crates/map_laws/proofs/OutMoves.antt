@@ -1,4 +1,5 @@
 -- What the sections that settle, remove and unlink areas do to pages, and those inside of blocks and chunks.
+use Rattle.std.proofs.lemmas.Bool.Decides.{nat_tests}
 use Rattle.std.proofs.Common.{Bool, List, Some, [], ap, arith, false, filter, if◌then◌else◌, inl, inr, length, map, not, option_map, refl, slice_get, suc, sum_by, sym, true, zero, ℕ, ◌+◌, ◌∙◌, ◌∷◌, ◌≡◌, ◌≢◌, ◌≤◌, ◌⊎◌, Option, subst}
 use Rattle.std.proofs.lemmas.List.Sums.{sum_by-cons}
 use Rattle.vm_model.proofs.Paint.{slice_get-paint}
@@ -66,10 +67,7 @@ live_in (x ∷ xs) marks page old (suc i) a once h e there =
 -- two elements at different places
 pub sum_two : {X : Type 0} (f : X → ℕ) (xs : List X) (i j : ℕ) (a b : X) → slice_get xs i ≡ Some a → slice_get xs j ≡ Some b → i ≢ j → f a + f b ≤ sum_by f xs
 sum_two f [] i j a b h g n = cc
-sum_two f (x ∷ xs) zero zero a b h g n = absurd (n refl)
-sum_two f (x ∷ xs) zero (suc j) a b h g n = grind (arith, sum_has, sum_by-cons)
-sum_two f (x ∷ xs) (suc i) zero a b h g n = grind (arith, sum_has, sum_by-cons)
-sum_two f (x ∷ xs) (suc i) (suc j) a b h g n = omega (arith, sum_two f xs i j a b h g (λ e. n (ap suc e)), sum_by-cons f x xs)
+sum_two f (x ∷ xs) i j a b h g n = grind (arith, sum_two f xs, sum_has, sum_by-cons)
 
 -- two areas with one page are the same
 pub same_area : (page : ℕ) (areas : List Area) (i j : ℕ) (a b : Area) → times page (spans_of areas) ≤ 1 → slice_get areas i ≡ Some a → slice_get areas j ≡ Some b → holds a.span page ≡ true → holds b.span page ≡ true → i ≡ j
@@ -132,8 +130,7 @@ module _ (c : Setup) (m : PlainMap) (k : ℕ) (fine : IsMapFine m) where
     pub settle_moved : (n : Next) → OnNext IsUnbearing n → IsMoved c m k p (Settle areas first) n
     settle_moved n none_next = record {
       source = λ page t. (let q = covers_times page (map (λ a. a.0) areas) t in omega (arith, ap (times page) here));
-      uses = λ page. (let z : times page (flushed p) ≡ 0 = ap (times page) none in
-          omega (arith, unbearing_uses c m k fine (effect_as c m k (Settle areas first)) n page none_next, with_times page (areas_of k first areas) m.areas, new_times page, settle_free page _ refl));
+      uses = λ page. (grind (arith, with_times, new_times, settle_free));
       own = unbearing_own c m k fine (effect_as c m k (Settle areas first)) n none_next;
       fine = record {
         areas = λ i a h. area_in a (with_in (areas_of k first areas) m.areas a (record { place = i; at = h }));
@@ -178,8 +175,7 @@ module _ (c : Setup) (m : PlainMap) (k : ℕ) (fine : IsMapFine m) where
 
   module _ (p : Place) (start serial : ℕ) (area : Area) (once : (page : ℕ) → own_uses c m p page ≤ 1) (legal : named_areas start serial m.areas ≡ area ∷ []) (plain : IsPlainKind area.kind) where
     not_not : (b : Bool) → b ≡ not (not b)
-    not_not true = refl
-    not_not false = refl
+    not_not b = grind arith
 
     named_times : (page : ℕ) → times page (spans_of (filter (is_area start serial) m.areas)) ≡ one_if (holds area.span page)
     named_times page = ap (λ l. times page (spans_of l)) legal ∙ times-one page area.span
@@ -203,14 +199,7 @@ module _ (c : Setup) (m : PlainMap) (k : ℕ) (fine : IsMapFine m) where
         named_times page,
         times-one page area.span,
       );
-      own = record {
-        held = λ page e. remove_marked page (sym (covers_one area.span page) ∙ e);
-        flushed = λ page e. cc;
-        bare = λ page e. cc;
-        mapped = λ page e. (fine.areas remove_in.place area remove_in.at).mapped plain page e;
-        unmapped = λ page e. (fine.areas remove_in.place area remove_in.at).guard plain page e;
-        hull = tt;
-      };
+      own = grind (arith, remove_marked, remove_in);
       fine = out_fine c m k fine p (Remove start serial area) (is_area start serial) (λ a. not (is_area start serial a)) (λ a. refl) once refl refl fine.long remove_touch remove_marked;
     }
 
@@ -266,25 +255,16 @@ module _ (c : Setup) (m : PlainMap) (k : ℕ) (fine : IsMapFine m) where
     plain_same i a h plain page e true t =
         let is = inside page t in
         let o = once page in
-        let same = same_area page m.areas i is.there.place a is.area (omega arith) h is.there.at (sym (covers_one a.span page) ∙ e) is.holds in
-        let one : a ≡ is.area = (let g = is.there.at in let f : slice_get m.areas is.there.place ≡ Some a = ap (slice_get m.areas) (sym same) ∙ h in cc) in
-        absurd (is.inner (subst (λ (x : Area). IsPlainKind x.kind) one plain))
+        grind (arith, same_area, covers_one, nat_tests)
     plain_same i a h plain page e false t = untouched c m k s page t
 
     pub inner_moved : IsUnbearing p → (n : Next) → OnNext IsUnbearing n → IsMoved c m k p s n
     inner_moved none n none_next = record {
       source = λ page t. (let q = inner_source page t in omega arith);
-      uses = λ page. (let a : times page (spans_of (effect_as c m k s).areas) ≡ times page (spans_of m.areas) = ap (λ l. times page (spans_of l)) areas in
-          let w : times page (effect_as c m k s).waiting ≡ times page m.waiting = ap (times page) waiting in
-          let f : as_free (slice_get (effect_as c m k s).marks page) ≡ as_free (slice_get m.marks page) = ap (λ l. as_free (slice_get l page)) marks in
-          omega (arith, unbearing_uses c m k fine (effect_as c m k s) n page none_next));
+      uses = λ page. (grind arith);
       own = unbearing_own c m k fine (effect_as c m k s) n none_next;
       fine = record {
-        areas = λ i a h. (let was = ap (λ l. slice_get l i) (sym areas) ∙ h in let is = fine.areas i a was in record {
-          marked = λ page e. mark_same (Live a.serial) page (is.marked page e);
-          mapped = λ plain page e. same_mapped m (effect_as c m k s) page (plain_same i a was plain page (mapped_covers a.kind a.span page e) _ refl) (is.mapped plain page e);
-          guard = λ plain page e. same_unmapped m (effect_as c m k s) page (plain_same i a was plain page (guard_covers a.kind a.span page e) _ refl) (is.guard plain page e);
-        });
+        areas = λ i a h. (let was = ap (λ l. slice_get l i) (sym areas) ∙ h in let is = fine.areas i a was in (grind (arith, plain_same, same_unmapped, guard_covers, nat_tests)));
         waits = λ page w. mark_same Waits page (fine.waits page (ap (λ l. covers l page) (sym waiting) ∙ w));
         long = long;
         pages = λ page. page_by c m k p s fine once page _ refl

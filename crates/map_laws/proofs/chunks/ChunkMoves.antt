@@ -46,10 +46,7 @@ pub record IsChunkMoved (c : Setup) (m : PlainMap) (k : ℕ) (busy : ℕ → ℕ
 -- a number of a row
 pub counted : (n first page : ℕ) → first ≤ page → page < first + n → is_among (count_from n first) page ≡ true
 counted zero first page low high = absurd (omega arith)
-counted (suc n) first page low high = elim (same_or first page) [
-  | inl e ↦ ap (λ b. b || is_among (count_from n (suc first)) page) (ap (λ i. i == page) e ∙ same_test page)
-  | inr apart ↦ or_right (first == page) _ (counted n (suc first) page (omega arith) (omega arith))
-]
+counted (suc n) first page low high = grind (arith, counted n (suc first) page)
 
 -- each chunk with an older number was there before, and its populated pages were no more
 pub record AreGrown (m m' : PlainMap) : Type 0 where
@@ -111,8 +108,7 @@ module _ (c : Setup) (units : AreUnits c) (m : PlainMap) (k : ℕ) (numbered : A
     mapped_still x is = let g = given_still (pages_in_units c base pages) (free_frames c m.frames) m.frames x is.0 is.1 in (g.0, ap (λ l. slice_get l x) frames ∙ g.1)
 
     among_by : (x : ℕ) (t : Bool) → is_among (pages_in_units c base pages) x ≡ t → (is_among (pages_in_units c base pages) x ≡ true → ⊥) → IsStill m given_map x
-    among_by x true e never = absurd (never e)
-    among_by x false e never = grind (arith, ungiven)
+    among_by x t e never = grind (arith, ungiven)
 
     other_stays : (n : ℕ) → n ≢ number → NumberStays m given_map n
     other_stays n apart = record {
@@ -133,8 +129,7 @@ module _ (c : Setup) (units : AreUnits c) (m : PlainMap) (k : ℕ) (numbered : A
           → OnUnits c base page (IsUnmapped given_map) ⊎ (busy number page ⊎ next_busy n number page)
       own_spare h there e f page g true a = inr (inr (noted page a))
       own_spare h there e f page g false a = elim ((all h there).spare page g) [
-        | inl bare ↦ inl (λ cpu unit at. still_unmapped m given_map (base + unit + page) (among_by (base + unit + page) _ refl (not_given page cpu unit at (let l = slice_get_within h.populated page false g in omega (arith, (all h there).long)) (λ z. cc)))
-            (subst (λ b. IsUnmapped m (b + unit + page)) f (bare cpu unit at)))
+        | inl bare ↦ inl (grind (arith, among_by, not_given, slice_get_within))
         | inr b ↦ absurd (elim b [ inl other ↦ none h.number page other | inr mine ↦ idle h.number page mine ])
       ]
 
@@ -191,8 +186,7 @@ fit_begins taken s h = let low : s.pages ≤ slice_index (free_from taken) s.sta
 -- spans that fit are free
 free_by : (m : PlainMap) (s : Span) (spans : List Span) (page : ℕ) (t : Bool) → holds s page ≡ t → begins_free s.pages (drop s.start (taken m)) ≡ true → (1 ≤ times page spans → 1 ≤ as_free (slice_get m.marks page)) → 1 ≤ times page (s ∷ spans)
     → 1 ≤ as_free (slice_get m.marks page)
-free_by m s spans page true e fit more n = omega (arith, free_one m page (free_row m s.start s.pages page fit e))
-free_by m s spans page false e fit more n = more (omega (arith, times-cons page s spans, ap one_if e))
+free_by m s spans page t e fit more n = grind (arith, free_row)
 
 all_free : (m : PlainMap) (spans : List Span) (page : ℕ) → list_all (λ (s : Span). nat_le s.pages (slice_index (free_from (taken m)) s.start)) spans ≡ true → 1 ≤ times page spans → 1 ≤ as_free (slice_get m.marks page)
 all_free m [] page h n = absurd (omega arith)
@@ -209,8 +203,7 @@ none_more s (t ∷ spans) page h apart = omega (arith, times-cons page t spans, 
     none_here false e = ap one_if e
 
 once_by : (s : Span) (spans : List Span) (page : ℕ) (t : Bool) → holds s page ≡ t → ((j : ℕ) (u : Span) → slice_get spans j ≡ Some u → AreApart s u) → times page spans ≤ 1 → times page (s ∷ spans) ≤ 1
-once_by s spans page true e apart more = omega (arith, times-cons page s spans, ap one_if e, none_more s spans page e apart)
-once_by s spans page false e apart more = omega (arith, times-cons page s spans, ap one_if e)
+once_by s spans page t e apart more = grind (arith, times-cons, none_more)
 
 apart_once : (spans : List Span) (page : ℕ) → AreDisjoint spans → times page spans ≤ 1
 apart_once [] page apart = omega arith

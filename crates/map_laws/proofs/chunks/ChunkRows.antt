@@ -64,14 +64,7 @@ rows_numbered m m' rows is = record {
 pub rows_changed : (m m' : PlainMap) (number : ℕ) (change : Chunk → Chunk) → m'.chunks ≡ change_chunk number change m.chunks → m'.next_chunk ≡ m.next_chunk
     → ((h : Chunk) → IsIn h m.chunks → h.number ≡ number → IsSameRow h (change h)) → AreSameRows m m'
 rows_changed m m' number change e next row = record {
-  back = λ h there. (let was = keyed_is (λ (x : Chunk). x.number) number change m.chunks h (subst (IsIn h) e there) in (
-    was.0,
-    was.1,
-    elim was.2 [
-      | inl own ↦ subst (IsSameRow was.0) (sym own.1) (row was.0 was.1 own.0)
-      | inr other ↦ subst (IsSameRow was.0) (sym other.1) (same_row was.0)
-    ],
-  ));
+  back = λ h there. (let was = keyed_is (λ (x : Chunk). x.number) number change m.chunks h (subst (IsIn h) e there) in (grind arith));
   forth = λ h there. elim (same_or h.number number) [
     | inl own ↦ (change h, subst (IsIn (change h)) (sym e) (keyed_in (λ (x : Chunk). x.number) number change m.chunks h there own), row h there own)
     | inr other ↦ (h, subst (IsIn h) (sym e) (unkeyed_in (λ (x : Chunk). x.number) number change m.chunks h there other), same_row h)
@@ -143,8 +136,7 @@ pub record IsPlacement (c : Setup) (fit : Chunk → Option ℕ) (bytes : ℕ) (c
 
 placement_by : (c : Setup) (fit : Chunk → Option ℕ) (bytes : ℕ) (chunks : List Chunk) (o : Option Chunk) (at : ObjectAt) (missing : List ℕ) → ((h : Chunk) → o ≡ Some h → IsIn h chunks)
     → option_and_then (placed_at fit bytes) o ≡ Some (at, missing) → IsPlacement c fit bytes chunks at missing
-placement_by c fit bytes chunks None at missing from e = cc
-placement_by c fit bytes chunks (Some h) at missing from e = grind (arith, there, nat_tests)
+placement_by c fit bytes chunks o at missing from e = grind arith
 
 pub placement_is : (c : Setup) (fit : Chunk → Option ℕ) (bytes : ℕ) (chunks : List Chunk) (at : ObjectAt) (missing : List ℕ) → placement c fit bytes chunks ≡ Some (at, missing) → IsPlacement c fit bytes chunks at missing
 placement_is c fit bytes chunks at missing e = placement_by c fit bytes chunks (chosen c fit chunks) at missing
@@ -176,10 +168,8 @@ pub object_low : (c : Setup) (bits : List Bool) (at : ObjectAt) (bytes : ℕ) �
     → (page < c.unit_pages) × (at.off / 4096 ≤ page) × (page ≤ (at.off + at.bytes - 1) / 4096)
 object_low c bits at bytes long size same is page h =
     let row = in_row (suc ((at.off + at.bytes - 1) / 4096) - at.off / 4096) (at.off / 4096) page h in
-    let whole = size.2 in
     let last = slice_get_within bits (is.bit + size.1) false (fitting_bit bits bytes at.off size.1 is (omega arith)) in
-    let e = is.at in
-    ((omega arith), row.0, (omega arith))
+    grind arith
 
 -- Which pages of an object lack frames.
 
@@ -196,8 +186,7 @@ module _ (c : Setup) (fit : Chunk → Option ℕ) (bytes : ℕ) (chunks : List C
   missing_within page h = grind (arith, among_in, in_among, filter_has, there, nat_tests)
 
   either_by : (page : ℕ) → is_among (pages_of_object at) page ≡ true → (t : Bool) → is_populated is.chunk page ≡ t → (is_among missing page ≡ true) ⊎ (slice_get is.chunk.populated page ≡ Some true)
-  either_by page h true e = inr (populated_at is.chunk page e)
-  either_by page h false e = grind (arith, among_in, in_among, filter_in, nat_tests)
+  either_by page h t e = grind (arith, populated_at, among_in, in_among, filter_in)
 
   -- the placed object in a map that has its chunk
   pub placed_lacking : length is.chunk.populated ≡ c.unit_pages → (of : IsChunkOf m at.chunk at.base) → IsSameRow is.chunk of.chunk → ((page : ℕ) → is_among (pages_of_object at) page ≡ true → page < c.unit_pages) → IsLacking c m at missing
