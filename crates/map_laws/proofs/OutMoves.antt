@@ -19,7 +19,7 @@ use Rattle.vm_model.specs.declared.areas.Area.{Area}
 use Rattle.vm_model.specs.declared.areas.AreaKind.{AreaKind}
 use Rattle.vm_model.specs.declared.areas.Span.{Span}
 use Rattle.map_laws.proofs.areas.AreaFacts.{IsAreaFine, IsMapFine, IsUnbearing, area_stays, guard_part, own_uses, IsHolding, mapped_covers, guard_covers, same_mapped, same_unmapped, IsSame, painted, spans_of-areas_of, touch, unmarked_live, untouched}
-use Rattle.map_laws.proofs.TestsAndFilters.{IsIn, filter_has, in_more, sum_has, put_in, put_sum, covers_one, covers_times, in_spans, none_covers, times-cons, times-one}
+use Rattle.map_laws.proofs.TestsAndFilters.{not_true, IsIn, filter_has, in_more, sum_has, put_in, put_sum, covers_one, covers_times, in_spans, none_covers, times-cons, times-one}
 use Rattle.map_laws.proofs.KeptThroughSteps.{same_or, there}
 use Rattle.map_laws.proofs.Quiet.{area_times, held_fine, live_fine, page_by, painted_free, times_areas, times_both}
 use Rattle.map_laws.proofs.PlaceMoves.{IsMoved, unbearing_own, unbearing_uses}
@@ -105,13 +105,13 @@ module _ (c : Setup) (m : PlainMap) (k : ℕ) (fine : IsMapFine m) where
         let at = covering page (areas_of k first areas) (ap (λ spans. covers spans page) (spans_of-areas_of k first areas) ∙ t) in
         (at.0.serial, live_in (areas_of k first areas) m.marks page (Held k) at.1.place at.0 (new_once page) at.1.at at.2 (touched_held page t))
 
-    old_same : (page : ℕ) (i : ℕ) (a : Area) → slice_get m.areas i ≡ Some a → covers (a.span ∷ []) page ≡ true → (b : Bool) → covers (map (λ a. a.0) areas) page ≡ b → IsSame m (effect_as c m k (Settle areas first)) page
-    old_same page i a h e true t = absurd (let n = covers_times page (map (λ a. a.0) areas) t in let o = once page in let q = area_times page m.areas i a h e in omega (arith, ap (times page) here))
-    old_same page i a h e false t = untouched c m k (Settle areas first) page t
+    old_same : (page : ℕ) (i : ℕ) (a : Area) → slice_get m.areas i ≡ Some a → covers (a.span ∷ []) page ≡ true → IsSame m (effect_as c m k (Settle areas first)) page
+    old_same page i a h e = untouched c m k (Settle areas first) page
+        (not_true _ (λ t. (let n = covers_times page (map (λ a. a.0) areas) t in let o = once page in let q = area_times page m.areas i a h e in omega (arith, ap (times page) here))))
 
-    waits_same : (page : ℕ) → covers m.waiting page ≡ true → (b : Bool) → covers (map (λ a. a.0) areas) page ≡ b → IsSame m (effect_as c m k (Settle areas first)) page
-    waits_same page w true t = absurd (let n = covers_times page (map (λ a. a.0) areas) t in let o = once page in let q = covers_times page m.waiting w in omega (arith, ap (times page) here))
-    waits_same page w false t = untouched c m k (Settle areas first) page t
+    waits_same : (page : ℕ) → covers m.waiting page ≡ true → IsSame m (effect_as c m k (Settle areas first)) page
+    waits_same page w = untouched c m k (Settle areas first) page
+        (not_true _ (λ t. (let n = covers_times page (map (λ a. a.0) areas) t in let o = once page in let q = covers_times page m.waiting w in omega (arith, ap (times page) here))))
 
     area_in : (a : Area) → IsIn a (areas_of k first areas) ⊎ IsIn a m.areas → IsAreaFine (effect_as c m k (Settle areas first)) a
     area_in a (inl new) = record {
@@ -121,7 +121,7 @@ module _ (c : Setup) (m : PlainMap) (k : ℕ) (fine : IsMapFine m) where
       mapped = λ plain. (news new.place a new.at plain).0;
       guard = λ plain. (news new.place a new.at plain).1;
     }
-    area_in a (inr old) = area_stays m (effect_as c m k (Settle areas first)) a (λ page e. old_same page old.place a old.at e _ refl) (fine.areas old.place a old.at)
+    area_in a (inr old) = area_stays m (effect_as c m k (Settle areas first)) a (λ page e. old_same page old.place a old.at e) (fine.areas old.place a old.at)
 
     settle_free : (page : ℕ) (b : Bool) → covers (map (λ a. a.0) areas) page ≡ b → as_free (slice_get (effect_as c m k (Settle areas first)).marks page) ≤ as_free (slice_get m.marks page)
     settle_free page true t = let is = settled_live page t in omega (arith, ap as_free is.1)
@@ -134,7 +134,7 @@ module _ (c : Setup) (m : PlainMap) (k : ℕ) (fine : IsMapFine m) where
       own = unbearing_own c m k fine (effect_as c m k (Settle areas first)) n none_next;
       fine = record {
         areas = λ i a h. area_in a (with_in (areas_of k first areas) m.areas a (record { place = i; at = h }));
-        waits = λ page w. (waits_same page w _ refl).mark ∙ fine.waits page w;
+        waits = λ page w. (waits_same page w).mark ∙ fine.waits page w;
         long = fine.long;
         pages = λ page. page_by c m k p (Settle areas first) fine once page _ refl (λ t. let is = settled_live page t in live_fine _ is.0 page is.1);
       };
@@ -149,15 +149,15 @@ module _ (c : Setup) (m : PlainMap) (k : ℕ) (fine : IsMapFine m) where
   module _ (p : Place) (s : Section) (q r : Area → Bool) (other : (a : Area) → r a ≡ not (q a)) (once : (page : ℕ) → own_uses c m p page ≤ 1)
       (rest : (effect_as c m k s).areas ≡ filter r m.areas) (waiting : (effect_as c m k s).waiting ≡ m.waiting) (long : length (effect_as c m k s).stale ≡ length (effect_as c m k s).frames)
       (removed : (page : ℕ) → touch c m s page ≡ true → 1 ≤ times page (spans_of (filter q m.areas))) (touched : (page : ℕ) → touch c m s page ≡ true → IsMarked (effect_as c m k s) (Held k) page) where
-    out_same : (page : ℕ) (b : Bool) → touch c m s page ≡ b → 1 ≤ times page (spans_of (filter r m.areas)) + times page m.waiting → IsSame m (effect_as c m k s) page
-    out_same page true t h = absurd (let o = once page in let z = stays_apart q r other page (omega arith) (removed page t) in let a = removed page t in omega (arith, times_both page q r other m.areas))
-    out_same page false t h = untouched c m k s page t
+    out_same : (page : ℕ) → 1 ≤ times page (spans_of (filter r m.areas)) + times page m.waiting → IsSame m (effect_as c m k s) page
+    out_same page h = untouched c m k s page
+        (not_true _ (λ t. (let o = once page in let z = stays_apart q r other page (omega arith) (removed page t) in let a = removed page t in omega (arith, times_both page q r other m.areas))))
 
     pub out_fine : IsMapFine (effect_as c m k s)
     out_fine = record {
       areas = λ i a h. (let kept = ap (λ l. slice_get l i) (sym rest) ∙ h in let was = (filter_has r m.areas i a kept).there in
-          area_stays m (effect_as c m k s) a (λ page e. out_same page _ refl (let n = area_times page (filter r m.areas) i a kept e in omega arith)) (fine.areas was.place a was.at));
-      waits = λ page w. (let was = ap (λ l. covers l page) (sym waiting) ∙ w in (out_same page _ refl (let n = covers_times page m.waiting was in omega arith)).mark ∙ fine.waits page was);
+          area_stays m (effect_as c m k s) a (λ page e. out_same page (let n = area_times page (filter r m.areas) i a kept e in omega arith)) (fine.areas was.place a was.at));
+      waits = λ page w. (let was = ap (λ l. covers l page) (sym waiting) ∙ w in (out_same page (let n = covers_times page m.waiting was in omega arith)).mark ∙ fine.waits page was);
       long = long;
       pages = λ page. page_by c m k p s fine once page _ refl (λ t. held_fine _ k page (touched page t));
     }
@@ -251,12 +251,8 @@ module _ (c : Setup) (m : PlainMap) (k : ℕ) (fine : IsMapFine m) where
     inner_source page t = let is = inside page t in area_times page m.areas is.there.place is.area is.there.at (covers_one is.area.span page ∙ is.holds)
 
     -- a plain area has none of these pages
-    plain_same : (i : ℕ) (a : Area) → slice_get m.areas i ≡ Some a → IsPlainKind a.kind → (page : ℕ) → covers (a.span ∷ []) page ≡ true → (b : Bool) → touch c m s page ≡ b → IsSame m (effect_as c m k s) page
-    plain_same i a h plain page e true t =
-        let is = inside page t in
-        let o = once page in
-        grind (arith, same_area, covers_one, nat_tests)
-    plain_same i a h plain page e false t = untouched c m k s page t
+    plain_same : (i : ℕ) (a : Area) → slice_get m.areas i ≡ Some a → IsPlainKind a.kind → (page : ℕ) → covers (a.span ∷ []) page ≡ true → IsSame m (effect_as c m k s) page
+    plain_same i a h plain page e = untouched c m k s page (not_true _ (λ t. (let is = inside page t in let o = once page in grind (arith, same_area, covers_one, nat_tests))))
 
     pub inner_moved : IsUnbearing p → (n : Next) → OnNext IsUnbearing n → IsMoved c m k p s n
     inner_moved none n none_next = record {

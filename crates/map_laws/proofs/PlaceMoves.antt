@@ -17,7 +17,7 @@ use Rattle.vm_model.specs.Laws.{as_free}
 use Rattle.vm_model.specs.Frames.{give_frames, free_frames}
 use Rattle.map_laws.proofs.KeptThroughSteps.{same_or, set_same, set_other, there}
 use Rattle.map_laws.proofs.ProperPlaces.{OnNext}
-use Rattle.map_laws.proofs.TestsAndFilters.{times-one, covers_times, in_spans, InSpans, covers_one, holds_to, hull_is, covers_append, times-append, holds_from}
+use Rattle.map_laws.proofs.TestsAndFilters.{not_true, times-one, covers_times, in_spans, InSpans, covers_one, holds_to, hull_is, covers_append, times-append, holds_from}
 use Rattle.map_laws.proofs.areas.AreaFacts.{touch, painted, IsSame, ungiven, outside_row, untouched, painted_still, IsHolding, IsMapFine, own_uses, next_uses, holds_nothing, nothing_claimed, IsUnbearing, guard_part, mapped_within, mapped_covers, guard_covers, guard_apart, area_stays}
 use Rattle.map_laws.proofs.Quiet.{IsOuter, outer_map, held_fine, free_fine, free_one, painted_free, freed_le, is_quiet, quiet, page_by, waits_fine, flushing_fine, area_times}
 use Rattle.map_laws.proofs.SearchEnds.{lowest_fit}
@@ -277,9 +277,8 @@ module _ (c : Setup) (m : PlainMap) (k : ℕ) (fine : IsMapFine m) where
     held_times page = ap (times page) here
 
     -- a touched page is in no area
-    wait_area : (page : ℕ) (i : ℕ) (a : Area) → slice_get m.areas i ≡ Some a → covers (a.span ∷ []) page ≡ true → (b : Bool) → covers spans page ≡ b → IsSame m (effect_as c m k (Wait spans waiting)) page
-    wait_area page i a h e true t = absurd (let n = covers_times page spans t in let o = once page in let q = area_times page m.areas i a h e in omega (arith, held_times page))
-    wait_area page i a h e false t = untouched c m k (Wait spans waiting) page t
+    wait_area : (page : ℕ) (i : ℕ) (a : Area) → slice_get m.areas i ≡ Some a → covers (a.span ∷ []) page ≡ true → IsSame m (effect_as c m k (Wait spans waiting)) page
+    wait_area page i a h e = untouched c m k (Wait spans waiting) page (not_true _ (λ t. (let n = covers_times page spans t in let o = once page in let q = area_times page m.areas i a h e in omega (arith, held_times page))))
 
     wait_marked : (page : ℕ) → (b : Bool) → covers m.waiting page ≡ b → (b || covers spans page) ≡ true → IsMarked (effect_as c m k (Wait spans waiting)) Waits page
     wait_marked page b w e = grind (arith, painted_still, painted)
@@ -293,7 +292,7 @@ module _ (c : Setup) (m : PlainMap) (k : ℕ) (fine : IsMapFine m) where
       uses = λ page. (grind (arith, wait_free, in_spans, times-append));
       own = unbearing_own c m k fine (effect_as c m k (Wait spans waiting)) n none_next;
       fine = record {
-        areas = λ i a h. area_stays m (effect_as c m k (Wait spans waiting)) a (λ page e. wait_area page i a h e _ refl) (fine.areas i a h);
+        areas = λ i a h. area_stays m (effect_as c m k (Wait spans waiting)) a (λ page e. wait_area page i a h e) (fine.areas i a h);
         waits = λ page e. wait_marked page _ refl (sym (covers_append page m.waiting spans) ∙ e);
         long = fine.long;
         pages = λ page. page_by c m k p (Wait spans waiting) fine once page _ refl (λ t. waits_fine _ page (painted (covers spans) Waits (Held k) m.marks page t (marked page t)) (unmapped page t));
@@ -303,13 +302,12 @@ module _ (c : Setup) (m : PlainMap) (k : ℕ) (fine : IsMapFine m) where
   -- All that waits is taken.
 
   module _ (extra : Option Span) (after : Then) (once : (page : ℕ) → own_uses c m (PurgeCollecting extra after) page ≤ 1) where
-    take_area : (page : ℕ) (i : ℕ) (a : Area) → slice_get m.areas i ≡ Some a → covers (a.span ∷ []) page ≡ true → (b : Bool) → covers m.waiting page ≡ b → IsSame m (effect_as c m k (TakeWaiting m.waiting)) page
-    take_area page i a h e true t = absurd (let n = covers_times page m.waiting t in let o = once page in let q = area_times page m.areas i a h e in omega arith)
-    take_area page i a h e false t = untouched c m k (TakeWaiting m.waiting) page t
+    take_area : (page : ℕ) (i : ℕ) (a : Area) → slice_get m.areas i ≡ Some a → covers (a.span ∷ []) page ≡ true → IsSame m (effect_as c m k (TakeWaiting m.waiting)) page
+    take_area page i a h e = untouched c m k (TakeWaiting m.waiting) page (not_true _ (λ t. (let n = covers_times page m.waiting t in let o = once page in let q = area_times page m.areas i a h e in omega arith)))
 
     take_fine : IsMapFine (effect_as c m k (TakeWaiting m.waiting))
     take_fine = record {
-      areas = λ i a h. area_stays m (effect_as c m k (TakeWaiting m.waiting)) a (λ page e. take_area page i a h e _ refl) (fine.areas i a h);
+      areas = λ i a h. area_stays m (effect_as c m k (TakeWaiting m.waiting)) a (λ page e. take_area page i a h e) (fine.areas i a h);
       waits = λ page e. cc;
       long = fine.long;
       pages = λ page. page_by c m k (PurgeCollecting extra after) (TakeWaiting m.waiting) fine once page _ refl
