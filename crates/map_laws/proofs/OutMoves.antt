@@ -136,7 +136,7 @@ module _ (c : Setup) (m : PlainMap) (k : ℕ) (fine : IsMapFine m) where
         areas = λ i a h. area_in a (with_in (areas_of k first areas) m.areas a (record { place = i; at = h }));
         waits = λ page w. (waits_same page w).mark ∙ fine.waits page w;
         long = fine.long;
-        pages = λ page. page_by c m k p (Settle areas first) fine once page _ refl (λ t. let is = settled_live page t in live_fine _ is.0 page is.1);
+        pages = λ page. page_by c m k p (Settle areas first) fine once page (λ t. let is = settled_live page t in live_fine _ is.0 page is.1);
       };
     }
 
@@ -159,7 +159,7 @@ module _ (c : Setup) (m : PlainMap) (k : ℕ) (fine : IsMapFine m) where
           area_stays m (effect_as c m k s) a (λ page e. out_same page (let n = area_times page (filter r m.areas) i a kept e in omega arith)) (fine.areas was.place a was.at));
       waits = λ page w. (let was = ap (λ l. covers l page) (sym waiting) ∙ w in (out_same page (let n = covers_times page m.waiting was in omega arith)).mark ∙ fine.waits page was);
       long = long;
-      pages = λ page. page_by c m k p s fine once page _ refl (λ t. held_fine _ k page (touched page t));
+      pages = λ page. page_by c m k p s fine once page (λ t. held_fine _ k page (touched page t));
     }
 
     pub out_source : (page : ℕ) → touch c m s page ≡ true → 1 ≤ times page (spans_of m.areas)
@@ -263,7 +263,7 @@ module _ (c : Setup) (m : PlainMap) (k : ℕ) (fine : IsMapFine m) where
         areas = λ i a h. (let was = ap (λ l. slice_get l i) (sym areas) ∙ h in let is = fine.areas i a was in (grind (arith, plain_same, same_unmapped, guard_covers, nat_tests)));
         waits = λ page w. mark_same Waits page (fine.waits page (ap (λ l. covers l page) (sym waiting) ∙ w));
         long = long;
-        pages = λ page. page_by c m k p s fine once page _ refl
+        pages = λ page. page_by c m k p s fine once page
             (λ t. (let is = inside page t in live_fine _ is.area.serial page (mark_same (Live is.area.serial) page ((fine.areas is.there.place is.area is.there.at).marked page (covers_one is.area.span page ∙ is.holds)))));
       };
     }

@@ -295,7 +295,7 @@ module _ (c : Setup) (m : PlainMap) (k : ℕ) (fine : IsMapFine m) where
         areas = λ i a h. area_stays m (effect_as c m k (Wait spans waiting)) a (λ page e. wait_area page i a h e) (fine.areas i a h);
         waits = λ page e. wait_marked page _ refl (sym (covers_append page m.waiting spans) ∙ e);
         long = fine.long;
-        pages = λ page. page_by c m k p (Wait spans waiting) fine once page _ refl (λ t. waits_fine _ page (painted (covers spans) Waits (Held k) m.marks page t (marked page t)) (unmapped page t));
+        pages = λ page. page_by c m k p (Wait spans waiting) fine once page (λ t. waits_fine _ page (painted (covers spans) Waits (Held k) m.marks page t (marked page t)) (unmapped page t));
       };
     }
 
@@ -310,7 +310,7 @@ module _ (c : Setup) (m : PlainMap) (k : ℕ) (fine : IsMapFine m) where
       areas = λ i a h. area_stays m (effect_as c m k (TakeWaiting m.waiting)) a (λ page e. take_area page i a h e) (fine.areas i a h);
       waits = λ page e. cc;
       long = fine.long;
-      pages = λ page. page_by c m k (PurgeCollecting extra after) (TakeWaiting m.waiting) fine once page _ refl
+      pages = λ page. page_by c m k (PurgeCollecting extra after) (TakeWaiting m.waiting) fine once page
           (λ t. flushing_fine _ k page (painted (covers m.waiting) (Flushing k) Waits m.marks page t (fine.waits page t)) ((fine.pages page).waiting (fine.waits page t)));
     }
 

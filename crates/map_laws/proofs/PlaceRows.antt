@@ -108,6 +108,11 @@ module _ (c : Setup) (s : Section) where
   either p true x y f g = f refl
   either p false x y f g = g refl
 
+  -- what was told, or that nothing was
+  told : {X : Type 0} (p : Place) (o : Option X) (n : Option X → Next) → ((x : X) → o ≡ Some x → PlaceRow c s p (n (Some x))) → (o ≡ None → PlaceRow c s p (n None)) → PlaceRow c s p (n o)
+  told p None n some none = none refl
+  told p (Some x) n some none = some x refl
+
   finds : (search : Search) (aim : Aim) (o : Option Span) (base : Option ℕ) → carved s ≡ o → carved_base s ≡ base
       → PlaceRow c s (Finding search aim) (found aim o base (Go (PurgeTaking None (SearchAgain search aim))))
   finds search (ForArea k) (Some place) base e f = FoundArea search k place e
@@ -129,10 +134,6 @@ module _ (c : Setup) (s : Section) where
   finds_again search (ForBlock cpu pages) None None e f = AgainNoBlock search cpu pages
   finds_again search (ForBlock cpu pages) None (Some base) e f = AgainNoBlock search cpu pages
 
-  removes : (start serial : ℕ) (o : Option Area) → removed s ≡ o → PlaceRow c s (Removing start serial) (after_remove o)
-  removes start serial None e = NoArea start serial
-  removes start serial (Some area) e = Removed start serial area e
-
   waits : (spans : List Span) (after : Then) → PlaceRow c s (Waiting spans after) (go_on after)
   waits spans (SearchAgain search aim) = WaitedSearch spans search aim
   waits spans (ReplyWith r) = WaitedReply spans r
@@ -151,90 +152,36 @@ module _ (c : Setup) (s : Section) where
       by_list [] e = FragmentedNone cpu gone extra after
       by_list (start ∷ more) e = subst (λ l. PlaceRow c s (PurgeFragmenting cpu gone extra after) (Go (PurgeUnlinking l extra after))) e (FragmentedSome cpu gone extra after)
 
-  collects : (extra : Option Span) (after : Then) (o : Option Span) → PlaceRow c s (PurgeCollecting extra after) (after_collecting (spans_taken s) o after)
-  collects extra after None = CollectedNone extra after
-  collects extra after (Some h) = CollectedSome extra after h
-
   flushes : (h : Span) (waited : List Span) (after : Then) → PlaceRow c s (PurgeFlushing h waited after) (after_flush waited after)
   flushes h [] after = FlushedNone h [] after
   flushes h (x ∷ waited) after = FlushedSome h (x ∷ waited) after
 
-  cuts : (cpu pages : ℕ) (o : Option PartAt) → part_told s ≡ o → PlaceRow c s (CuttingPart cpu pages) (after_cut c cpu pages o)
-  cuts cpu pages None e = NotCut cpu pages
-  cuts cpu pages (Some at) e = Cut cpu pages at e
-
-  begins : (cpu page serial : ℕ) (o : Option PartAt) → part_told s ≡ o → PlaceRow c s (BeginningUnmap cpu page serial) (after_begin o)
-  begins cpu page serial None e = NoPart cpu page serial
-  begins cpu page serial (Some at) e = Begun cpu page serial at e
-
-  chooses : (bytes align : ℕ) (o : Option (ObjectAt × List ℕ)) → placed s ≡ o → PlaceRow c s (Choosing bytes align) (after_place bytes align (next_number s) o)
-  chooses bytes align None e = ChoseNone bytes align
-  chooses bytes align (Some p) e = Chose bytes align p.0 p.1 e
-
-  adds : (base chunk bytes align : ℕ) (o : Option (ObjectAt × List ℕ)) → placed s ≡ o → PlaceRow c s (AddingChunk base chunk bytes align) (after_place bytes align 0 o)
-  adds base chunk bytes align None e = AddedNone base chunk bytes align e
-  adds base chunk bytes align (Some p) e = AddedChunk base chunk bytes align p.0 p.1 e
-
-  atomically : (bytes align : ℕ) (o : Option (ObjectAt × List ℕ)) → placed s ≡ o → PlaceRow c s (ChoosingAtomic bytes align) (after_atomic o)
-  atomically bytes align None e = ChoseNoAtomic bytes align
-  atomically bytes align (Some p) e = ChoseAtomic bytes align p.0 p.1 e
-
-  spares : (o : Option (ℕ × List ℕ)) → spare_told s ≡ o → PlaceRow c s Sparing (after_spare o)
-  spares None e = SparedNone
-  spares (Some p) e = Spared p.0 p.1 e
-
-  fills : (filled : ℕ) (o : Option (ℕ × ℕ × ℕ)) → page_told s ≡ o → PlaceRow c s (NextFill filled) (after_page filled o)
-  fills filled None e = NextNone filled
-  fills filled (Some p) e = NextFound filled p.0 p.1 p.2 e
+  -- rows of places with one outcome
+  ruleset lone = (Stays, Refused, Dropped, Settled, UnmappedArea, TookPurge, UnlinkedGone, WaitedGone, ReturnedAll, SettledBlock, AddedBlock, SettledPart, UnmappedPart,
+      UnlinkedBlock, TookAlloc, SettledGroups, SettledObject, Unplaced, GaveAlloc, ZeroedObject, SettledAtomic, Added, Summed, TookToBalance, Depopulated, UnlinkedGroups, Noted)
 
   -- each section leads as one of the rows says
   pub place_row : (p : Place) → PlaceRow c s p (next c p s)
-  place_row Over = Stays
-  place_row (Refusing r) = Refused r
   place_row (Finding search aim) = finds search aim (carved s) (carved_base s) refl refl
   place_row (FindingAgain search aim) = finds_again search aim (carved s) (carved_base s) refl refl
   place_row (MappingArea place k) = either _ (had_frames s) _ _ (Mapped place k) (NotMapped place k)
-  place_row (Dropping place) = Dropped place
-  place_row (SettlingArea place k) = Settled place k
-  place_row (Removing start serial) = removes start serial (removed s) refl
-  place_row (UnmappingArea area) = UnmappedArea area
+  place_row (Removing start serial) = told _ (removed s) after_remove (Removed start serial) (λ e. NoArea start serial)
   place_row (Waiting spans after) = either _ (nat_lt c.lazy (pages_waiting s)) _ _ (λ e. WaitedTooMuch spans after) (λ e. waits spans after)
-  place_row (PurgeTaking extra after) = TookPurge extra after
   place_row (PurgeFragmenting cpu gone extra after) = either _ (nat_lt (suc cpu) (cpus c)) _ _ (FragmentedMore cpu gone extra after) (λ e. fragments cpu gone extra after _ refl)
-  place_row (PurgeUnlinking gone extra after) = UnlinkedGone gone extra after
-  place_row (PurgeWaiting gone extra after) = WaitedGone gone extra after
-  place_row (PurgeCollecting extra after) = collects extra after _
+  place_row (PurgeCollecting extra after) = told _ _ (λ o. after_collecting (spans_taken s) o after) (λ h e. CollectedSome extra after h) (λ e. CollectedNone extra after)
   place_row (PurgeFlushing h waited after) = flushes h waited after
-  place_row (PurgeReturning waited after) = ReturnedAll waited after
   place_row (PurgeGiving after) = gives after
-  place_row (CuttingPart cpu pages) = cuts cpu pages (part_told s) refl
-  place_row (SettlingBlock place cpu pages) = SettledBlock place cpu pages
-  place_row (AddingBlock at) = AddedBlock at
+  place_row (CuttingPart cpu pages) = told _ (part_told s) (after_cut c cpu pages) (Cut cpu pages) (λ e. NotCut cpu pages)
   place_row (MappingPart at) = either _ (had_frames s) _ _ (MappedPart at) (NotMappedPart at)
-  place_row (SettlingPart at) = SettledPart at
-  place_row (BeginningUnmap cpu page serial) = begins cpu page serial (part_told s) refl
-  place_row (UnmappingPart at) = UnmappedPart at
+  place_row (BeginningUnmap cpu page serial) = told _ (part_told s) after_begin (Begun cpu page serial) (λ e. NoPart cpu page serial)
   place_row (Retiring at r) = either _ (was_spent s) _ _ (RetiredSpent at r) (λ e. RetiredOther at r)
-  place_row (UnlinkingBlock start r) = UnlinkedBlock start r
   place_row (LookingAtDirty cpu ranges) = either _ (nat_lt (suc cpu) (cpus c)) _ _ (LookedMore cpu ranges) (λ e. LookedAll cpu ranges)
-  place_row (TakingAlloc bytes align) = TookAlloc bytes align
-  place_row (Choosing bytes align) = chooses bytes align (placed s) refl
-  place_row (SettlingGroups base chunk bytes align) = SettledGroups base chunk bytes align
-  place_row (AddingChunk base chunk bytes align) = adds base chunk bytes align (placed s) refl
+  place_row (Choosing bytes align) = told _ (placed s) (after_place bytes align (next_number s)) (λ p. Chose bytes align p.0 p.1) (λ e. ChoseNone bytes align)
+  place_row (AddingChunk base chunk bytes align) = told _ (placed s) (after_place bytes align 0) (λ p. AddedChunk base chunk bytes align p.0 p.1) (AddedNone base chunk bytes align)
   place_row (Populating at missing) = either _ (had_frames s) _ _ (Populated at missing) (NotPopulated at missing)
-  place_row (SettlingObject at) = SettledObject at
-  place_row (Unplacing at) = Unplaced at
-  place_row (GivingAlloc r made) = GaveAlloc r made
-  place_row (ChoosingAtomic bytes align) = atomically bytes align (placed s) refl
-  place_row (Zeroing at) = ZeroedObject at
-  place_row (SettlingAtomic at) = SettledAtomic at
+  place_row (ChoosingAtomic bytes align) = told _ (placed s) after_atomic (λ p. ChoseAtomic bytes align p.0 p.1) (λ e. ChoseNoAtomic bytes align)
   place_row (FreeingObject at serial) = either _ (was_live s) _ _ (λ e. Freed at serial) (λ e. NotFreed at serial)
-  place_row (Adding at serial cpu index amount) = Added at serial cpu index amount
-  place_row (Summing at serial index) = Summed at serial index
-  place_row TakingToBalance = TookToBalance
-  place_row Sparing = spares (spare_told s) refl
-  place_row (Depopulating base populated) = Depopulated base populated
-  place_row (UnlinkingGroups base) = UnlinkedGroups base
-  place_row (NextFill filled) = fills filled (page_told s) refl
+  place_row Sparing = told _ (spare_told s) after_spare (λ p. Spared p.0 p.1) (λ e. SparedNone)
+  place_row (NextFill filled) = told _ (page_told s) (after_page filled) (λ p. NextFound filled p.0 p.1 p.2) (λ e. NextNone filled)
   place_row (Filling chunk base page filled) = either _ (had_frames s) _ _ (FilledPage chunk base page filled) (NotFilled chunk base page filled)
-  place_row (NotingFilled chunk page filled) = Noted chunk page filled
+  place_row _ = search lone

@@ -14,7 +14,7 @@ use Rattle.vm_model.specs.Places.{Place, UnlinkingGroups, UnlinkingBlock, PurgeU
 use Rattle.vm_model.specs.Carried.{held, flushed}
 use Rattle.vm_model.specs.Laws.{as_free}
 use Rattle.vm_model.proofs.Paint.{slice_get-paint, length-paint_from}
-use Rattle.map_laws.proofs.TestsAndFilters.{sum_has, times-cons, covers_times, covers_one}
+use Rattle.map_laws.proofs.TestsAndFilters.{by_test, not_true, sum_has, times-cons, covers_times, covers_one}
 use Rattle.map_laws.proofs.areas.AreaFacts.{touch, IsSame, untouched, IsPageFine, IsMapFine, own_uses, area_stays, page_stays, IsUnbearing}
 use Rattle.vm_model.specs.Next.{next}
 use Rattle.vm_model.specs.LegalHistory.{Meets}
@@ -78,23 +78,18 @@ module _ (c : Setup) (m : PlainMap) (k : ℕ) (p : Place) (s : Section) (fine : 
     pub source : (page : ℕ) → touch c m s page ≡ true → 1 ≤ times page (held c p) + times page (flushed p) + as_free (slice_get m.marks page)
     pub touched : (page : ℕ) → touch c m s page ≡ true → IsPageFine (effect_as c m k s) page
 
+  pub page_by : (page : ℕ) → (touch c m s page ≡ true → IsPageFine (effect_as c m k s) page) → IsPageFine (effect_as c m k s) page
+  page_by page touched = by_test (touch c m s page) touched (λ e. page_stays m (effect_as c m k s) page (untouched c m k s page e) (fine.pages page))
+
   -- a page that is touched and counts elsewhere too would count twice
-  same_by : (page : ℕ) (b : Bool) → touch c m s page ≡ b → (touch c m s page ≡ true → ⊥) → IsSame m (effect_as c m k s) page
-  same_by page true e never = absurd (never e)
-  same_by page false e never = untouched c m k s page e
-
-  pub page_by : (page : ℕ) (b : Bool) → touch c m s page ≡ b → (touch c m s page ≡ true → IsPageFine (effect_as c m k s) page) → IsPageFine (effect_as c m k s) page
-  page_by page true e touched = touched e
-  page_by page false e touched = page_stays m (effect_as c m k s) page (untouched c m k s page e) (fine.pages page)
-
   pub outer_map : IsOuter → IsMapFine (effect_as c m k s)
   outer_map is = record {
     areas = λ i a h. let was : slice_get m.areas i ≡ Some a = ap (λ l. slice_get l i) (sym is.areas) ∙ h in
-        area_stays m (effect_as c m k s) a (λ page e. same_by page _ refl (λ t. let n = is.source page t in let o = once page in let q = area_times page m.areas i a was e in omega arith)) (fine.areas i a was);
+        area_stays m (effect_as c m k s) a (λ page e. untouched c m k s page (not_true _ (λ t. let n = is.source page t in let o = once page in let q = area_times page m.areas i a was e in omega arith))) (fine.areas i a was);
     waits = λ page e. let was : covers m.waiting page ≡ true = ap (λ l. covers l page) (sym is.waiting) ∙ e in
-        (same_by page _ refl (λ t. let n = is.source page t in let o = once page in let q = covers_times page m.waiting was in omega arith)).mark ∙ fine.waits page was;
+        (untouched c m k s page (not_true _ (λ t. let n = is.source page t in let o = once page in let q = covers_times page m.waiting was in omega arith))).mark ∙ fine.waits page was;
     long = is.long;
-    pages = λ page. page_by page _ refl (is.touched page);
+    pages = λ page. page_by page (is.touched page);
   }
 
 -- The places behind which nothing is held or flushed, and the sections that leave marks, frames, areas and what waits.
