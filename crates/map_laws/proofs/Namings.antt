@@ -45,16 +45,10 @@ count_flat f n (x ∷ xs) = omega (arith, count_append n (f x) (flat_map f xs), 
 
 count_groups : (base start : ℕ) (groups : List Span) → count_of start (map (λ (s : Span). s.start) (map (λ (g : Span). span (base + g.start) g.pages) groups)) ≡ sum_by (λ (g : Span). one_if (base + g.start == start)) groups
 count_groups base start [] = refl
-count_groups base start (g ∷ groups) = omega (
-  arith,
-  count_cons start (base + g.start) (map (λ (s : Span). s.start) (map (λ (g : Span). span (base + g.start) g.pages) groups)),
-  count_groups base start groups,
-  sum_by-cons (λ (g : Span). one_if (base + g.start == start)) g groups,
-)
+count_groups base start (g ∷ groups) = search (count_groups base start groups, count_cons, sum_by-cons)
 
 same_if : (a b : ℕ) (t : Bool) → (a == b) ≡ t → 1 ≤ one_if (a == b) → a ≡ b
-same_if a b true e h = to_same a b e
-same_if a b false e h = absurd (omega (arith, ap one_if e))
+same_if a b t e h = grind arith
 
 pub starts_once : (c : Setup) → AreGroups c → (base start : ℕ) → count_of start (group_starts c base) ≤ 1
 starts_once c groups base start = omega (
@@ -88,7 +82,6 @@ module _ (c : Setup) (groups : AreGroups c) (w : World) (once : (page : ℕ) →
   same_index i j h h' e f hit hit' =
       let is = chunk_in h (record { place = i; at = e }) hit in let is' = chunk_in h' (record { place = j; at = f }) hit' in
       let same : h.number ≡ h'.number = sym is.1 ∙ number_once w.map start (once start) is.0 is'.0 ∙ is'.1 in
-      let few = objects.fine.once h.number in
       same_place (λ (x : Chunk). one_if (x.number == h.number)) w.map.chunks i j h h' (omega (arith, count_sum (λ (x : Chunk). x.number) h.number w.map.chunks)) e f
       (omega (arith, ap one_if (same_test h.number))) (omega (arith, ap one_if (ap (λ n. n == h.number) (sym same) ∙ same_test h.number)))
 
@@ -161,14 +154,7 @@ module _ (c : Setup) (groups : AreGroups c) (w : World) (once : (page : ℕ) →
 
     outs_sum : (locals : List Local) → sum_by (λ (l : Local). count_of start (starts_out c l.place)) locals ≡ sum_by (λ (l : Local). count_of start (block_out l.place)) locals + sum_by out_starts locals
     outs_sum [] = omega arith
-    outs_sum (l ∷ locals) = omega (
-      arith,
-      sum_by-cons (λ (l : Local). count_of start (starts_out c l.place)) l locals,
-      sum_by-cons (λ (l : Local). count_of start (block_out l.place)) l locals,
-      sum_by-cons out_starts l locals,
-      outs_count c l.place start,
-      outs_sum locals,
-    )
+    outs_sum (l ∷ locals) = search (outs_sum locals, sum_by-cons, outs_count, arith) depth 6
 
     all_once : block_names + chunk_names ≤ 1
     all_once = by_both _ _ refl refl

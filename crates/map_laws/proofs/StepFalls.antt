@@ -119,8 +119,7 @@ module _ (c : Setup) where
         → left_next c (after_place bytes align 0 (placed s)) + added c s < 4 + chunk_cost c
     chunk_left base chunk bytes align s few e =
         let room = new_chunk_has_room c chunk base bytes align m.chunks units few in
-        let is : placing_new chunk base bytes align (placement c (plain_fit c bytes align) bytes (m.chunks ++ new_chunk c chunk base ∷ [])) ≡ s = cc in
-        subst (λ (x : Section). left_next c (after_place bytes align 0 (placed x)) + added c x < 4 + chunk_cost c) is (added_left chunk base bytes align _ room.0 room.1)
+        grind arith
 
     pub step_falls : (p : Place) (s : Section) → is_balancing p ≡ false → adds_chunk p ≡ false → IsProper c p → given c m (ask c p) ≡ Some s → left_next c (next c p s) < left c p
     step_falls p s n a is e = grind (arith, place_row, nat_tests)
@@ -182,8 +181,7 @@ module _ (c : Setup) (m : PlainMap) (k : ℕ) (units : 8 ≤ c.unit_pages) where
   spared None e = omega arith
   spared (Some h) e =
       let kept = filter_has (λ (h : Chunk). length h.objects == 0) m.chunks 1 h e in
-      let gone : not (h.number == h.number) ≡ false = ap not (same_count h.number) in
-      omega (arith, sum_without (worth c) (λ (x : Chunk). not (x.number == h.number)) m.chunks h kept.there.place kept.there.at gone)
+      grind (arith, sum_without)
 
   opens_some : (h : Chunk) (page : ℕ) → IsFillable m.chunks h page → 1 ≤ opens h.number page m.chunks
   opens_some h page is = grind (arith, open_in, same_count, sum_has, nat_tests)
@@ -206,12 +204,7 @@ module _ (c : Setup) (m : PlainMap) (k : ℕ) (units : 8 ≤ c.unit_pages) where
 
   balance_falls : AreSized c m.chunks → (p : Place) (s : Section) → is_balancing p ≡ true → given c m (ask c p) ≡ Some s
       → left_next c (next c p s) + credit_next (effect_as c m k s).chunks (next c p s) + worth_of c (effect_as c m k s).chunks < left c p + credit m.chunks p + worth_of c m.chunks
-  balance_falls sized Sparing s h e = told_falls Sparing (sparing c (spare_chunk m.chunks)) s (5 + 0 + worth_of c m.chunks) e (spared (spare_chunk m.chunks) refl)
-  balance_falls sized (NextFill filled) s h e = told_falls (NextFill filled) (filling (page_to_fill c m.chunks)) s (4 + 0 + worth_of c m.chunks) e (filled_next sized filled (page_to_fill c m.chunks) refl)
-  balance_falls sized (Filling chunk base page filled) s h e = grind (arith, given_meets, worth_of, opens, nat_tests)
-  balance_falls sized (NotingFilled chunk page filled) s h e =
-      told_falls (NotingFilled chunk page filled) (Filled chunk page) s (2 + (3 - 3 * opens chunk page m.chunks) + worth_of c m.chunks) e (let a = noted chunk page in omega arith)
-  balance_falls sized _ s h e = cc
+  balance_falls sized p s h e = grind (arith, spared, filled_next, noted)
 
   falls_by : AreSized c m.chunks → (p : Place) (s : Section) (b : Bool) → is_balancing p ≡ b → IsProper c p → given c m (ask c p) ≡ Some s
       → left_next c (next c p s) + credit_next (effect_as c m k s).chunks (next c p s) + worth_of c (effect_as c m k s).chunks < left c p + credit m.chunks p + worth_of c m.chunks

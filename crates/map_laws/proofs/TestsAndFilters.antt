@@ -10,32 +10,25 @@ use Rattle.vm_model.specs.declared.areas.Span.{Span}
 -- What holds of tests that are joined by `||`, and how often a test counts.
 
 pub or_left : (a b : Bool) → a ≡ true → (a || b) ≡ true
-or_left true b e = refl
-or_left false b e = cc
+or_left a b e = grind arith
 
 pub or_right : (a b : Bool) → b ≡ true → (a || b) ≡ true
-or_right true b e = refl
-or_right false b e = e
+or_right a b e = grind arith
 
 pub or_either : (a b : Bool) → (a || b) ≡ true → (a ≡ true) ⊎ (b ≡ true)
-or_either true b e = inl refl
-or_either false b e = inr e
+or_either a b e = grind arith
 
 pub or_none : (a b : Bool) → (a || b) ≡ false → (a ≡ false) × (b ≡ false)
-or_none true b e = cc
-or_none false b e = (refl, e)
+or_none a b e = grind arith
 
 pub or_false : (b : Bool) → (b || false) ≡ b
-or_false true = refl
-or_false false = refl
+or_false b = grind arith
 
 pub or_assoc : (a b d : Bool) → (a || (b || d)) ≡ ((a || b) || d)
-or_assoc true b d = refl
-or_assoc false b d = refl
+or_assoc a b d = grind arith
 
 pub one_if_le : (b : Bool) → one_if b ≤ 1
-one_if_le true = omega arith
-one_if_le false = omega arith
+one_if_le b = grind arith
 
 -- what holds whether a test holds or not
 pub by_test : {P : Type 0} (t : Bool) → (t ≡ true → P) → (t ≡ false → P) → P
@@ -61,9 +54,7 @@ pub record IsKept {X : Type 0} (p : X → Bool) (xs : List X) (x : X) : Type 0 w
 
 kept_by : {X : Type 0} (p : X → Bool) (xs : List X) (y : X) (b : Bool) → p y ≡ b → (i : ℕ) (x : X) → slice_get (cond b (y ∷ filter p xs) (filter p xs)) i ≡ Some x
     → ((j : ℕ) → slice_get (filter p xs) j ≡ Some x → IsKept p xs x) → IsKept p (y ∷ xs) x
-kept_by p xs y true e zero x h more = let same : y ≡ x = cc in record { there = record { place = 0; at = h }; passes = ap p (sym same) ∙ e }
-kept_by p xs y true e (suc i) x h more = grind (arith, there, in_more, nat_tests)
-kept_by p xs y false e i x h more = grind (arith, there, in_more, nat_tests)
+kept_by p xs y b e i x h more = grind (arith, in_more)
 
 pub filter_has : {X : Type 0} (p : X → Bool) (xs : List X) (i : ℕ) (x : X) → slice_get (filter p xs) i ≡ Some x → IsKept p xs x
 filter_has p [] i x h = cc
@@ -88,13 +79,11 @@ least_some key (z ∷ xs) x h = smaller_some key z (least_by key xs)
 
 pub filter_in : {X : Type 0} (p : X → Bool) (xs : List X) (x : X) (i : ℕ) → slice_get xs i ≡ Some x → p x ≡ true → IsIn x (filter p xs)
 filter_in p [] x i h e = cc
-filter_in p (y ∷ xs) x zero h e = grind (arith, nat_tests)
-filter_in p (y ∷ xs) x (suc i) h e = grind (arith, filter_in p xs x i h e, in_more, nat_tests)
+filter_in p (y ∷ xs) x i h e = grind (arith, filter_in p xs, in_more)
 
 -- a sum loses what a filter leaves out
 sum_kept : {X : Type 0} (f : X → ℕ) (p : X → Bool) (y : X) (xs : List X) (b : Bool) → sum_by f (cond b (y ∷ filter p xs) (filter p xs)) ≤ f y + sum_by f (filter p xs)
-sum_kept f p y xs true = omega (arith, sum_by-cons f y (filter p xs))
-sum_kept f p y xs false = omega arith
+sum_kept f p y xs b = grind (arith, sum_by-cons)
 
 pub sum_by-filter-le : {X : Type 0} (f : X → ℕ) (p : X → Bool) (xs : List X) → sum_by f (filter p xs) ≤ sum_by f xs
 sum_by-filter-le f p [] = omega arith
@@ -102,20 +91,17 @@ sum_by-filter-le f p (y ∷ xs) = omega (arith, sum_kept f p y xs (p y), sum_by-
 
 pub sum_without : {X : Type 0} (f : X → ℕ) (p : X → Bool) (xs : List X) (x : X) (i : ℕ) → slice_get xs i ≡ Some x → p x ≡ false → sum_by f (filter p xs) + f x ≤ sum_by f xs
 sum_without f p [] x i h e = cc
-sum_without f p (y ∷ xs) x zero h e = grind (arith, sum_by-filter-le, sum_by-cons, nat_tests)
-sum_without f p (y ∷ xs) x (suc i) h e = omega (arith, sum_kept f p y xs (p y), sum_without f p xs x i h e, sum_by-cons f y xs)
+sum_without f p (y ∷ xs) x i h e = grind (arith, sum_without f p xs, sum_by-filter-le, sum_by-cons)
 
 -- the sum has each of its terms
 pub sum_has : {X : Type 0} (f : X → ℕ) (xs : List X) (x : X) (i : ℕ) → slice_get xs i ≡ Some x → f x ≤ sum_by f xs
 sum_has f [] x i h = cc
-sum_has f (y ∷ xs) x zero h = let same : y ≡ x = cc in omega (arith, ap f same, sum_by-cons f y xs)
-sum_has f (y ∷ xs) x (suc i) h = omega (arith, sum_has f xs x i h, sum_by-cons f y xs)
+sum_has f (y ∷ xs) x i h = grind (arith, sum_has f xs, sum_by-cons)
 
 -- a row of numbers
 pub count_from-below : (n first i x : ℕ) → slice_get (count_from n first) i ≡ Some x → x < first + n
 count_from-below zero first i x h = cc
-count_from-below (suc n) first zero x h = let same : first ≡ x = cc in omega arith
-count_from-below (suc n) first (suc i) x h = omega (arith, count_from-below n (suc first) i x h)
+count_from-below (suc n) first i x h = grind (arith, count_from-below n)
 
 pub find_has : {X : Type 0} (p : X → Bool) (xs : List X) (x : X) → find p xs ≡ Some x → IsIn x xs × (p x ≡ true)
 find_has p [] x h = cc
@@ -133,16 +119,14 @@ among_in x (y ∷ xs) h = grind (arith, among_in x xs, in_more, nat_tests)
 
 in_by : (x : ℕ) (xs : List ℕ) (i : ℕ) → slice_get xs i ≡ Some x → is_among xs x ≡ true
 in_by x [] i e = cc
-in_by x (y ∷ xs) zero e = let same : y ≡ x = cc in ap (λ b. b || is_among xs x) (let t : (y == x) ≡ true = grind (arith, nat_tests) in t)
-in_by x (y ∷ xs) (suc i) e = or_right (y == x) (is_among xs x) (in_by x xs i e)
+in_by x (y ∷ xs) i e = grind (arith, in_by x xs)
 
 pub in_among : (x : ℕ) (xs : List ℕ) → IsIn x xs → is_among xs x ≡ true
 in_among x xs h = in_by x xs h.place h.at
 
 pub count_at : (n first x : ℕ) → x < n → slice_get (count_from n first) x ≡ Some (first + x)
-count_at zero first x h = absurd (omega arith)
-count_at (suc n) first zero h = ap (λ i. Some i) (let e : first ≡ first + 0 = omega arith in e)
-count_at (suc n) first (suc x) h = count_at n (suc first) x (omega arith) ∙ ap (λ i. Some i) (let e : suc first + x ≡ first + suc x = omega arith in e)
+count_at zero first x h = grind (arith, nat_tests)
+count_at (suc n) first x h = grind (arith, count_at n)
 
 -- Elements that are put among others, by a number of each.
 
@@ -207,7 +191,7 @@ pub holds_times : (s : Span) (page : ℕ) → holds s page ≡ true → one_if (
 holds_times s page h = ap one_if h
 
 pub holds_to : (s : Span) (page : ℕ) → holds s page ≡ true → (s.start ≤ page) × (page < s.start + s.pages)
-holds_to s page h = (grind (arith, nat_tests), grind (arith, nat_tests))
+holds_to s page h = grind (arith, nat_tests), grind (arith, nat_tests)
 
 pub holds_from : (s : Span) (page : ℕ) → s.start ≤ page → page < s.start + s.pages → holds s page ≡ true
 holds_from s page a b = grind (arith, nat_tests)

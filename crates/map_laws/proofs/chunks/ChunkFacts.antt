@@ -222,8 +222,7 @@ chunk_stays c units m m' busy busy' h h' row stays more is = record {
   long = row.long ∙ is.long;
   clean = λ page e. (let f = ap (λ b. covers (groups_at c b) page) (sym row.base) ∙ e in (groups_still c units m m' h.number h.base stays is.live page f).clean (is.clean page f));
   populated = λ page e. (let was = sym (row.populated page) ∙ e in subst (λ b. OnUnits c b page (IsMapped m')) (sym row.base) (λ cpu unit at. still_mapped m m' (h.base + unit + page) (still page true was cpu unit at) (is.populated page was cpu unit at)));
-  outer = λ page e f. (let g = ap (λ b. covers (groups_at c b) page) (sym row.base) ∙ e in
-      still_unmapped m m' page (groups_still c units m m' h.number h.base stays is.live page g) (is.outer page g (ap (λ b. is_among (pages_in_units c b (count_from c.unit_pages 0)) page) (sym row.base) ∙ f)));
+  outer = λ page e f. (grind (arith, groups_still));
   spare = λ page e. (let was = sym (row.populated page) ∙ e in elim (is.spare page was) [
     | inl bare ↦ inl (subst (λ b. OnUnits c b page (IsUnmapped m')) (sym row.base) (λ cpu unit at. still_unmapped m m' (h.base + unit + page) (still page false was cpu unit at) (bare cpu unit at)))
     | inr b ↦ inr (subst (λ n. busy' n page) (sym row.number) (more page b))
