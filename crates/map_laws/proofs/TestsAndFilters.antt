@@ -191,7 +191,7 @@ pub holds_times : (s : Span) (page : ℕ) → holds s page ≡ true → one_if (
 holds_times s page h = ap one_if h
 
 pub holds_to : (s : Span) (page : ℕ) → holds s page ≡ true → (s.start ≤ page) × (page < s.start + s.pages)
-holds_to s page h = grind (arith, nat_tests), grind (arith, nat_tests)
+holds_to s page h = (grind (arith, nat_tests), grind (arith, nat_tests))
 
 pub holds_from : (s : Span) (page : ℕ) → s.start ≤ page → page < s.start + s.pages → holds s page ≡ true
 holds_from s page a b = grind (arith, nat_tests)
