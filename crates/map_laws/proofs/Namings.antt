@@ -17,7 +17,7 @@ use Rattle.map_laws.proofs.blocks.BlockFacts.{IsBlockArea, block_out, block_star
 use Rattle.map_laws.proofs.blocks.BlockMoves.{area_holds}
 use Rattle.map_laws.proofs.blocks.BlockPlaces.{IsInChunk, in_one_kind}
 use Rattle.map_laws.proofs.blocks.BlockWorlds.{IsBlockWorld, out_area, sum_some}
-use Rattle.map_laws.proofs.TestsAndFilters.{IsIn, one_if_le, holds_from}
+use Rattle.map_laws.proofs.TestsAndFilters.{one_of_two, some_of_two, IsIn, one_if_le, holds_from}
 use Rattle.map_laws.proofs.chunks.ChunkFacts.{AreGroupsLive, IsChunkAt, start_of}
 use Rattle.map_laws.proofs.chunks.ChunkMoves.{number_once}
 use Rattle.map_laws.proofs.chunks.ChunkAdded.{IsNumberNext}
@@ -124,46 +124,28 @@ module _ (c : Setup) (groups : AreGroups c) (w : World) (once : (page : ℕ) →
   some_out n = let is = sum_some out_starts w.locals n in out_in is.1.place (chunks.each is.0 is.1 is.2) (objects.numbers is.0 is.1 is.2) is.3
 
   names_once : chunk_names ≤ 1
-  names_once = by_both _ _ refl refl
-    where
-      by_both : (a b : ℕ) → count_of start (flat_map (λ (h : Chunk). group_starts c h.base) w.map.chunks) ≡ a → sum_by out_starts w.locals ≡ b → chunk_names ≤ 1
-      by_both zero b e f = let few = outs_once in omega arith
-      by_both (suc a) zero e f = let few = chunks_once in omega arith
-      by_both (suc a) (suc b) e f = absurd (let h = some_chunk (omega arith) in let is = chunk_in h.0 h.1 h.2 in let out = some_out (omega arith) in
-          out.1 h.0 h.1 (sym is.1 ∙ number_once w.map start (once start) is.0 out.0))
+  names_once = one_of_two _ _ chunks_once outs_once
+      (λ a b. (let h = some_chunk a in let is = chunk_in h.0 h.1 h.2 in let out = some_out b in out.1 h.0 h.1 (sym is.1 ∙ number_once w.map start (once start) is.0 out.0)))
 
   named_in : 1 ≤ chunk_names → IsInChunk w.map start
-  named_in n = by_both _ _ refl refl
-    where
-      by_both : (a b : ℕ) → count_of start (flat_map (λ (h : Chunk). group_starts c h.base) w.map.chunks) ≡ a → sum_by out_starts w.locals ≡ b → IsInChunk w.map start
-      by_both zero zero e f = absurd (omega arith)
-      by_both zero (suc b) e f = (some_out (omega arith)).0
-      by_both (suc a) b e f = let h = some_chunk (omega arith) in (chunk_in h.0 h.1 h.2).0
+  named_in n = some_of_two (count_of start (flat_map (λ (h : Chunk). group_starts c h.base) w.map.chunks)) _ n (λ a. (let h = some_chunk a in (chunk_in h.0 h.1 h.2).0)) (λ b. (some_out b).0)
 
   module _ (some : 1 ≤ c.block_pages) (blocks : IsBlockWorld c w) where
     abbrev block_names : ℕ
     block_names = count_of start (block_starts w.map.blocks) + sum_by (λ (l : Local). count_of start (block_out l.place)) w.locals
 
     block_named : 1 ≤ block_names → IsBlockArea c w.map start
-    block_named n = by_both _ _ refl refl
-      where
-        by_both : (a b : ℕ) → count_of start (block_starts w.map.blocks) ≡ a → sum_by (λ (l : Local). count_of start (block_out l.place)) w.locals ≡ b → IsBlockArea c w.map start
-        by_both zero zero e f = absurd (omega arith)
-        by_both zero (suc b) e f = let is = sum_some (λ (l : Local). count_of start (block_out l.place)) w.locals (omega arith) in out_area c w.map is.1.caller is.1.place start (blocks.each is.0 is.1 is.2) (count_among start (block_out is.1.place) is.3)
-        by_both (suc a) b e f = let is = counted_block start w.map.blocks (omega arith) in subst (IsBlockArea c w.map) is.2 (blocks.blocks is.0 is.1).area
+    block_named n = some_of_two (count_of start (block_starts w.map.blocks)) _ n
+        (λ a. (let is = counted_block start w.map.blocks a in subst (IsBlockArea c w.map) is.2 (blocks.blocks is.0 is.1).area))
+        (λ b. (let is = sum_some (λ (l : Local). count_of start (block_out l.place)) w.locals b in out_area c w.map is.1.caller is.1.place start (blocks.each is.0 is.1 is.2) (count_among start (block_out is.1.place) is.3)))
 
     outs_sum : (locals : List Local) → sum_by (λ (l : Local). count_of start (starts_out c l.place)) locals ≡ sum_by (λ (l : Local). count_of start (block_out l.place)) locals + sum_by out_starts locals
     outs_sum [] = omega arith
     outs_sum (l ∷ locals) = search (outs_sum locals, sum_by-cons, outs_count, arith) depth 6
 
     all_once : block_names + chunk_names ≤ 1
-    all_once = by_both _ _ refl refl
-      where
-        by_both : (a b : ℕ) → block_names ≡ a → chunk_names ≡ b → block_names + chunk_names ≤ 1
-        by_both zero b e f = let few = names_once in omega arith
-        by_both (suc a) zero e f = let few = blocks.named start in omega arith
-        by_both (suc a) (suc b) e f = absurd (let area = block_named (omega arith) in
-            in_one_kind w.map start once (named_in (omega arith)) area.area area.there (area_holds c w.map start area start (omega arith) (omega arith)) area.cpu area.kind)
+    all_once = one_of_two _ _ (blocks.named start) names_once
+        (λ a b. (let area = block_named a in in_one_kind w.map start once (named_in b) area.area area.there (area_holds c w.map start area start (omega arith) (omega arith)) area.cpu area.kind))
 
     setups : IsFramed c w → (locals : List Local) → ((k : ℕ) (l : Local) → slice_get locals k ≡ Some l → l.setup ≡ c)
         → sum_by (λ (l : Local). count_of start (starts_out l.setup l.place)) locals ≡ sum_by (λ (l : Local). count_of start (starts_out c l.place)) locals

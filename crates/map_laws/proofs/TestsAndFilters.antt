@@ -38,6 +38,14 @@ by_test false f g = g refl
 pub not_true : (t : Bool) → (t ≡ true → ⊥) → t ≡ false
 not_true t f = grind arith
 
+-- two counts that are not both above 0
+pub one_of_two : (a b : ℕ) → a ≤ 1 → b ≤ 1 → (1 ≤ a → 1 ≤ b → ⊥) → a + b ≤ 1
+one_of_two a b few few' apart = grind arith
+
+pub some_of_two : {P : Type 0} (a b : ℕ) → 1 ≤ a + b → (1 ≤ a → P) → (1 ≤ b → P) → P
+some_of_two zero b n f g = g (omega arith)
+some_of_two (suc a) b n f g = f (omega arith)
+
 -- What a filter, a least element and a row of numbers hold.
 
 pub record IsIn {X : Type 0} (x : X) (xs : List X) : Type 0 where
