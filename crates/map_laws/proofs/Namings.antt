@@ -21,6 +21,7 @@ use Rattle.map_laws.proofs.TestsAndFilters.{one_of_two, some_of_two, IsIn, one_i
 use Rattle.map_laws.proofs.chunks.ChunkFacts.{AreGroupsLive, IsChunkAt, start_of}
 use Rattle.map_laws.proofs.chunks.ChunkMoves.{number_once}
 use Rattle.map_laws.proofs.chunks.ChunkAdded.{IsNumberNext}
+use Rattle.map_laws.proofs.chunks.ChunkDispatch.{group_there}
 use Rattle.map_laws.proofs.chunks.ChunkWorlds.{IsChunkWorld, alone}
 use Rattle.map_laws.proofs.KeptThroughSteps.{IsFramed, there}
 use Rattle.map_laws.proofs.objects.ObjectFacts.{count_sum, same_place}
@@ -61,10 +62,7 @@ starts_once c groups base start = omega (
 
 -- a start of a group that is live lies in the chunk
 start_in : (c : Setup) (m : PlainMap) (full : (a : Area) → IsIn a m.areas → 1 ≤ a.span.pages) (number base start : ℕ) → AreGroupsLive c m number base → 1 ≤ count_of start (group_starts c base) → (is : IsInChunk m start) × (is.chunk ≡ number)
-start_in c m full number base start live n =
-    let s = start_of c base start (count_among start (group_starts c base) n) in let area = live s.0 s.1 s.2 in let wide = full area.area area.there in
-    let at : area.area.span.start ≡ start = ap (λ (x : Span). x.start) area.span ∙ s.3 in
-    (record { area = area.area; there = area.there; holds = holds_from area.area.span start (omega arith) (omega arith); chunk = number; group = s.0; kind = area.kind }, refl)
+start_in c m full number base start live n = group_there c m full number base live start (count_among start (group_starts c base) n)
 
 module _ (c : Setup) (groups : AreGroups c) (w : World) (once : (page : ℕ) → times page (spans_of w.map.areas) ≤ 1) (full : (a : Area) → IsIn a w.map.areas → 1 ≤ a.span.pages) (turns : AreTurnsKept w) (chunks : IsChunkWorld c w) (objects : IsObjectWorld c w)
     (start : ℕ) where

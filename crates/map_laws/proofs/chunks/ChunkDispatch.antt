@@ -39,6 +39,14 @@ use Rattle.map_laws.proofs.chunks.ChunkNoted.{fill_moved, place_moved, populate_
 
 -- The areas and pages of chunks stay where areas, blocks and parts change, and where another chunk's areas are unlinked.
 
+-- where a group of a chunk starts is a page of that chunk
+pub group_there : (c : Setup) (m : PlainMap) → ((a : Area) → IsIn a m.areas → 1 ≤ a.span.pages) → (number base : ℕ) → AreGroupsLive c m number base
+    → (start : ℕ) → is_among (group_starts c base) start ≡ true → (is : IsInChunk m start) × (is.chunk ≡ number)
+group_there c m full number base live start f =
+    let s = start_of c base start f in let area = live s.0 s.1 s.2 in let wide = full area.area area.there in
+    let at : area.area.span.start ≡ start = ap (λ (x : Span). x.start) area.span ∙ s.3 in
+    (record { area = area.area; there = area.there; holds = holds_from area.area.span start (omega arith) (omega arith); chunk = number; group = s.0; kind = area.kind }, refl)
+
 module _ (c : Setup) (m : PlainMap) (k : ℕ) (once : (page : ℕ) → times page (spans_of m.areas) ≤ 1) where
   -- frames of pages that are in no chunk's area
   pub framed_stays : (s : Section) (number : ℕ) → (effect_as c m k s).areas ≡ m.areas → ((page : ℕ) → touch c m s page ≡ true → IsInChunk m page → ⊥) → NumberStays m (effect_as c m k s) number
@@ -73,23 +81,16 @@ module _ (c : Setup) (m : PlainMap) (k : ℕ) (once : (page : ℕ) → times pag
         in_one_kind m a.span.start once (record { area = a; there = there; holds = holds_from a.span a.span.start (omega arith) (omega arith); chunk = number; group = group; kind = e })
         block.area block.there (area_holds c m a.span.start block a.span.start (omega arith) (omega arith)) block.cpu block.kind))
 
-    -- where a group of a chunk starts is a page of that chunk
-    group_there : (base gone : ℕ) → AreGroupsLive c m gone base → (start : ℕ) → is_among (group_starts c base) start ≡ true → (is : IsInChunk m start) × (is.chunk ≡ gone)
-    group_there base gone live start f =
-        let s = start_of c base start f in let area = live s.0 s.1 s.2 in let wide = full area.area area.there in
-        let at : area.area.span.start ≡ start = ap (λ (x : Span). x.start) area.span ∙ s.3 in
-        (record { area = area.area; there = area.there; holds = holds_from area.area.span start (omega arith) (omega arith); chunk = gone; group = s.0; kind = area.kind }, refl)
-
     -- nor do the groups of another chunk
     pub groups_apart : (base gone number : ℕ) → AreGroupsLive c m gone base → number ≢ gone → (a : Area) (group : ℕ) → IsIn a m.areas → a.kind ≡ kind.Chunk number group → is_among (group_starts c base) a.span.start ≡ false
     groups_apart base gone number live apart a group there e = not_true (is_among (group_starts c base) a.span.start) (λ f. (
-        let is = group_there base gone live a.span.start f in let wide = full a there in
+        let is = group_there c m full gone base live a.span.start f in let wide = full a there in
         apart (number_once m a.span.start (once a.span.start) (record { area = a; there = there; holds = holds_from a.span a.span.start (omega arith) (omega arith); chunk = number; group = group; kind = e }) is.0 ∙ is.1)))
 
     -- and no block's area starts where a chunk's group does
     pub groups_no_block : (base gone : ℕ) → AreGroupsLive c m gone base → (a : Area) (cpu : ℕ) → IsIn a m.areas → a.kind ≡ kind.Block cpu → is_among (group_starts c base) a.span.start ≡ false
     groups_no_block base gone live a cpu there e = not_true (is_among (group_starts c base) a.span.start) (λ f. (
-        let wide = full a there in in_one_kind m a.span.start once (group_there base gone live a.span.start f).0 a there (holds_from a.span a.span.start (omega arith) (omega arith)) cpu e))
+        let wide = full a there in in_one_kind m a.span.start once (group_there c m full gone base live a.span.start f).0 a there (holds_from a.span a.span.start (omega arith) (omega arith)) cpu e))
 
 -- The areas of a chunk that was given up are unlinked.
 
