@@ -19,7 +19,7 @@ use Rattle.vm_model.specs.Space.{is_among, times, holds, covers, count_from}
 use Rattle.vm_model.specs.Areas.{is_area, named_areas, spans_of, areas_starting, group_areas, mapped_part}
 use Rattle.map_laws.proofs.chunks.ChunkMoves.{number_once, IsChunkMoved, later_places, quiet_chunks, groups_once}
 use Rattle.vm_model.specs.Rules.{AreGroups, AreUnits}
-use Rattle.map_laws.proofs.chunks.ChunkRows.{AreNumbered, same_row, populated_at, asks_chunky, is_chunky, plain_rows, plain_stays, rows_kept}
+use Rattle.map_laws.proofs.chunks.ChunkRows.{AreNumbered, same_row, populated_at, is_chunky, plain_rows, plain_stays, rows_kept}
 use Rattle.vm_model.specs.Carried.{IsBeingPopulated, has_alloc}
 use Rattle.map_laws.proofs.OutMoves.{IsUnlinked}
 use Rattle.vm_model.specs.Next.{Next, Go, next}
@@ -234,27 +234,6 @@ unchunked_idle p h number page b = grind arith
 pub unchunked_next : (c : Setup) (m : PlainMap) (n : Next) → OnNext IsUnchunked n → OnNext (IsChunkAt c m) n
 unchunked_next c m n h = grind (arith, unchunked_at)
 
--- places from which a section can lead to one of these
-abbrev pub leads_chunked : Place → Bool
-leads_chunked (SettlingGroups base chunk bytes align) = true
-leads_chunked (Choosing bytes align) = true
-leads_chunked (AddingChunk base chunk bytes align) = true
-leads_chunked (Populating at missing) = true
-leads_chunked (ChoosingAtomic bytes align) = true
-leads_chunked (Zeroing at) = true
-leads_chunked Sparing = true
-leads_chunked (Depopulating base populated) = true
-leads_chunked (NextFill filled) = true
-leads_chunked (Filling chunk base page filled) = true
-leads_chunked _ = false
-
-module _ (c : Setup) where
-  pub leads_unchunked : (p : Place) (s : Section) → leads_chunked p ≡ false → OnNext IsUnchunked (next c p s)
-  leads_unchunked p s h = grind (arith, place_row)
-
-  pub given_plain : (a : Ask) (s : Section) → asks_chunky a ≡ false → Meets c a s → is_chunky s ≡ false
-  given_plain a s h w = grind (arith, ask_row, asks_chunky, is_chunky)
-
 -- Each section at its place, as to chunks.
 
 module _ (c : Setup) (units : AreUnits c) (m : PlainMap) (k : ℕ) (numbered : AreNumbered m) (once : (page : ℕ) → times page (spans_of m.areas) ≤ 1) (busy : ℕ → ℕ → Type 0) (fine : IsMapFine m)
@@ -275,8 +254,8 @@ module _ (c : Setup) (units : AreUnits c) (m : PlainMap) (k : ℕ) (numbered : A
     still_c : (s : Section) (n : Next) → ((number page : ℕ) → IsBeingPopulated number page p → ⊥) → is_chunky s ≡ false → OnNext (IsChunkAt c (effect_as c m k s)) n → IsChunkMoved c m k busy p s n
     still_c s n idle h own = quiet_chunks c units m k numbered once busy p all s n (plain_rows c m k s h) (λ number. plain_stays c m k s number h) (λ number page mine. absurd (idle number page mine)) own
 
-    plain_c : (s : Section) → asks_chunky (ask c p) ≡ false → leads_chunked p ≡ false → IsUnchunked p → Meets c (ask c p) s → IsChunkMoved c m k busy p s (next c p s)
-    plain_c s asks leads un w = still_c s (next c p s) (unchunked_idle p un) (given_plain c (ask c p) s asks w) (unchunked_next c (effect_as c m k s) (next c p s) (leads_unchunked c p s leads))
+    plain_c : (s : Section) → is_chunky s ≡ false → OnNext IsUnchunked (next c p s) → IsUnchunked p → IsChunkMoved c m k busy p s (next c p s)
+    plain_c s plain leads un = still_c s (next c p s) (unchunked_idle p un) plain (unchunked_next c (effect_as c m k s) (next c p s) leads)
 
     -- areas or pages change that are no chunk's
     apart_c : (s : Section) (n : Next) → IsUnchunked p → OnNext IsUnchunked n → (effect_as c m k s).chunks ≡ m.chunks → (effect_as c m k s).next_chunk ≡ m.next_chunk → ((number : ℕ) → NumberStays m (effect_as c m k s) number) → IsChunkMoved c m k busy p s n
@@ -338,4 +317,4 @@ module _ (c : Setup) (units : AreUnits c) (m : PlainMap) (k : ℕ) (numbered : A
   chunk_by (Filling chunk base page filled) s none all proper own plain block at (inl w) legal = as_c (Filling chunk base page filled) all s (Fill base page) w legal (λ l. fill_moved c units m k numbered once busy (none refl) chunk base page filled all at l)
   chunk_by (Filling chunk base page filled) s none all proper own plain block at (inr w) legal = search as_c
   chunk_by (NotingFilled chunk page filled) s none all proper own plain block at w legal = as_c (NotingFilled chunk page filled) all s (Filled chunk page) w legal (λ l. filled_moved c units m k numbered once busy (none refl) chunk page filled _ all at tt)
-  chunk_by p s none all proper own plain block at w legal = plain_c p all s refl refl refl w
+  chunk_by p s none all proper own plain block at w legal = plain_c p all s (grind (arith, ask_row)) (grind (arith, place_row)) refl

@@ -90,20 +90,6 @@ is_chunky (Spare chunk base populated) = true
 is_chunky (Filled chunk page) = true
 is_chunky _ = false
 
-abbrev pub asks_chunky : Ask → Bool
-asks_chunky (AskMap s) = true
-asks_chunky (AskPopulate at missing) = true
-asks_chunky (AskFill base page) = true
-asks_chunky (AskUnmap s) = true
-asks_chunky (AskDepopulate base pages) = true
-asks_chunky (AskRemove start serial) = true
-asks_chunky (AskUnlink starts) = true
-asks_chunky (AskAddChunk chunk base bytes align) = true
-asks_chunky (AskSettleObject at) = true
-asks_chunky AskSpare = true
-asks_chunky (AskFilled chunk page) = true
-asks_chunky _ = false
-
 module _ (c : Setup) (m : PlainMap) (k : ℕ) where
   pub plain_rows : (s : Section) → is_chunky s ≡ false → AreSameRows m (effect_as c m k s)
   plain_rows (PlaceObject at align missing) h = rows_changed m (effect_as c m k (PlaceObject at align missing)) at.chunk (with_object k at) refl refl (λ x there e. record { number = refl; base = refl; long = refl; populated = λ page. refl })

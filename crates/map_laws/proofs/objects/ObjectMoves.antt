@@ -15,11 +15,12 @@ use Rattle.vm_model.specs.Setup.{Setup, pages_in_units, unit_bits}
 use Rattle.vm_model.specs.Space.{covers, is_among, times}
 use Rattle.vm_model.specs.Told.{placed}
 use Rattle.map_laws.proofs.AskRows.{ask_row}
+use Rattle.map_laws.proofs.PlaceRows.{place_row}
 use Rattle.map_laws.proofs.chunks.ChunkRows.{keyed_in, fitting, placement_is, AreNumbered}
 use Rattle.map_laws.proofs.TestsAndFilters.{IsIn, filter_has, or_none, covers_append, covers_none}
 use Rattle.map_laws.proofs.chunks.ChunkAdded.{row_test}
 use Rattle.map_laws.proofs.chunks.ChunkFacts.{IsChunkAt, IsPlacedAt}
-use Rattle.map_laws.proofs.chunks.ChunkDispatch.{IsUnchunked, leads_chunked, leads_unchunked}
+use Rattle.map_laws.proofs.chunks.ChunkDispatch.{IsUnchunked}
 use Rattle.map_laws.proofs.chunks.ChunkNoted.{bits_long}
 use Rattle.map_laws.proofs.SearchEnds.{is_zero}
 use Rattle.map_laws.proofs.KeptThroughSteps.{there}
@@ -64,21 +65,6 @@ is_objecty _ = false
 pub chunks_same : (c : Setup) (m : PlainMap) (k : ℕ) (s : Section) → is_objecty s ≡ false → (effect_as c m k s).chunks ≡ m.chunks
 chunks_same c m k s h = grind arith
 
-abbrev pub asks_objecty : Ask → Bool
-asks_objecty (AskPlace bytes align) = true
-asks_objecty (AskAddChunk chunk base bytes align) = true
-asks_objecty (AskAtomic bytes align) = true
-asks_objecty (AskSettleObject at) = true
-asks_objecty (AskUnplace at) = true
-asks_objecty (AskFree at serial) = true
-asks_objecty AskSpare = true
-asks_objecty (AskFilled chunk page) = true
-asks_objecty _ = false
-
-module _ (c : Setup) where
-  pub given_unobjecty : (a : Ask) (s : Section) → asks_objecty a ≡ false → Meets c a s → is_objecty s ≡ false
-  given_unobjecty a s h w = grind (arith, ask_row)
-
 -- bits that a search finds free are no object's
 plain_free : (c : Setup) (h : Chunk) (bit : ℕ) → slice_get (bit_list c h) bit ≡ Some false → times bit (map object_bits h.objects) ≡ 0
 plain_free c h bit e = covers_none bit (map object_bits h.objects) (ap (covers (map object_bits h.objects)) (let f : bit ≡ 0 + bit = omega arith in f) ∙ row_test (covers (map object_bits h.objects)) (unit_bits c) 0 bit false e)
@@ -98,8 +84,8 @@ module _ (c : Setup) (m : PlainMap) (k : ℕ) (numbered : AreNumbered m) (long :
     idle_o : (s : Section) (n : Next) → (effect_as c m k s).chunks ≡ m.chunks → IsUnchunked p → OnNext IsUnchunked n → IsObjectMoved c m k placing s n
     idle_o s n e un next_un = same_o s n e (λ number off mine. absurd (unhanded_idle p un number off mine)) (unhanded_next m k n next_un)
 
-    plain_o : (s : Section) → asks_objecty (ask c p) ≡ false → leads_chunked p ≡ false → ((number off : ℕ) → IsBeingPlaced number off p → ⊥) → Meets c (ask c p) s → IsObjectMoved c m k placing s (next c p s)
-    plain_o s asks leads idle w = same_o s (next c p s) (chunks_same c m k s (given_unobjecty c (ask c p) s asks w)) (λ number off mine. absurd (idle number off mine)) (unhanded_next m k (next c p s) (leads_unchunked c p s leads))
+    plain_o : (s : Section) → is_objecty s ≡ false → OnNext IsUnchunked (next c p s) → ((number off : ℕ) → IsBeingPlaced number off p → ⊥) → IsObjectMoved c m k placing s (next c p s)
+    plain_o s same leads idle = same_o s (next c p s) (chunks_same c m k s same) (λ number off mine. absurd (idle number off mine)) (unhanded_next m k (next c p s) leads)
 
     -- who isn't placing an object
     others_only : ((number off : ℕ) → IsBeingPlaced number off p → ⊥) → (n : Next) (number off : ℕ) → placing number off ⊎ IsBeingPlaced number off p → placing number off ⊎ next_placed n number off
@@ -208,4 +194,4 @@ module _ (c : Setup) (m : PlainMap) (k : ℕ) (numbered : AreNumbered m) (long :
   object_by (Filling chunk base page filled) s all proper at chunked (inl w) legal = as_o (Filling chunk base page filled) all s (Fill base page) w legal (λ l. same_o (Filling chunk base page filled) all (Fill base page) _ refl (λ number off mine. mine) tt)
   object_by (Filling chunk base page filled) s all proper at chunked (inr w) legal = search as_o
   object_by (NotingFilled chunk page filled) s all proper at chunked w legal = grind (arith, paged_fine, others_only, there, paged_keeps)
-  object_by p s all proper at chunked w legal = plain_o p all s refl refl (λ number off mine. mine) w
+  object_by p s all proper at chunked w legal = plain_o p all s (grind (arith, ask_row)) (grind (arith, place_row)) (λ number off mine. mine)

@@ -24,6 +24,7 @@ use Rattle.map_laws.proofs.areas.AreaWorlds.{IsLegalStep}
 use Rattle.map_laws.proofs.blocks.BlockFacts.{IsBlockAt, among_count, block_out, block_starts, same_test, to_same}
 use Rattle.map_laws.proofs.blocks.BlockWorlds.{only_one}
 use Rattle.map_laws.proofs.TestsAndFilters.{IsIn, filter_has, filter_in, in_more}
+use Rattle.map_laws.proofs.PlaceRows.{place_row}
 use Rattle.map_laws.proofs.chunks.ChunkFacts.{AreGroupsLive, IsChunkAt, IsOpenPage, start_of, unit_covered, unit_page}
 use Rattle.map_laws.proofs.chunks.ChunkAdded.{IsNumberNext}
 use Rattle.map_laws.proofs.chunks.ChunkWorlds.{alone, chunks_here, none_populates}
@@ -41,7 +42,6 @@ use Rattle.vm_model.specs.declared.areas.AreaKind.TheVariants as kind
 use Rattle.vm_model.specs.Told.{had_frames}
 use Rattle.vm_model.specs.LegalHistory.{Meets}
 use Rattle.map_laws.proofs.ProperPlaces.{OnNext, either_next}
-use Rattle.map_laws.proofs.chunks.ChunkDispatch.{leads_unchunked}
 
 first_in : {X : Type 0} (x : X) (xs : List X) → IsIn x xs → (y : X) × (slice_get xs 0 ≡ Some y)
 first_in x [] there = (let at = there.at in cc)
@@ -198,4 +198,4 @@ module _ (c : Setup) where
   zeroed_next (Depopulating base populated) s w = λ at is. absurd is
   zeroed_next (NextFill filled) s w = grind arith
   zeroed_next (Filling chunk base page filled) s w = either_next (IsJustZeroed s) (had_frames s) _ _ (λ at is. absurd is) (λ at is. absurd is)
-  zeroed_next p s w = grind (arith, leads_unchunked)
+  zeroed_next p s w = grind (arith, place_row)
