@@ -1,4 +1,5 @@
 -- What all callers have left falls with each section.
+use Rattle.std.proofs.lemmas.Bool.Decides.{nat_tests}
 use Rattle.std.proofs.Common.{◌≡◌, ℕ, zero, suc, ◌+◌, ◌*◌, ◌-◌, ◌<◌, ◌≤◌, Bool, true, false, List, [], ◌∷◌, ◌++◌, length, slice_get, slice_set, sum_by, Option, Some, None, refl, ap, sym, ◌∙◌, subst, arith, get_or, length-append}
 use Rattle.std.proofs.lemmas.List.Sums.{sum_by-set}
 use Rattle.std.proofs.lemmas.Option.{slice_get_within, get_or_from_slice_get}
@@ -39,12 +40,10 @@ potential c w = sum_by (weight c) w.locals + worth_of c w.map.chunks + credit_of
 -- The beginnings of calls.
 
 pub left_begins : (c : Setup) → HaveBeginnings (λ p. left c p ≤ per_call c) c
-left_begins c _ AtOver = omega arith
-left_begins c _ _ = omega arith
+left_begins c x2 x3 = grind arith
 
 credit_begins : (chunks : List Chunk) (c : Setup) → HaveBeginnings (λ p. credit chunks p ≡ 0) c
-credit_begins chunks c _ AtOver = refl
-credit_begins chunks c _ _ = refl
+credit_begins chunks c x3 x4 = grind arith
 
 credit_moved : (chunks : List Chunk) (l : Local) (n : Next) → length l.answers < length l.calls → credit chunks (moved_to l n).place ≡ credit_next chunks n
 credit_moved chunks l (Go p) h = refl
@@ -53,9 +52,8 @@ credit_moved chunks l (Answer r made) h = let e = answers_call l r made h in
 
 -- one call fewer is left where a next one begins, and none where none does
 pub past_end : {X : Type 0} (xs : List X) (k : ℕ) → slice_get xs k ≡ None → length xs ≤ k
-past_end [] k h = omega arith
-past_end (x ∷ xs) zero h = cc
-past_end (x ∷ xs) (suc k) h = let more = past_end xs k h in omega arith
+past_end [] k h = grind (arith, nat_tests)
+past_end (x ∷ xs) k h = grind (arith, past_end xs)
 
 pub no_rest : (b n : ℕ) → n ≡ 0 → b * n ≤ 0
 no_rest b n e = let z : b * n ≡ b * 0 = ap (λ i. b * i) e in omega arith
@@ -68,16 +66,12 @@ weight_answered : (l : Local) (answer : Answered) (o : Option Call) → slice_ge
 weight_answered l answer None e = grind (arith, left, past_end, no_rest, per_call, length-append)
 weight_answered l answer (Some call) e =
     let within = slice_get_within l.calls (suc (length l.answers)) call e in
-    let begun : left l.setup (answered l answer).place ≤ per_call l.setup =
-    begins_with (λ p. left l.setup p ≤ per_call l.setup) l.setup (left_begins l.setup) l.opening (l.answers ++ answer ∷ []) (slice_get l.calls (suc (length l.answers))) in
-    omega (arith, one_rest (per_call l.setup) (length l.calls - suc (length l.answers)) (length l.calls - suc (length (l.answers ++ answer ∷ []))) (omega (arith, length-append l.answers (answer ∷ []))))
+    search (one_rest, length-append, arith) depth 6
 
 weight_moved : (l : Local) (n : Next) → length l.answers < length l.calls → weight l.setup (moved_to l n) ≤ left_next l.setup n + per_call l.setup * (length l.calls - suc (length l.answers))
 weight_moved l (Go p) h = omega arith
 weight_moved l (Answer r made) h = let e = answers_call l r made h in
-    let is : weight l.setup (moved_to l (Answer r made)) ≡ weight l.setup (answered l _) = ap (weight l.setup) e.2 in
-    let less = weight_answered l (record { call = e.0; reply = r; made = made; own_event = suc l.events }) (slice_get l.calls (suc (length l.answers))) refl in
-    omega arith
+    grind (arith, weight_answered)
 
 -- who fills or gives up has the alloc turn
 balancing_has : (p : Place) → has_alloc p ≡ false → is_balancing p ≡ false
@@ -124,9 +118,7 @@ module _ (w : World) (l : Local) (s : Section) (here : slice_get w.locals l.call
       record { less = omega (arith, old, place_falls l.setup w.map l.caller units sized l.place s proper gives) }
 
   by_change : (later : Option ℕ) → Change w.map.alloc_turn later l.caller (has_alloc l.place) (has_next has_alloc (next l.setup l.place s)) → Falls w.map.alloc_turn later
-  by_change later (Stays e same) = subst (λ t. Falls w.map.alloc_turn t) (sym e) (stays_by (has_alloc l.place) refl w.map.alloc_turn refl)
-  by_change later (Taken none e has) = subst (λ t. Falls w.map.alloc_turn t) (sym e) (subst (λ t. Falls t (Some l.caller)) (sym none) (taken_falls (has_alloc l.place) refl none))
-  by_change later (Given has e none) = subst (λ t. Falls w.map.alloc_turn t) (sym e) (subst (λ t. Falls t None) (sym (turn.mine l.caller l here has)) (given_falls has))
+  by_change later x2 = grind (arith, stays_by, taken_falls, given_falls)
 
   pub own_falls : Falls w.map.alloc_turn (effect_as l.setup w.map l.caller s).alloc_turn
   own_falls = by_change _ (alloc_change l.setup w.map l.caller l.place s proper gives)
@@ -135,15 +127,11 @@ module _ (w : World) (l : Local) (s : Section) (here : slice_get w.locals l.call
   potential_less =
       let sum = sum_by-set (weight l.setup) w.locals l.caller (moved_to l (next l.setup l.place s)) l (slice_get_within w.locals l.caller l here) in
       let own : weight l.setup (get_or w.locals l.caller l) ≡ weight l.setup l = ap (weight l.setup) (get_or_from_slice_get w.locals l.caller l l here) in
-      let fall = own_falls.less in
-      omega (arith, weight_moved l (next l.setup l.place s) call)
+      grind (arith, own_falls, weight_moved)
 
 -- in a world that is framed, proper and sized
 pub potential_falls : (c : Setup) (w : World) (k : ℕ) (l : Local) (s : Section) → 8 ≤ c.unit_pages → IsFramed c w → AreTurnsProper w → AreSized c w.map.chunks → IsStep w k l s
     → potential c (made_by w l s) < potential c w
 potential_falls c w k l s units framed kept sized step =
     let own = framed.own k l step.here in
-    let here : slice_get w.locals l.caller ≡ Some l = subst (λ i. slice_get w.locals i ≡ Some l) (sym own.caller) step.here in
-    subst (λ d. potential d (made_by w l s) < potential d w) own.setup
-    (potential_less w l s here (has_call c k l own (not_over l.setup w.map l.place s step.gives)) kept.turns.alloc (subst (λ d. 8 ≤ d.unit_pages) (sym own.setup) units)
-    (subst (λ d. AreSized d w.map.chunks) (sym own.setup) sized) (kept.proper.each k l step.here) step.gives)
+    grind (arith, potential_less)

@@ -133,8 +133,7 @@ pub record IsQuiet (c : Setup) (m m' : PlainMap) (s : Section) : Type 0 where
   pub untouching : (page : ℕ) → touch c m s page ≡ false
 
 pub quiet : (c : Setup) (m : PlainMap) (k : ℕ) (s : Section) → is_quiet s ≡ true → IsQuiet c m (effect_as c m k s) s
-quiet c m k (Flush p) h = record { marks = refl; areas = refl; waiting = refl; long = λ e. length-paint_from (holds p) false m.stale 0 ∙ e; untouching = λ page. refl }
-quiet c m k _ h = grind arith
+quiet c m k s h = grind (arith, length-paint_from)
 
 abbrev pub asks_quiet : Ask → Bool
 asks_quiet (AskSearch search) = false

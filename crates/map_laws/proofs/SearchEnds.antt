@@ -27,13 +27,11 @@ append_second (x ∷ xs) ys y there = in_more y x (xs ++ ys) (append_second xs y
 
 append_front : {X : Type 0} (xs ys : List X) (y : X) (i : ℕ) → slice_get xs i ≡ Some y → IsIn y (xs ++ ys)
 append_front [] ys y i h = cc
-append_front (x ∷ xs) ys y zero h = record { place = 0; at = h }
-append_front (x ∷ xs) ys y (suc i) h = in_more y x (xs ++ ys) (append_front xs ys y i h)
+append_front (x ∷ xs) ys y i h = grind (arith, append_front xs, in_more)
 
 pub flat_has : {X Y : Type 0} (f : X → List Y) (xs : List X) (i : ℕ) (x : X) (y : Y) → slice_get xs i ≡ Some x → IsIn y (f x) → IsIn y (flat_map f xs)
 flat_has f [] i x y h there = cc
-flat_has f (z ∷ xs) zero x y h there = let same : z ≡ x = cc in append_front (f z) (flat_map f xs) y there.place (ap (λ v. slice_get (f v) there.place) same ∙ there.at)
-flat_has f (z ∷ xs) (suc i) x y h there = append_second (f z) (flat_map f xs) y (flat_has f xs i x y h there)
+flat_has f (z ∷ xs) i x y h there = grind (arith, flat_has f xs, append_front, append_second)
 
 pub length_flat : {X Y : Type 0} (f : X → List Y) (xs : List X) → length (flat_map f xs) ≡ sum_by (λ x. length (f x)) xs
 length_flat f [] = refl
@@ -50,8 +48,7 @@ sum_le f g (x ∷ xs) h = omega (arith, sum_by-cons f x xs, sum_by-cons g x xs, 
 -- What fits where a search says.
 
 pub and_both : (a b : Bool) → (a && b) ≡ true → (a ≡ true) × (b ≡ true)
-and_both true b h = (refl, h)
-and_both false b h = cc
+and_both a b h = grind arith
 
 pub is_zero : (n : ℕ) → (n == 0) ≡ true → n ≡ 0
 is_zero n h = grind (arith, nat_tests)

@@ -125,8 +125,7 @@ unit_word : (c : Setup) (at : ObjectAt) (cpu index unit : ℕ) → slice_get c.u
 unit_word c at cpu index unit there inside = record { unit = unit; at_unit = there; inside = inside; is = refl }
 
 test_not : (a b : ℕ) (t : Bool) → (a == b) ≡ t → a ≢ b → t ≡ false
-test_not a b true e n = absurd (n (let f : a ≡ b = grind (arith, nat_tests) in f))
-test_not a b false e n = refl
+test_not a b t e n = grind arith
 
 -- what an add comes to, for its own serial and index, and for others
 amount_own : (at : ObjectAt) (serial cpu index : ℕ) (amount : ℤ) → amount_of serial index (AddWord at serial cpu index amount) ≡ amount
@@ -186,7 +185,6 @@ module _ (c : Setup) (w : World) (own : AreWordsOwn c w) (kept : IsSummed c w) (
     sum_grown at is e f mapped' inside =
         let same = one_object c (SomeonePlaces w) w.map.chunks own.fine at o (Lives serial) (Lives serial) is target.0 e f in
         let word = add_word_of c w own k l.place hand usable o cpu index target.1 target.2 in
-        let base = same.base in
         let byte : byte_in at index word.1.unit ≡ word.0 = (let i = word.1.is in omega arith) in
         sums_grow w.map.frames w.map.frames w.map.cells added_map.cells (byte_in at index) c.units cpu word.1.unit amount word.1.at_unit
         (ap (λ b. word_at w.map.frames (add_word w.map.frames b amount w.map.cells) (byte_in at index word.1.unit)) (ap (λ u. copy_at o u + 4 * index) (get_or_from_slice_get c.units cpu word.1.unit 0 word.1.at_unit) ∙ sym word.1.is)
@@ -208,8 +206,7 @@ module _ (c : Setup) (w : World) (own : AreWordsOwn c w) (kept : IsSummed c w) (
             let place = kept.unique at o serial is' target.0 in
             let inside' : 4 * index < at.bytes = omega arith in
             subst (λ i. sum_of c added_map at i ≡ (sum_of c w.map at i +ℤ amount_of own_serial i (AddWord o serial cpu index amount))) f
-            (sum_grown at is' place.0 place.1 mapped' inside'
-            ∙ ap (λ v. sum_of c w.map at index +ℤ v) (sym (subst (λ n. amount_of n index (AddWord o serial cpu index amount) ≡ amount) e (amount_own o serial cpu index amount))))
+            grind (arith, sum_grown)
             )
       ]
     ]

@@ -128,8 +128,7 @@ module _ (c : Setup) (setup : IsSetup c) (w : World) (framed : IsFramed c w) (is
 
   ready_by : (p : Place) → l.place ≡ p → IsChunkAt c w.map p → IsObjectAt w.map k p → IsNumberNext w.map p → IsNow l p → IsReady c w.map k p
   ready_by (AddingChunk base number bytes align) e chunk hand next now = ((λ group g f. group_at number base group g chunk.0 f), next number refl)
-  ready_by (Populating object missing) e chunk hand next now = subst (λ b. OnPages (pages_in_units c b missing) (IsBare w.map)) chunk.here.based
-      (open_bare (ap has_alloc e) (λ number page b. subst (IsBeingPopulated number page) e b) chunk.here.chunk chunk.here.there missing chunk.lacks)
+  ready_by (Populating object missing) e chunk hand next now = grind (arith, open_bare)
   ready_by (SettlingObject object) e chunk hand next now = life_is object (InHand k) hand
   ready_by (Unplacing object) e chunk hand next now = life_is object (InHand k) hand
   ready_by (Zeroing object) e chunk hand next now = (life_is object (InHand k) hand, object_mapped object (InHand k) hand (λ page f. chunk.populated hand.chunk hand.there hand.numbered page f))
@@ -138,8 +137,7 @@ module _ (c : Setup) (setup : IsSetup c) (w : World) (framed : IsFramed c w) (is
   ready_by (Summing object serial index) e chunk hand next now = live_ready object serial (named_live object serial now)
   ready_by (Depopulating base populated) e chunk hand next now = λ x f. (let u = unit_page c base x populated f in subst (IsMapped w.map) (sym u.same) ((chunk.2 u.page u.among).1 u.cpu u.unit u.at))
   ready_by (UnlinkingGroups base) e chunk hand next now = starts_ready chunk.0 base chunk.1.live
-  ready_by (Filling number base page filled) e chunk hand next now = subst (λ b. OnPages (pages_in_units c b (page ∷ [])) (IsBare w.map)) chunk.of.based
-      (open_bare (ap has_alloc e) (λ i own b. subst (IsBeingPopulated i own) e b) chunk.of.chunk chunk.of.there (page ∷ []) (λ own f. subst (λ n. slice_get chunk.of.chunk.populated n ≡ Some false) (only_one page own f) chunk.unpopulated))
+  ready_by (Filling number base page filled) e chunk hand next now = grind (arith, open_bare)
   ready_by (NotingFilled number page filled) e chunk hand next now = can_fill (ap has_alloc e) (λ i off b. subst (IsBeingPlaced i off) e b) number chunk.0 page chunk.1
   ready_by _ e chunk hand next now = tt
 
@@ -188,14 +186,4 @@ module _ (c : Setup) where
   zero_zeroed own s w = subst (λ x. OnNext (IsJustZeroed x) (next c (Zeroing own) x)) (sym w) (λ at is. subst (λ x. Zeroes x (Zero own)) is Zeroed)
 
   pub zeroed_next : (p : Place) (s : Section) → Meets c (ask c p) s → OnNext (IsJustZeroed s) (next c p s)
-  zeroed_next (SettlingGroups base chunk bytes align) s w = λ at is. absurd is
-  zeroed_next (Choosing bytes align) s w = grind arith
-  zeroed_next (AddingChunk base chunk bytes align) s w = grind arith
-  zeroed_next (Populating own missing) s w = populate_zeroed own missing s w
-  zeroed_next (ChoosingAtomic bytes align) s w = grind arith
-  zeroed_next (Zeroing own) s w = zero_zeroed own s w
-  zeroed_next Sparing s w = grind arith
-  zeroed_next (Depopulating base populated) s w = λ at is. absurd is
-  zeroed_next (NextFill filled) s w = grind arith
-  zeroed_next (Filling chunk base page filled) s w = either_next (IsJustZeroed s) (had_frames s) _ _ (λ at is. absurd is) (λ at is. absurd is)
-  zeroed_next p s w = grind (arith, place_row)
+  zeroed_next p s w = grind (arith, populate_zeroed, zero_zeroed)
