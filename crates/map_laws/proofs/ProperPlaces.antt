@@ -1,5 +1,5 @@
 -- What is proper of a caller's place whatever the map is: searches are for what fits them, and objects aren't too large.
-use Rattle.std.proofs.Common.{◌++◌, ◌≢◌, slice_set, ◌≡◌, ℕ, zero, suc, inl, inr, ◌+◌, ◌*◌, ◌%◌, ◌<◌, ◌≤◌, max, Bool, true, false, nat_le, if◌then◌else◌, List, [], ◌∷◌, slice_get, length, Option, Some, None, refl, ap, sym, ◌∙◌, subst, arith, ℤ, ◌-◌}
+use Rattle.std.proofs.Common.{◌++◌, ◌≢◌, slice_set, ◌≡◌, ℕ, zero, suc, inl, inr, ◌+◌, ◌*◌, ◌%◌, ◌<◌, ◌≤◌, max, Bool, true, false, nat_le, if◌then◌else◌, List, [], ◌∷◌, slice_get, length, Option, Some, None, refl, ap, sym, ◌∙◌, subst, arith, ℤ, ◌-◌, IfSome}
 use Rattle.std.proofs.lemmas.Bool.Decides.{nat_tests}
 use Rattle.vm_model.specs.declared.areas.AreaKind.{AreaKind}
 use Rattle.vm_model.specs.declared.calls.Call.{Call}
@@ -42,6 +42,19 @@ IsAimed c ForGroups (ForArea k) = ⊥
 IsAimed c ForGroups (ForBlock cpu asked) = ⊥
 IsAimed c ForGroups (ForChunk chunk bytes to) = IsObjectSize bytes
 
+-- what a caller does behind the wait or the purge that it is at
+abbrev pub then_of : Place → Option Then
+then_of (Waiting spans after) = Some after
+then_of (PurgeTaking extra after) = Some after
+then_of (PurgeFragmenting cpu gone extra after) = Some after
+then_of (PurgeUnlinking gone extra after) = Some after
+then_of (PurgeWaiting gone extra after) = Some after
+then_of (PurgeCollecting extra after) = Some after
+then_of (PurgeFlushing s waited after) = Some after
+then_of (PurgeReturning waited after) = Some after
+then_of (PurgeGiving after) = Some after
+then_of _ = None
+
 abbrev pub IsFollowed : Setup → Then → Type 0
 IsFollowed c (SearchAgain search aim) = IsAimed c search aim
 IsFollowed c (ReplyWith reply) = Unit {0}
@@ -55,21 +68,12 @@ IsProper c (SettlingArea s k) = IsPlainKind k × (1 ≤ s.pages)
 IsProper c (SettlingBlock s cpu pages) = (s.pages ≡ c.block_pages) × (s.start % c.block_pages ≡ 0) × (1 ≤ pages) × (pages ≤ c.part_limit)
 IsProper c (CuttingPart cpu pages) = (1 ≤ pages) × (pages ≤ c.part_limit)
 IsProper c (AddingBlock at) = (at.offset ≡ 0) × (1 ≤ at.pages) × (at.pages ≤ c.part_limit)
-IsProper c (Waiting spans after) = IsFollowed c after
-IsProper c (PurgeTaking extra after) = IsFollowed c after
-IsProper c (PurgeFragmenting cpu gone extra after) = IsFollowed c after
-IsProper c (PurgeUnlinking gone extra after) = IsFollowed c after
-IsProper c (PurgeWaiting gone extra after) = IsFollowed c after
-IsProper c (PurgeCollecting extra after) = IsFollowed c after
-IsProper c (PurgeFlushing s waited after) = IsFollowed c after
-IsProper c (PurgeReturning waited after) = IsFollowed c after
-IsProper c (PurgeGiving after) = IsFollowed c after
 IsProper c (TakingAlloc bytes align) = IsObjectSize bytes
 IsProper c (Choosing bytes align) = IsObjectSize bytes
 IsProper c (SettlingGroups base chunk bytes align) = (IsObjectSize bytes) × (base % c.atom ≡ 0)
 IsProper c (AddingChunk base chunk bytes align) = IsObjectSize bytes
 IsProper c (ChoosingAtomic bytes align) = IsObjectSize bytes
-IsProper c _ = Unit {0}
+IsProper c p = IfSome (then_of p) (IsFollowed c)
 
 -- what a fact about places says of what comes next
 abbrev pub OnNext : (Place → Type 0) → Next → Type 0

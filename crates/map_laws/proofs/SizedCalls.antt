@@ -1,6 +1,6 @@
 -- Which sections make an object, and where a call begins that uses one.
 -- what a caller is about to answer with
-use Rattle.std.proofs.Common.{Bool, List, Option, Some, [], false, length, nat_le, slice_get, suc, true, zero, ℕ, ◌++◌, ◌-◌, ◌∷◌, ◌≡◌, ◌≤◌, arith, ◌*◌, inl, inr, None, refl, sym, ◌∙◌, subst, ◌+◌, ◌<◌, ap, length-append}
+use Rattle.std.proofs.Common.{Bool, List, Option, Some, [], false, length, nat_le, slice_get, suc, true, zero, ℕ, ◌++◌, ◌-◌, ◌∷◌, ◌≡◌, ◌≤◌, arith, ◌*◌, inl, inr, None, refl, sym, ◌∙◌, subst, ◌+◌, ◌<◌, ap, length-append, IsSomeAnd}
 use Rattle.vm_model.specs.Calls.{answers_in, begin, begin_call, is_bad_map_size, is_bad_object_align, is_bad_object_size, is_bad_vmalloc_align, is_bad_vmalloc_size, made_in, target_of, was_freed, Answered, words_for}
 use Rattle.vm_model.specs.Chunks.{ObjectAt}
 use Rattle.vm_model.specs.Events.{FreeObject, Section}
@@ -15,7 +15,7 @@ use Rattle.vm_model.specs.declared.calls.Call.TheVariants.{Add, AllocAtomic, All
 use Rattle.vm_model.specs.declared.calls.Target.{Target}
 use Rattle.map_laws.proofs.PlaceRows.{place_row}
 use Rattle.map_laws.proofs.AskRows.{ask_row}
-use Rattle.map_laws.proofs.ProperPlaces.{either_place, OnNext, answers_call, all_answered, started_caller}
+use Rattle.map_laws.proofs.ProperPlaces.{either_place, OnNext, answers_call, all_answered, started_caller, then_of}
 use Rattle.std.proofs.lemmas.Option.{same_Some}
 use Rattle.map_laws.proofs.KeptThroughSteps.{set_cases, append_cases, not_over, has_call}
 use Rattle.map_laws.proofs.areas.AreaWorlds.{IsLegallyLasting}
@@ -128,14 +128,6 @@ IsSizedAt bytes (TakingAlloc own align) = own ≡ bytes
 IsSizedAt bytes (Choosing own align) = own ≡ bytes
 IsSizedAt bytes (Finding search aim) = IsAimSized bytes aim
 IsSizedAt bytes (FindingAgain search aim) = IsAimSized bytes aim
-IsSizedAt bytes (PurgeTaking extra after) = IsThenSized bytes after
-IsSizedAt bytes (PurgeFragmenting cpu gone extra after) = IsThenSized bytes after
-IsSizedAt bytes (PurgeUnlinking gone extra after) = IsThenSized bytes after
-IsSizedAt bytes (PurgeWaiting gone extra after) = IsThenSized bytes after
-IsSizedAt bytes (PurgeCollecting extra after) = IsThenSized bytes after
-IsSizedAt bytes (PurgeFlushing s waited after) = IsThenSized bytes after
-IsSizedAt bytes (PurgeReturning waited after) = IsThenSized bytes after
-IsSizedAt bytes (PurgeGiving after) = IsThenSized bytes after
 IsSizedAt bytes (SettlingGroups base chunk own align) = own ≡ bytes
 IsSizedAt bytes (AddingChunk base chunk own align) = own ≡ bytes
 IsSizedAt bytes (Populating at missing) = at.bytes ≡ bytes
@@ -145,7 +137,7 @@ IsSizedAt bytes (GivingAlloc r made) = IsMadeSized bytes made
 IsSizedAt bytes (ChoosingAtomic own align) = own ≡ bytes
 IsSizedAt bytes (Zeroing at) = at.bytes ≡ bytes
 IsSizedAt bytes (SettlingAtomic at) = at.bytes ≡ bytes
-IsSizedAt bytes _ = ⊥
+IsSizedAt bytes p = IsSomeAnd (then_of p) (IsThenSized bytes)
 
 abbrev pub IsNextSized : ℕ → Next → Type 0
 IsNextSized bytes (Go p) = IsSizedAt bytes p

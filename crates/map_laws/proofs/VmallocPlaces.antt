@@ -1,5 +1,5 @@
 -- A vmalloc call makes an area at a multiple of its alignment.
-use Rattle.std.proofs.Common.{◌≡◌, ℕ, zero, suc, ◌%◌, ◌<◌, inl, inr, List, [], ◌∷◌, ◌++◌, length, slice_get, Option, Some, None, refl, ap, sym, ◌∙◌, subst, arith, length-append}
+use Rattle.std.proofs.Common.{◌≡◌, ℕ, zero, suc, ◌%◌, ◌<◌, inl, inr, List, [], ◌∷◌, ◌++◌, length, slice_get, Option, Some, None, refl, ap, sym, ◌∙◌, subst, arith, length-append, IsSomeAnd}
 use Rattle.vm_model.specs.declared.areas.AreaKind.{AreaKind}
 use Rattle.vm_model.specs.declared.calls.Call.{Call}
 use Rattle.vm_model.specs.declared.calls.Call.TheVariants.{Vmalloc}
@@ -17,7 +17,7 @@ use Rattle.vm_model.specs.Laws.{IsMadeAligned}
 use Rattle.map_laws.proofs.PlaceRows.{PlaceRow, Refused, place_row}
 use Rattle.map_laws.proofs.KeptThroughSteps.{IsLasting, not_over, has_call}
 use Rattle.map_laws.proofs.SearchEnds.{is_zero, lowest_fit}
-use Rattle.map_laws.proofs.ProperPlaces.{answers_call, either_place, all_answered, all_joined, all_moved}
+use Rattle.map_laws.proofs.ProperPlaces.{answers_call, either_place, all_answered, all_joined, all_moved, then_of}
 
 abbrev pub IsSearchAt : ℕ → Search → Aim → Type 0
 IsSearchAt k (ForPages pages align) (ForArea kd) = align ≡ k
@@ -35,15 +35,7 @@ IsVmallocAt k (FindingAgain search aim) = IsSearchAt k search aim
 IsVmallocAt k (MappingArea s kd) = s.start % k ≡ 0
 IsVmallocAt k (Dropping s) = Unit {0}
 IsVmallocAt k (SettlingArea s kd) = s.start % k ≡ 0
-IsVmallocAt k (PurgeTaking extra after) = IsThenAt k after
-IsVmallocAt k (PurgeFragmenting cpu gone extra after) = IsThenAt k after
-IsVmallocAt k (PurgeUnlinking gone extra after) = IsThenAt k after
-IsVmallocAt k (PurgeWaiting gone extra after) = IsThenAt k after
-IsVmallocAt k (PurgeCollecting extra after) = IsThenAt k after
-IsVmallocAt k (PurgeFlushing s waited after) = IsThenAt k after
-IsVmallocAt k (PurgeReturning waited after) = IsThenAt k after
-IsVmallocAt k (PurgeGiving after) = IsThenAt k after
-IsVmallocAt k _ = ⊥
+IsVmallocAt k p = IsSomeAnd (then_of p) (IsThenAt k)
 
 -- what it made starts at such a multiple
 abbrev pub IsMadeAt : ℕ → Made → Type 0

@@ -1,5 +1,5 @@
 -- Chunks that are added, and objects that are placed at once.
-use Rattle.std.proofs.Common.{List, Some, [], ap, arith, false, inl, inr, refl, max, replicate, slice_get, subst, suc, sym, true, zero, ℕ, ◌+◌, ◌∙◌, ◌∷◌, ◌≡◌, ◌⊎◌, Bool, map, nat_le, not, ◌*◌, ◌++◌, ◌-◌, ◌/◌, ◌<◌, ◌≤◌, None, Option}
+use Rattle.std.proofs.Common.{List, Some, [], ap, arith, false, inl, inr, refl, max, replicate, slice_get, subst, suc, sym, true, zero, ℕ, ◌+◌, ◌∙◌, ◌∷◌, ◌≡◌, ◌⊎◌, Bool, map, nat_le, not, ◌*◌, ◌++◌, ◌-◌, ◌/◌, ◌<◌, ◌≤◌, None, Option, option_and_then}
 use Rattle.std.proofs.lemmas.List.{length-replicate}
 use Rattle.std.proofs.lemmas.Option.{slice_get_within}
 use Rattle.vm_model.specs.Carried.{IsBeingPopulated, has_alloc, is_for_chunk, keeps_alloc}
@@ -18,7 +18,7 @@ use Rattle.map_laws.proofs.chunks.ChunkMoves.{AreGrown, IsChunkMoved, later_plac
 use Rattle.map_laws.proofs.chunks.ChunkRows.{fitting, object_low, placed_lacking, placement_is, AreNumbered, rows_changed, rows_numbered, same_row, IsFitting, fitting_bit, populated_at, plain_rows, plain_stays}
 use Rattle.map_laws.proofs.chunks.ChunkNoted.{bits_long}
 use Rattle.map_laws.proofs.KeptThroughSteps.{append_cases, there}
-use Rattle.map_laws.proofs.ProperPlaces.{IsObjectSize, OnNext}
+use Rattle.map_laws.proofs.ProperPlaces.{IsObjectSize, OnNext, then_of}
 use Rattle.std.proofs.lemmas.Bool.Decides.{nat_tests}
 use Rattle.vm_model.proofs.Paint.{length-paint_from}
 use Rattle.vm_model.specs.Areas.{spans_of}
@@ -179,18 +179,9 @@ number_then SpareAgain = None
 abbrev pub chunk_number : Place → Option ℕ
 chunk_number (Finding search aim) = number_aim aim
 chunk_number (FindingAgain search aim) = number_aim aim
-chunk_number (Waiting spans after) = number_then after
-chunk_number (PurgeTaking extra after) = number_then after
-chunk_number (PurgeFragmenting cpu gone extra after) = number_then after
-chunk_number (PurgeUnlinking gone extra after) = number_then after
-chunk_number (PurgeWaiting gone extra after) = number_then after
-chunk_number (PurgeCollecting extra after) = number_then after
-chunk_number (PurgeFlushing s waited after) = number_then after
-chunk_number (PurgeReturning waited after) = number_then after
-chunk_number (PurgeGiving after) = number_then after
 chunk_number (SettlingGroups base chunk bytes align) = Some chunk
 chunk_number (AddingChunk base chunk bytes align) = Some chunk
-chunk_number _ = None
+chunk_number p = option_and_then number_then (then_of p)
 
 -- of a place, and of what follows one that has this number
 abbrev pub IsNumberNext : PlainMap → Place → Type 0
