@@ -2,6 +2,10 @@
 use Rattle.std.proofs.Common.{◌≡◌, ℕ, zero, suc, ◌+◌, ◌-◌, ◌<◌, ◌≤◌, ◌⊎◌, inl, inr, Bool, true, false, not, if◌then◌else◌, List, [], ◌∷◌, length, slice_get, slice_set, Option, Some, option_map, refl, ap, sym, ◌∙◌, arith, drop, length-set, ◌||◌, ◌++◌, None, option_to_list, subst}
 use Rattle.std.proofs.lemmas.Bool.Decides.{nat_tests}
 use Rattle.std.proofs.lemmas.Option.{slice_get-map, slice_get_within}
+pub use Rattle.vm_model.proofs.FramesGiven.{length-give_frames}
+use Rattle.vm_model.proofs.Elements.{slice_get-drop}
+use Rattle.vm_model.proofs.FreePlaces.{begins_free-at}
+use Rattle.vm_model.proofs.Search.{length-count_from}
 use Rattle.vm_model.specs.declared.areas.Span.{Span}
 use Rattle.vm_model.specs.declared.areas.AreaKind.{AreaKind}
 use Rattle.vm_model.specs.Space.{span, holds, covers, is_among, one_if, times, paint, pages_of, count_from, lowest, begins_free, hull}
@@ -33,15 +37,6 @@ pub record IsMoved (c : Setup) (m : PlainMap) (k : ℕ) (p : Place) (s : Section
   pub fine : IsMapFine (effect_as c m k s)
 
 -- The pages that a search finds are free.
-
-pub slice_get-drop : {X : Type 0} (n : ℕ) (xs : List X) (i : ℕ) → slice_get (drop n xs) i ≡ slice_get xs (n + i)
-slice_get-drop zero xs i = ap (slice_get xs) (let e : i ≡ 0 + i = omega arith in e)
-slice_get-drop (suc n) [] i = refl
-slice_get-drop (suc n) (x ∷ xs) i = slice_get-drop n xs i ∙ ap (slice_get (x ∷ xs)) (let e : suc (n + i) ≡ suc n + i = omega arith in e)
-
-pub begins_free-at : (n : ℕ) (taken : List Bool) (i : ℕ) → begins_free n taken ≡ true → i < n → slice_get taken i ≡ Some false
-begins_free-at (suc n) (false ∷ taken) (suc i) h l = begins_free-at n taken i h (omega arith)
-begins_free-at _ _ _ h l = grind arith
 
 free_mark : (o : Option Mark) → option_map (λ mark. not (is_free mark)) o ≡ Some false → o ≡ Some Free
 free_mark o h = grind (arith, nat_tests)
@@ -78,10 +73,6 @@ given_all (p ∷ pages) (frame ∷ free) frames page x h l e = elim (same_or pag
   | inl is ↦ given_still pages free (slice_set frames p (Some frame)) page frame (ap (slice_get (slice_set frames p (Some frame))) is ∙ set_same frames p x (Some frame) (ap (slice_get frames) (sym is) ∙ e))
   | inr n ↦ given_all pages free (slice_set frames p (Some frame)) page x (elim (in_cons page p pages h) [ inl is ↦ absurd (n is) | inr more ↦ more ]) (omega arith) (set_other frames p page (Some frame) n ∙ e)
 ]
-
-pub length-give_frames : (pages free : List ℕ) (frames : List (Option ℕ)) → length (give_frames pages free frames) ≡ length frames
-length-give_frames (p ∷ pages) (frame ∷ free) frames = length-give_frames pages free (slice_set frames p (Some frame)) ∙ length-set frames p (Some frame)
-length-give_frames _ _ frames = refl
 
 row_in : (n first page : ℕ) → first ≤ page → page < first + n → is_among (count_from n first) page ≡ true
 row_in zero first page a b = absurd (omega arith)
@@ -222,10 +213,6 @@ module _ (c : Setup) (m : PlainMap) (k : ℕ) (fine : IsMapFine m) where
     mapping_same : (page : ℕ) → covers (guard_part kd place ∷ []) page ≡ true → slice_get (effect_as c m k (MapPages (mapped_part kd place))).frames page ≡ slice_get m.frames page
     mapping_same page e = ungiven (pages_of (mapped_part kd place)) (free_frames c m.frames) m.frames page (outside_row (mapped_part kd place) page (guard_apart kd place page e))
 
-    length_row : (n first : ℕ) → length (count_from n first) ≡ n
-    length_row zero first = refl
-    length_row (suc n) first = ap suc (length_row n (suc first))
-
     pub mapping_moved : IsMoved c m k (MappingArea place kd) (MapPages (mapped_part kd place)) (Go (SettlingArea place kd))
     mapping_moved = record {
       source = λ page t. (let n = mapping_outer.source page t in omega arith);
@@ -236,7 +223,7 @@ module _ (c : Setup) (m : PlainMap) (k : ℕ) (fine : IsMapFine m) where
         bare = λ page e. cc;
         mapped = λ page e. (let t = sym (covers_one (mapped_part kd place) page) ∙ e in
             given_all (pages_of (mapped_part kd place)) (free_frames c m.frames) m.frames page None (held_in_row (mapped_part kd place) page t)
-            (let l = legal.1 in omega (arith, length_row (mapped_part kd place).pages (mapped_part kd place).start)) (own.bare page (mapped_covers kd place page e)).unmapped);
+            (let l = legal.1 in omega (arith, length-count_from (mapped_part kd place).pages (mapped_part kd place).start)) (own.bare page (mapped_covers kd place page e)).unmapped);
         unmapped = λ page e. mapping_same page e ∙ (own.bare page (guard_covers kd place page e)).unmapped;
         hull = tt;
       };

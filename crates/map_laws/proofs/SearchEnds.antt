@@ -5,6 +5,7 @@ use Rattle.map_laws.proofs.TestsAndFilters.{IsIn, in_more, find_has, filter_has,
 use Rattle.map_laws.proofs.KeptThroughSteps.{there}
 use Rattle.std.specs.List.{list_all}
 use Rattle.std.proofs.lemmas.Bool.Decides.{nat_tests}
+pub use Rattle.std.proofs.lemmas.Bool.{and_parts as and_both}
 use Rattle.vm_model.specs.declared.areas.Span.{Span}
 use Rattle.vm_model.specs.Space.{count_from, begins_free, fits, lowest, free_from}
 use Rattle.vm_model.specs.Setup.{Setup, groups_at, groups_fit, highest}
@@ -46,9 +47,6 @@ sum_le f g [] h = omega arith
 sum_le f g (x ∷ xs) h = omega (arith, sum_by-cons f x xs, sum_by-cons g x xs, h x (record { place = 0; at = refl }), sum_le f g xs (λ y there. h y (in_more y x xs there)))
 
 -- What fits where a search says.
-
-pub and_both : (a b : Bool) → (a && b) ≡ true → (a ≡ true) × (b ≡ true)
-and_both a b h = grind arith
 
 pub is_zero : (n : ℕ) → (n == 0) ≡ true → n ≡ 0
 is_zero n h = grind (arith, nat_tests)

@@ -1,5 +1,6 @@
 -- What tests, filters, least elements and rows of numbers hold, and what is put among others.
 use Rattle.std.proofs.Common.{Bool, arith, false, inl, inr, refl, true, ◌||◌, ◌≡◌, ◌≤◌, ◌⊎◌, List, None, Option, Some, [], ap, cond, filter, find, if◌then◌else◌, nat_le, slice_get, suc, sum_by, sym, zero, ℕ, ◌+◌, ◌<◌, ◌==◌, ◌∙◌, ◌∷◌, ◌++◌}
+pub use Rattle.std.proofs.lemmas.Bool.{or_left, or_right, or_cases as or_either, or_parts as or_none, false_from_ne_true as not_true}
 use Rattle.vm_model.specs.Space.{one_if, count_from, is_among, least_by, smaller_by, put_by, covers, holds, hull, times}
 use Rattle.std.proofs.lemmas.Bool.Decides.{nat_tests}
 use Rattle.std.proofs.lemmas.List.Sums.{sum_by-cons, sum_by-append}
@@ -8,18 +9,6 @@ use Rattle.map_laws.proofs.KeptThroughSteps.{there}
 use Rattle.vm_model.specs.declared.areas.Span.{Span}
 
 -- What holds of tests that are joined by `||`, and how often a test counts.
-
-pub or_left : (a b : Bool) → a ≡ true → (a || b) ≡ true
-or_left a b e = grind arith
-
-pub or_right : (a b : Bool) → b ≡ true → (a || b) ≡ true
-or_right a b e = grind arith
-
-pub or_either : (a b : Bool) → (a || b) ≡ true → (a ≡ true) ⊎ (b ≡ true)
-or_either a b e = grind arith
-
-pub or_none : (a b : Bool) → (a || b) ≡ false → (a ≡ false) × (b ≡ false)
-or_none a b e = grind arith
 
 pub or_false : (b : Bool) → (b || false) ≡ b
 or_false b = grind arith
@@ -34,9 +23,6 @@ one_if_le b = grind arith
 pub by_test : {P : Type 0} (t : Bool) → (t ≡ true → P) → (t ≡ false → P) → P
 by_test true f g = f refl
 by_test false f g = g refl
-
-pub not_true : (t : Bool) → (t ≡ true → ⊥) → t ≡ false
-not_true t f = grind arith
 
 -- two counts that are not both above 0
 pub one_of_two : (a b : ℕ) → a ≤ 1 → b ≤ 1 → (1 ≤ a → 1 ≤ b → ⊥) → a + b ≤ 1

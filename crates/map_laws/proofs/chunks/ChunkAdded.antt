@@ -1,4 +1,5 @@
 -- Chunks that are added, and objects that are placed at once.
+use Rattle.vm_model.proofs.Tabulated.{length-tabulated}
 use Rattle.std.proofs.Common.{List, Some, [], ap, arith, false, inl, inr, refl, max, replicate, slice_get, subst, suc, sym, true, zero, ℕ, ◌+◌, ◌∙◌, ◌∷◌, ◌≡◌, ◌⊎◌, Bool, map, nat_le, not, ◌*◌, ◌++◌, ◌-◌, ◌/◌, ◌<◌, ◌≤◌, None, Option, option_and_then}
 use Rattle.std.proofs.lemmas.List.{length-replicate}
 use Rattle.std.proofs.lemmas.Option.{slice_get_within}
@@ -16,7 +17,6 @@ use Rattle.map_laws.proofs.TestsAndFilters.{IsIn, by_test, count_at, filter_in, 
 use Rattle.map_laws.proofs.chunks.ChunkFacts.{AreSameRows, IsChunkAt, IsChunkFine, IsChunkOf, IsLacking, IsSameRow, chunk_stays, of_stays, unit_covered, IsPlacedAt, chunk_at_stays}
 use Rattle.map_laws.proofs.chunks.ChunkMoves.{AreGrown, IsChunkMoved, later_places, quiet_chunks}
 use Rattle.map_laws.proofs.chunks.ChunkRows.{fitting, object_low, placed_lacking, placement_is, AreNumbered, rows_changed, rows_numbered, same_row, IsFitting, fitting_bit, populated_at, plain_rows, plain_stays}
-use Rattle.map_laws.proofs.chunks.ChunkNoted.{bits_long}
 use Rattle.map_laws.proofs.KeptThroughSteps.{append_cases, there}
 use Rattle.map_laws.proofs.ProperPlaces.{IsObjectSize, OnNext, then_of}
 use Rattle.std.proofs.lemmas.Bool.Decides.{nat_tests}
@@ -94,7 +94,7 @@ module _ (c : Setup) (units : AreUnits c) (m : PlainMap) (k : ℕ) (numbered : A
       let of : IsChunkOf grown_map at.chunk at.base = record { chunk = is.chunk; there = is.there; numbered = sym is.numbered; based = sym is.based } in
       let after = of_stays grown_map added_map at.chunk at.base object_rows of in
       placed_lacking c (plain_fit c at.bytes align) at.bytes grown_map.chunks added_map at missing is (all_grown is.chunk is.there).long after.0 after.1
-      (λ page h. (object_low c (bit_list c is.chunk) at at.bytes (bits_long _ (unit_bits c) 0) size refl (fitting at.bytes align at.off (bit_list c is.chunk) is.fits) page h).0)
+      (λ page h. (object_low c (bit_list c is.chunk) at at.bytes (length-tabulated _ (unit_bits c) 0) size refl (fitting at.bytes align at.off (bit_list c is.chunk) is.fits) page h).0)
 
   pub chunk_added : IsChunkMoved c m k busy (AddingChunk base chunk bytes align) (AddChunk chunk base at align missing) (Go (Populating at missing))
   chunk_added = record {
@@ -134,7 +134,7 @@ free_page c h bit page low free here = by_test (is_populated h page) (populated_
 -- the pages of an object that fits at once are populated
 pub atomic_pages : (c : Setup) (h : Chunk) (at : ObjectAt) → IsObjectSize at.bytes → IsFitting (atomic_bits c h) at.bytes at.off → (page : ℕ) → is_among (pages_of_object at) page ≡ true → slice_get h.populated page ≡ Some true
 atomic_pages c h at size fits page f =
-    let low = object_low c (atomic_bits c h) at at.bytes (bits_long _ (unit_bits c) 0) size refl fits page f in
+    let low = object_low c (atomic_bits c h) at at.bytes (length-tabulated _ (unit_bits c) 0) size refl fits page f in
     let bit = page_bit (atomic_bits c h) at.bytes at.off size.1 page fits size.2 low.1 low.2 in free_page c h bit.0 page low.0 bit.1 bit.2
 
 module _ (c : Setup) (units : AreUnits c) (m : PlainMap) (k : ℕ) (numbered : AreNumbered m) (once : (page : ℕ) → times page (spans_of m.areas) ≤ 1) (busy : ℕ → ℕ → Type 0) where

@@ -128,10 +128,6 @@ none_taken n first zero h = refl
 none_taken zero first (suc k) h = absurd (omega arith)
 none_taken (suc n) first (suc k) h = none_taken n (suc first) k (omega arith)
 
-length_bits : (n first : ℕ) → length (map (covers []) (count_from n first)) ≡ n
-length_bits zero first = refl
-length_bits (suc n) first = ap suc (length_bits n (suc first))
-
 zero_mod : (k : ℕ) → (0 % k == 0) ≡ true
 zero_mod k = let z : 0 % k ≡ 0 = omega arith in grind (arith, nat_tests)
 

@@ -1,4 +1,5 @@
 -- Chunks whose pages are populated and noted, and whose objects are settled.
+use Rattle.vm_model.proofs.Tabulated.{length-tabulated}
 use Rattle.std.proofs.Common.{◌≡◌, ◌≢◌, ℕ, ◌⊎◌, inl, inr, Bool, true, false, List, length, slice_get, Option, Some, refl, ap, sym, ◌∙◌, subst, arith, [], map, suc, zero, ◌+◌, ◌<◌, ◌∷◌, ◌≤◌, ◌==◌}
 use Rattle.map_laws.proofs.TestsAndFilters.{IsIn, in_among, first_or, put_new}
 use Rattle.map_laws.proofs.chunks.ChunkFacts.{IsChunkFine, IsChunkAt, IsChunkOf, AreGroupsLive, IsSameRow, NumberStays, OnUnits, chunk_stays, IsLacking, of_stays, page_in_units}
@@ -89,10 +90,6 @@ module _ (c : Setup) (units : AreUnits c) (m : PlainMap) (k : ℕ) (numbered : A
 
 -- An object is placed in a chunk that has room, and its missing pages get frames.
 
-pub bits_long : (test : ℕ → Bool) (n first : ℕ) → length (map test (count_from n first)) ≡ n
-bits_long test zero first = refl
-bits_long test (suc n) first = ap suc (bits_long test n (suc first))
-
 module _ (c : Setup) (units : AreUnits c) (m : PlainMap) (k : ℕ) (numbered : AreNumbered m) (once : (page : ℕ) → times page (spans_of m.areas) ≤ 1) (busy : ℕ → ℕ → Type 0) (bytes align : ℕ)
     (all : (h : Chunk) → IsIn h m.chunks → IsChunkFine c m (λ number page. busy number page ⊎ IsBeingPopulated number page (Choosing bytes align)) h) where
   pub place_moved : (at : ObjectAt) (missing : List ℕ) → IsObjectSize at.bytes → IsLegalAs c m k (PlaceObject at align missing) → IsChunkMoved c m k busy (Choosing bytes align) (PlaceObject at align missing) (Go (Populating at missing))
@@ -103,7 +100,7 @@ module _ (c : Setup) (units : AreUnits c) (m : PlainMap) (k : ℕ) (numbered : A
       let after = of_stays m (effect_as c m k (PlaceObject at align missing)) at.chunk at.base rows of in
       quiet_chunks c units m k numbered once busy (Choosing bytes align) all (PlaceObject at align missing) (Go (Populating at missing)) rows (λ number. plain_stays c m k (PlaceObject at align missing) number refl) (λ number page mine. absurd mine)
       (placed_lacking c (plain_fit c at.bytes align) at.bytes m.chunks (effect_as c m k (PlaceObject at align missing)) at missing is (all is.chunk is.there).long after.0 after.1
-      (λ page h. (object_low c (bit_list c is.chunk) at at.bytes (bits_long _ (unit_bits c) 0) size refl (fitting at.bytes align at.off (bit_list c is.chunk) is.fits) page h).0))
+      (λ page h. (object_low c (bit_list c is.chunk) at at.bytes (length-tabulated _ (unit_bits c) 0) size refl (fitting at.bytes align at.off (bit_list c is.chunk) is.fits) page h).0))
 
 -- Its missing pages get frames.
 module _ (c : Setup) (units : AreUnits c) (m : PlainMap) (k : ℕ) (numbered : AreNumbered m) (once : (page : ℕ) → times page (spans_of m.areas) ≤ 1) (busy : ℕ → ℕ → Type 0) (none : (number page : ℕ) → busy number page → ⊥)

@@ -17,7 +17,7 @@ use Rattle.map_laws.proofs.areas.AreaFacts.{painted_still, in_row}
 use Rattle.vm_model.specs.Space.{begins_free, count_from, is_among, lowest}
 use Rattle.vm_model.proofs.Elements.{slice_get-drop}
 use Rattle.map_laws.proofs.SearchEnds.{lowest_fit}
-use Rattle.map_laws.proofs.PlaceMoves.{begins_free-at}
+use Rattle.vm_model.proofs.FreePlaces.{begins_free-at}
 use Rattle.map_laws.proofs.ProperPlaces.{IsObjectSize}
 
 -- Lists in which the elements with one key are changed.
@@ -129,10 +129,6 @@ placement_is c fit bytes chunks at missing e = placement_by c fit bytes chunks (
     (λ h f. (let is = least_in (slot c) (filter (λ h. is_some (fit h)) chunks) h f in (filter_has (λ (h : Chunk). is_some (fit h)) chunks is.place h is.at).there)) e
 
 -- The pages of an object that fits.
-
-length-count_from : (n first : ℕ) → length (count_from n first) ≡ n
-length-count_from zero first = refl
-length-count_from (suc n) first = ap suc (length-count_from n (suc first))
 
 pub record IsFitting (bits : List Bool) (bytes off : ℕ) : Type 0 where
   pub bit : ℕ

@@ -1,5 +1,6 @@
 -- Each section at its place, as to the objects of chunks.
 -- the lives that a section ends or changes
+use Rattle.vm_model.proofs.Tabulated.{length-tabulated}
 use Rattle.std.proofs.Common.{Bool, List, Some, [], ap, arith, false, find, flat_map, inl, inr, is_some, length, map, refl, slice_get, subst, sym, true, ℕ, ◌&&◌, ◌++◌, ◌+◌, ◌==◌, ◌∙◌, ◌∷◌, ◌≡◌, ◌⊎◌}
 use Rattle.std.proofs.lemmas.Option.{slice_get_within}
 use Rattle.vm_model.specs.Areas.{group_areas}
@@ -21,7 +22,6 @@ use Rattle.map_laws.proofs.TestsAndFilters.{IsIn, filter_has, or_none, covers_ap
 use Rattle.map_laws.proofs.chunks.ChunkAdded.{row_test}
 use Rattle.map_laws.proofs.chunks.ChunkFacts.{IsChunkAt, IsPlacedAt}
 use Rattle.map_laws.proofs.chunks.ChunkDispatch.{IsUnchunked}
-use Rattle.map_laws.proofs.chunks.ChunkNoted.{bits_long}
 use Rattle.map_laws.proofs.SearchEnds.{is_zero}
 use Rattle.map_laws.proofs.KeptThroughSteps.{there}
 use Rattle.map_laws.proofs.objects.ObjectChanges.{grown_fine, grown_keeps, lived_fine, lived_keeps, paged_fine, paged_keeps, placed_fine, placed_keeps, placed_object, removed_fine, removed_keeps, same_fine, spared_fine, spared_keeps}
@@ -95,9 +95,9 @@ module _ (c : Setup) (m : PlainMap) (k : ℕ) (numbered : AreNumbered m) (long :
       → IsObjectMoved c m k placing (PlaceObject at align missing) (Go (Populating at missing))
   choose_moved bytes align all at missing size legal =
       let is = placement_is c (plain_fit c at.bytes align) at.bytes m.chunks at missing legal in record {
-        fine = placed_fine c _ _ k at m.chunks all is.chunk is.there (sym is.numbered) (sym is.based) size (bit_list c is.chunk) (fitting at.bytes align at.off (bit_list c is.chunk) is.fits) (bits_long _ (unit_bits c) 0) (plain_free c is.chunk)
+        fine = placed_fine c _ _ k at m.chunks all is.chunk is.there (sym is.numbered) (sym is.based) size (bit_list c is.chunk) (fitting at.bytes align at.off (bit_list c is.chunk) is.fits) (length-tabulated _ (unit_bits c) 0) (plain_free c is.chunk)
             (others_only (Choosing bytes align) all (λ number off mine. mine) (Go (Populating at missing))) (inr (inr (refl, refl)));
-        own = placed_object c _ (λ number off. placing number off ⊎ next_placed (Go (Populating at missing)) number off) k at m.chunks all is.chunk is.there (sym is.numbered) (sym is.based) size (bit_list c is.chunk) (fitting at.bytes align at.off (bit_list c is.chunk) is.fits) (bits_long _ (unit_bits c) 0)
+        own = placed_object c _ (λ number off. placing number off ⊎ next_placed (Go (Populating at missing)) number off) k at m.chunks all is.chunk is.there (sym is.numbered) (sym is.based) size (bit_list c is.chunk) (fitting at.bytes align at.off (bit_list c is.chunk) is.fits) (length-tabulated _ (unit_bits c) 0)
             (plain_free c is.chunk) (others_only (Choosing bytes align) all (λ number off mine. mine) (Go (Populating at missing))) (inr (inr (refl, refl)));
         keeps = λ other life there never. placed_keeps k at m.chunks other life there;
       }
@@ -107,10 +107,10 @@ module _ (c : Setup) (m : PlainMap) (k : ℕ) (numbered : AreNumbered m) (long :
   new_moved base chunk bytes align all at missing size legal =
       let grown = grown_fine c _ placing m.chunks all (λ number off b. elim b [ inl other ↦ other | inr mine ↦ absurd mine ]) chunk base (λ h there. (let l = numbered.low h there in let e = legal.1 in omega arith)) in
       let is = placement_is c (plain_fit c at.bytes align) at.bytes (m.chunks ++ new_chunk c chunk base ∷ []) at missing legal.2 in record {
-        fine = placed_fine c placing _ k at (m.chunks ++ new_chunk c chunk base ∷ []) grown is.chunk is.there (sym is.numbered) (sym is.based) size (bit_list c is.chunk) (fitting at.bytes align at.off (bit_list c is.chunk) is.fits) (bits_long _ (unit_bits c) 0) (plain_free c is.chunk)
+        fine = placed_fine c placing _ k at (m.chunks ++ new_chunk c chunk base ∷ []) grown is.chunk is.there (sym is.numbered) (sym is.based) size (bit_list c is.chunk) (fitting at.bytes align at.off (bit_list c is.chunk) is.fits) (length-tabulated _ (unit_bits c) 0) (plain_free c is.chunk)
             (λ number off b. inl b) (inr (inr (refl, refl)));
         own = placed_object c placing (λ number off. placing number off ⊎ next_placed (Go (Populating at missing)) number off) k at (m.chunks ++ new_chunk c chunk base ∷ []) grown is.chunk is.there (sym is.numbered) (sym is.based) size (bit_list c is.chunk)
-            (fitting at.bytes align at.off (bit_list c is.chunk) is.fits) (bits_long _ (unit_bits c) 0) (plain_free c is.chunk) (λ number off b. inl b) (inr (inr (refl, refl)));
+            (fitting at.bytes align at.off (bit_list c is.chunk) is.fits) (length-tabulated _ (unit_bits c) 0) (plain_free c is.chunk) (λ number off b. inl b) (inr (inr (refl, refl)));
         keeps = λ other life there never. placed_keeps k at (m.chunks ++ new_chunk c chunk base ∷ []) other life (grown_keeps c m.chunks chunk base other life there);
       }
 
@@ -120,9 +120,9 @@ module _ (c : Setup) (m : PlainMap) (k : ℕ) (numbered : AreNumbered m) (long :
       let is = placement_is c (atomic_fit c at.bytes align) at.bytes m.chunks at [] legal in
       let done : (page : ℕ) → is_among (pages_of_object at) page ≡ true → slice_get is.chunk.populated page ≡ Some true =
       (λ page f. placed.populated (with_object k at is.chunk) (keyed_in (λ (x : Chunk). x.number) at.chunk (with_object k at) m.chunks is.chunk is.there (sym is.numbered)) (sym is.numbered) page f) in record {
-        fine = placed_fine c _ _ k at m.chunks all is.chunk is.there (sym is.numbered) (sym is.based) size (atomic_bits c is.chunk) (fitting at.bytes align at.off (atomic_bits c is.chunk) is.fits) (bits_long _ (unit_bits c) 0) (atomic_free c is.chunk)
+        fine = placed_fine c _ _ k at m.chunks all is.chunk is.there (sym is.numbered) (sym is.based) size (atomic_bits c is.chunk) (fitting at.bytes align at.off (atomic_bits c is.chunk) is.fits) (length-tabulated _ (unit_bits c) 0) (atomic_free c is.chunk)
             (others_only (ChoosingAtomic bytes align) all (λ number off mine. mine) (Go (Zeroing at))) (inl done);
-        own = placed_object c _ (λ number off. placing number off ⊎ next_placed (Go (Zeroing at)) number off) k at m.chunks all is.chunk is.there (sym is.numbered) (sym is.based) size (atomic_bits c is.chunk) (fitting at.bytes align at.off (atomic_bits c is.chunk) is.fits) (bits_long _ (unit_bits c) 0)
+        own = placed_object c _ (λ number off. placing number off ⊎ next_placed (Go (Zeroing at)) number off) k at m.chunks all is.chunk is.there (sym is.numbered) (sym is.based) size (atomic_bits c is.chunk) (fitting at.bytes align at.off (atomic_bits c is.chunk) is.fits) (length-tabulated _ (unit_bits c) 0)
             (atomic_free c is.chunk) (others_only (ChoosingAtomic bytes align) all (λ number off mine. mine) (Go (Zeroing at))) (inl done);
         keeps = λ other life there never. placed_keeps k at m.chunks other life there;
       }
