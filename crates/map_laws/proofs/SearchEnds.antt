@@ -5,6 +5,7 @@ use Rattle.map_laws.proofs.TestsAndFilters.{IsIn, in_more, find_has, filter_has,
 use Rattle.map_laws.proofs.KeptThroughSteps.{there}
 use Rattle.std.specs.List.{list_all}
 use Rattle.std.proofs.lemmas.Bool.Decides.{nat_tests}
+pub use Rattle.std.proofs.lemmas.List.Concat.{length-flat_map as length_flat}
 pub use Rattle.std.proofs.lemmas.Bool.{and_parts as and_both}
 use Rattle.vm_model.specs.declared.areas.Span.{Span}
 use Rattle.vm_model.specs.Space.{count_from, begins_free, fits, lowest, free_from}
@@ -33,10 +34,6 @@ append_front (x ∷ xs) ys y i h = grind (arith, append_front xs, in_more)
 pub flat_has : {X Y : Type 0} (f : X → List Y) (xs : List X) (i : ℕ) (x : X) (y : Y) → slice_get xs i ≡ Some x → IsIn y (f x) → IsIn y (flat_map f xs)
 flat_has f [] i x y h there = cc
 flat_has f (z ∷ xs) i x y h there = grind (arith, flat_has f xs, append_front, append_second)
-
-pub length_flat : {X Y : Type 0} (f : X → List Y) (xs : List X) → length (flat_map f xs) ≡ sum_by (λ x. length (f x)) xs
-length_flat f [] = refl
-length_flat f (x ∷ xs) = omega (arith, length-append (f x) (flat_map f xs), length_flat f xs, sum_by-cons (λ x. length (f x)) x xs)
 
 pub length_map : {X Y : Type 0} (f : X → Y) (xs : List X) → length (map f xs) ≡ length xs
 length_map f [] = refl
