@@ -74,7 +74,7 @@ given_all (p ∷ pages) (frame ∷ free) frames page x h l e = elim (same_or pag
   | inr n ↦ given_all pages free (slice_set frames p (Some frame)) page x (elim (in_cons page p pages h) [ inl is ↦ absurd (n is) | inr more ↦ more ]) (omega arith) (set_other frames p page (Some frame) n ∙ e)
 ]
 
-row_in : (n first page : ℕ) → first ≤ page → page < first + n → is_among (count_from n first) page ≡ true
+pub row_in : (n first page : ℕ) → first ≤ page → page < first + n → is_among (count_from n first) page ≡ true
 row_in zero first page a b = absurd (omega arith)
 row_in (suc n) first page a b = grind (arith, row_in n (suc first) page, nat_tests)
 

@@ -1,4 +1,5 @@
 -- How many sections a call has left at each place, and that each section leaves fewer.
+use Rattle.map_laws.proofs.blocks.BlockFacts.{same_test}
 use Rattle.std.proofs.Common.{◌≡◌, ℕ, suc, ◌+◌, ◌*◌, ◌-◌, ◌<◌, ◌≤◌, Bool, true, false, List, [], ◌∷◌, ◌++◌, Option, Some, None, subst, arith, refl, not, ◌==◌, length, ap}
 use Rattle.std.proofs.lemmas.Bool.Decides.{nat_tests}
 use Rattle.vm_model.specs.Setup.{Setup, cpus}
@@ -167,9 +168,6 @@ module _ (c : Setup) where
 pub has_room : (c : Setup) (m : PlainMap) (p : Place) → 8 ≤ c.unit_pages → IsProper c p → HasRoom c m (ask c p)
 has_room c m p u is = grind (arith, new_chunk_has_room, nat_tests)
 
-same_count : (n : ℕ) → (n == n) ≡ true
-same_count n = grind (arith, nat_tests)
-
 module _ (c : Setup) (m : PlainMap) (k : ℕ) (units : 8 ≤ c.unit_pages) where
   pub plain_falls : (p : Place) (s : Section) → is_balancing p ≡ false → IsProper c p → given c m (ask c p) ≡ Some s → left_next c (next c p s) + added c s < left c p
   plain_falls p s h is e = grind (arith, added, step_falls, adds_nothing, given_meets, has_room, chunk_left, nat_tests)
@@ -184,7 +182,7 @@ module _ (c : Setup) (m : PlainMap) (k : ℕ) (units : 8 ≤ c.unit_pages) where
       grind (arith, sum_without)
 
   opens_some : (h : Chunk) (page : ℕ) → IsFillable m.chunks h page → 1 ≤ opens h.number page m.chunks
-  opens_some h page is = grind (arith, open_in, same_count, sum_has, nat_tests)
+  opens_some h page is = grind (arith, open_in, same_test, sum_has, nat_tests)
 
   filled_next : AreSized c m.chunks → (filled : ℕ) (o : Option (Chunk × ℕ)) → page_to_fill c m.chunks ≡ o
       → left_next c (after_page filled (page_told (filling o))) + credit_next (effect_as c m k (filling o)).chunks (after_page filled (page_told (filling o))) + worth_of c (effect_as c m k (filling o)).chunks < 4 + worth_of c m.chunks
@@ -192,7 +190,7 @@ module _ (c : Setup) (m : PlainMap) (k : ℕ) (units : 8 ≤ c.unit_pages) where
 
   closed_all : (chunk page : ℕ) (chunks : List Chunk) → opens chunk page (change_chunk chunk (with_page page) chunks) ≡ 0
   closed_all chunk page [] = refl
-  closed_all chunk page (h ∷ chunks) = grind (arith, closed_all chunk page chunks, sum_by-cons, open_in, slice_get-paint, same_count, nat_tests)
+  closed_all chunk page (h ∷ chunks) = grind (arith, closed_all chunk page chunks, sum_by-cons, open_in, slice_get-paint, same_test, nat_tests)
 
   noted : (chunk page : ℕ) → 4 + worth_of c (effect_as c m k (Filled chunk page)).chunks < 2 + (3 - 3 * opens chunk page m.chunks) + worth_of c m.chunks
   noted chunk page = let low = lower_section c chunk page m k (Filled chunk page) in let a = low.less in let b = low.closes in

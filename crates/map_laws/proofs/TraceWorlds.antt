@@ -207,54 +207,32 @@ by_caller P keeps c w k l s framed is step =
     let own = framed.own k l step.step.here in
     subst (λ d. IsFramed d w → P d w → P d (made_by w l s)) own.setup (λ framed is. keeps w l s framed is (subst (λ i. IsLegalStep w i l s) (sym own.caller) step)) framed is
 
-module _ (w : World) (l : Local) (s : Section) (setup : IsSetup l.setup) (framed : IsFramed l.setup w) (is : IsTraceWorld l.setup w) (step : IsLegalStep w l.caller l s) where
-  has_call_here : length l.answers < length l.calls
-  has_call_here = has_call l.setup l.caller l (framed.own l.caller l step.step.here) (not_over l.setup w.map l.place s step.step.gives)
-
-  sided : IsChunkSided l.setup w.map l.place
-  sided = sided_here l.setup setup w framed is l.caller l step.step.here
-
-  plain : IsRemovedPlain w.map l.place
-  plain = plain_here l.setup w framed is l.caller l step.step.here
-
-  once : (page : ℕ) → times page (spans_of w.map.areas) ≤ 1
-  once = areas_once l.setup w framed is l.caller l step.step.here
-
-  names : (start : ℕ) → count_of start (block_starts w.map.blocks) + count_of start (block_out l.place) ≤ 1
-  names = own_names l.setup w framed is l.caller l step.step.here
-
-  step_blocks : IsBlockWorld l.setup (made_by w l s)
-  step_blocks = block_step l.setup w l s is.blocks step.step.here (λ j x h. (framed.own j x h).caller) has_call_here
-      (block_by l.setup w.map l.caller is.area.fine (has_parts l.setup setup) is.blocks.blocks l.place s sided (is.turns.proper.each l.caller l step.step.here) (is.area.each l.caller l step.step.here) plain (own_once w l.caller l is.area step.step.here)
-      names (is.blocks.each l.caller l step.step.here) step.meets step.legal) refl (made_by w l s).map refl (made_by w l s).locals refl (made_by w l s).events
-
-  moved_chunks : IsChunkMoved l.setup w.map l.caller (OthersPopulate w l.caller) l.place s (next l.setup l.place s)
-  moved_chunks = chunk_by l.setup setup.units w.map l.caller is.chunks.numbered once (OthersPopulate w l.caller) is.area.fine is.full.each (has_parts l.setup setup).some is.blocks.blocks l.place s
-      (none_populates w l.caller l step.step.here is.turns.turns) (chunks_here w l.caller l step.step.here is.turns.turns l.setup is.chunks) (is.turns.proper.each l.caller l step.step.here) (is.area.each l.caller l step.step.here) plain
-      (is.blocks.each l.caller l step.step.here) (is.chunks.each l.caller l step.step.here) step.meets step.legal
-
-  moved_objects : IsObjectMoved l.setup w.map l.caller (OthersPlace w l.caller) s (next l.setup l.place s)
-  moved_objects = object_by l.setup w.map l.caller is.chunks.numbered (λ h there. (is.chunks.chunks h there).long) (OthersPlace w l.caller) l.place s (objects_here l.setup w l.caller l step.step.here is.objects)
-      (is.turns.proper.each l.caller l step.step.here) (is.objects.hands l.caller l step.step.here) moved_chunks.own step.meets step.legal
-
-  outside : IsOutside l.setup w.map l.place
-  outside = block_outside l.setup w.map l.caller once is.blocks.blocks l.place sided plain (is.blocks.each l.caller l step.step.here) (λ start. (let n = names start in omega arith))
-
-  trace_step : IsTraceWorld l.setup (made_by w l s)
-  trace_step = let proper = is.turns.proper.each l.caller l step.step.here in record {
-    turns = (turns_last l.setup []).steps w l.caller l s framed is.turns step.step;
-    area = area_kept l.setup w l.caller l s framed is.area proper outside step;
-    plain = plain_step l.setup w l.caller l s framed is.turns.proper is.plain step;
-    blocks = step_blocks;
-    chunks = chunk_step w l s is.chunks is.turns.turns step.step.here has_call_here moved_chunks;
-    objects = object_step w l s is.objects is.turns.turns step.step.here (λ j x h. (framed.own j x h).caller) has_call_here step.meets step.legal moved_objects;
-    uses = made_step l.setup w l s is.uses step.step.here has_call_here (not_over l.setup w.map l.place s step.step.gives) step.meets step.legal (SomeonePlaces w) is.objects.fine (is.objects.hands l.caller l step.step.here) moved_objects.keeps
-        (made_by w l s).events;
-    made = made_section l.setup w.map l.caller l.place s proper step.meets is.made;
-    clean = (clean_lasts l.setup []).steps w l.caller l s framed is.clean step;
-    aligned = (aligned_lasts l.setup []).steps w l.caller l s framed is.aligned step.step;
-    full = full_after l.setup w.map l.caller (has_parts l.setup setup).some setup.groups l.place s proper step.meets is.full;
-  }
+trace_step : (w : World) (l : Local) (s : Section) → IsSetup l.setup → IsFramed l.setup w → IsTraceWorld l.setup w → IsLegalStep w l.caller l s → IsTraceWorld l.setup (made_by w l s)
+trace_step w l s setup framed is step =
+    let here = step.step.here in let parts = has_parts l.setup setup in
+    let proper = is.turns.proper.each l.caller l here in let holding = is.area.each l.caller l here in let block = is.blocks.each l.caller l here in
+    let hand = is.objects.hands l.caller l here in let callers = (λ (j : ℕ) (x : Local) (h : slice_get w.locals j ≡ Some x). (framed.own j x h).caller) in
+    let over = not_over l.setup w.map l.place s step.step.gives in let call = has_call l.setup l.caller l (framed.own l.caller l here) over in
+    let once = areas_once l.setup w framed is l.caller l here in let names = own_names l.setup w framed is l.caller l here in
+    let plain = plain_here l.setup w framed is l.caller l here in let sided = sided_here l.setup setup w framed is l.caller l here in
+    let outside = block_outside l.setup w.map l.caller once is.blocks.blocks l.place sided plain block (λ start. (let n = names start in omega arith)) in
+    let blocks = block_by l.setup w.map l.caller is.area.fine parts is.blocks.blocks l.place s sided proper holding plain (own_once w l.caller l is.area here) names block step.meets step.legal in
+    let chunks = chunk_by l.setup setup.units w.map l.caller is.chunks.numbered once (OthersPopulate w l.caller) is.area.fine is.full.each parts.some is.blocks.blocks l.place s (none_populates w l.caller l here is.turns.turns)
+        (chunks_here w l.caller l here is.turns.turns l.setup is.chunks) proper holding plain block (is.chunks.each l.caller l here) step.meets step.legal in
+    let objects = object_by l.setup w.map l.caller is.chunks.numbered (λ h there. (is.chunks.chunks h there).long) (OthersPlace w l.caller) l.place s (objects_here l.setup w l.caller l here is.objects) proper hand chunks.own step.meets step.legal in
+    record {
+      turns = (turns_last l.setup []).steps w l.caller l s framed is.turns step.step;
+      area = area_kept l.setup w l.caller l s framed is.area proper outside step;
+      plain = plain_step l.setup w l.caller l s framed is.turns.proper is.plain step;
+      blocks = block_step l.setup w l s is.blocks here callers call blocks refl (made_by w l s).map refl (made_by w l s).locals refl (made_by w l s).events;
+      chunks = chunk_step w l s is.chunks is.turns.turns here call chunks;
+      objects = object_step w l s is.objects is.turns.turns here callers call step.meets step.legal objects;
+      uses = made_step l.setup w l s is.uses here call over step.meets step.legal (SomeonePlaces w) is.objects.fine hand objects.keeps (made_by w l s).events;
+      made = made_section l.setup w.map l.caller l.place s proper step.meets is.made;
+      clean = (clean_lasts l.setup []).steps w l.caller l s framed is.clean step;
+      aligned = (aligned_lasts l.setup []).steps w l.caller l s framed is.aligned step.step;
+      full = full_after l.setup w.map l.caller parts.some setup.groups l.place s proper step.meets is.full;
+    }
 
 module _ (c : Setup) (opening : List Call) (calls : List (List Call)) where
   -- callers at their start have no block

@@ -8,7 +8,7 @@ use Rattle.vm_model.specs.Frames.{cell_of, word_at, sum_words}
 use Rattle.vm_model.specs.Chunks.{ObjectAt, pages_of_object}
 use Rattle.map_laws.proofs.blocks.BlockWorlds.{only_one}
 use Rattle.map_laws.proofs.chunks.ChunkFacts.{unit_page, page_in_units}
-use Rattle.map_laws.proofs.chunks.ChunkMoves.{counted}
+use Rattle.map_laws.proofs.PlaceMoves.{row_in}
 use Rattle.section_laws.specs.Needs.{HasFrame, IsReachable}
 use Rattle.section_laws.specs.WordBounds.{IsWithin, most_amount, most_word}
 use Rattle.section_laws.proofs.WordsSmall.{AreWithin, zero_within, wider, both_within, cell_within}
@@ -19,7 +19,7 @@ module _ (c : Setup) (frames : List (Option ℕ)) (at : ObjectAt) (is : IsReacha
   page = (at.off + 4 * index) / 4096
 
   word_in_object : is_among (pages_of_object at) page ≡ true
-  word_in_object = counted (suc ((at.off + at.bytes - 1) / 4096) - at.off / 4096) (at.off / 4096) page (omega arith) (omega arith)
+  word_in_object = row_in (suc ((at.off + at.bytes - 1) / 4096) - at.off / 4096) (at.off / 4096) page (omega arith) (omega arith)
 
   mapped_in : (cpu unit : ℕ) → slice_get c.units cpu ≡ Some unit → HasFrame frames (at.base + unit + page)
   mapped_in cpu unit e = is.mapped (at.base + unit + page) (page_in_units c at.base page cpu unit (pages_of_object at) e word_in_object)

@@ -21,7 +21,7 @@ use Rattle.map_laws.proofs.chunks.ChunkFacts.{AreGroupsLive, AreSameRows, IsChun
 use Rattle.map_laws.proofs.chunks.ChunkRows.{AreNumbered, rows_kept, rows_numbered, same_row}
 use Rattle.map_laws.proofs.KeptThroughSteps.{same_or}
 use Rattle.map_laws.proofs.OutMoves.{same_area}
-use Rattle.map_laws.proofs.PlaceMoves.{given_all, given_still, free_row}
+use Rattle.map_laws.proofs.PlaceMoves.{given_all, given_still, free_row, row_in}
 use Rattle.map_laws.proofs.ProperPlaces.{OnNext}
 use Rattle.map_laws.proofs.areas.AreaFacts.{ungiven}
 use Rattle.std.specs.List.{list_all}
@@ -42,11 +42,6 @@ pub record IsChunkMoved (c : Setup) (m : PlainMap) (k : ℕ) (busy : ℕ → ℕ
   pub numbered : AreNumbered (effect_as c m k s)
   pub own : OnNext (IsChunkAt c (effect_as c m k s)) n
   pub others : (q : Place) → (has_alloc p ≡ true → has_alloc q ≡ false) → IsChunkAt c m q → IsChunkAt c (effect_as c m k s) q
-
--- a number of a row
-pub counted : (n first page : ℕ) → first ≤ page → page < first + n → is_among (count_from n first) page ≡ true
-counted zero first page low high = absurd (omega arith)
-counted (suc n) first page low high = grind (arith, counted n (suc first) page)
 
 -- each chunk with an older number was there before, and its populated pages were no more
 pub record AreGrown (m m' : PlainMap) : Type 0 where
@@ -122,7 +117,7 @@ module _ (c : Setup) (units : AreUnits c) (m : PlainMap) (k : ℕ) (numbered : A
 
     in_all : (x : ℕ) → is_among (pages_in_units c base pages) x ≡ true → is_among (pages_in_units c base (count_from c.unit_pages 0)) x ≡ true
     in_all x h = let u = unit_page c base x pages h in
-        ap (is_among (pages_in_units c base (count_from c.unit_pages 0))) u.same ∙ page_in_units c base u.page u.cpu u.unit (count_from c.unit_pages 0) u.at (counted c.unit_pages 0 u.page (omega arith) (let l = low u.page u.among in omega arith))
+        ap (is_among (pages_in_units c base (count_from c.unit_pages 0))) u.same ∙ page_in_units c base u.page u.cpu u.unit (count_from c.unit_pages 0) u.at (row_in c.unit_pages 0 u.page (omega arith) (let l = low u.page u.among in omega arith))
 
     module _ (n : Next) (noted : (page : ℕ) → is_among pages page ≡ true → next_busy n number page) where
       own_spare : (h : Chunk) → IsIn h m.chunks → h.number ≡ number → h.base ≡ base → (page : ℕ) → slice_get h.populated page ≡ Some false → (t : Bool) → is_among pages page ≡ t

@@ -15,7 +15,7 @@ use Rattle.map_laws.proofs.KeptThroughSteps.{same_or}
 use Rattle.map_laws.proofs.TestsAndFilters.{sum_has, among_in, holds_from, holds_to, covers_one}
 use Rattle.map_laws.proofs.OutMoves.{sum_two}
 use Rattle.map_laws.proofs.chunks.ChunkFacts.{page_in_units}
-use Rattle.map_laws.proofs.chunks.ChunkMoves.{counted}
+use Rattle.map_laws.proofs.PlaceMoves.{row_in}
 use Rattle.map_laws.proofs.objects.ObjectFacts.{IsObject, AreChunksFine, same_chunk, times_map}
 use Rattle.map_laws.proofs.MapLaws.{times_flat}
 use Rattle.map_laws.proofs.FrameWords.{IsWord, AreCells, HasFrame, added_own, added_other, word_is, zeroed_within, within_zeroed, zero_words-own, zero_words-other}
@@ -169,7 +169,7 @@ one_word c chunks at own life life' cpu cpu' index index' byte once is is' word 
 pub word_mapped : (c : Setup) (m : PlainMap) (at : ObjectAt) (cpu index byte : ℕ) → IsWordy at → IsWordOf c at cpu index byte → OnPages (object_pages c at) (IsMapped m) → (frame : ℕ) × HasFrame m.frames byte frame
 word_mapped c m at cpu index byte wordy word mapped =
     let page : ℕ = (at.off + 4 * index) / 4096 in
-    let among : is_among (pages_of_object at) page ≡ true = counted (suc ((at.off + at.bytes - 1) / 4096) - at.off / 4096) (at.off / 4096) page (omega arith) (omega arith) in
+    let among : is_among (pages_of_object at) page ≡ true = row_in (suc ((at.off + at.bytes - 1) / 4096) - at.off / 4096) (at.off / 4096) page (omega arith) (omega arith) in
     let there : is_among (object_pages c at) (at.base + word.unit + page) ≡ true = page_in_units c at.base page cpu word.unit (pages_of_object at) word.at_unit among in
     grind arith
 
@@ -252,7 +252,7 @@ module _ (c : Setup) (frames : List (Option ℕ)) (cells : List ℤ) (own : Obje
   pub zeroed_own : (cpu index byte f : ℕ) → IsWordOf c own cpu index byte → HasFrame frames byte f → word_at frames zeroed byte ≡ pos 0
   zeroed_own cpu index byte f word h =
       let page : ℕ = (own.off + 4 * index) / 4096 in
-      let among : is_among (pages_of_object own) page ≡ true = counted (suc ((own.off + own.bytes - 1) / 4096) - own.off / 4096) (own.off / 4096) page (omega arith) (omega arith) in
+      let among : is_among (pages_of_object own) page ≡ true = row_in (suc ((own.off + own.bytes - 1) / 4096) - own.off / 4096) (own.off / 4096) page (omega arith) (omega arith) in
       let place = among_in page (pages_of_object own) among in
       let same : byte / 4096 ≡ own.base + word.unit + page = omega arith in
       let inner : ℕ = (byte % 4096) / 4 in
