@@ -16,7 +16,7 @@ use Rattle.map_laws.proofs.TestsAndFilters.{sum_has, among_in, holds_from, holds
 use Rattle.map_laws.proofs.OutMoves.{sum_two}
 use Rattle.map_laws.proofs.chunks.ChunkFacts.{page_in_units}
 use Rattle.map_laws.proofs.PlaceMoves.{row_in}
-use Rattle.map_laws.proofs.objects.ObjectFacts.{IsObject, AreChunksFine, same_chunk, times_map}
+use Rattle.map_laws.proofs.objects.ObjectFacts.{IsObject, AreChunksFine, same_chunk, times_map, same_place}
 use Rattle.map_laws.proofs.MapLaws.{times_flat}
 use Rattle.map_laws.proofs.FrameWords.{IsWord, AreCells, HasFrame, added_own, added_other, word_is, zeroed_within, within_zeroed, zero_words-own, zero_words-other}
 use Rattle.map_laws.proofs.chunks.ChunkFalls.{mapped_at}
@@ -76,25 +76,19 @@ module _ (c : Setup) (byte : ℕ) where
     object_once i j cpu hit = omega (arith, objects_sum hit.chunk, sum_has (of_object hit.chunk) hit.chunk.objects hit.object j hit.at_object, chunk_once i j cpu hit)
 
     same_cpu : (i j cpu cpu' : ℕ) (hit : IsHit c chunks byte i j cpu) (hit' : IsHit c chunks byte i j cpu') → hit.chunk ≡ hit'.chunk → hit.object ≡ hit'.object → cpu ≡ cpu'
-    same_cpu i j cpu cpu' hit hit' e f = elim (same_or cpu cpu') [
-      | inl same ↦ same
-      | inr apart ↦ absurd (let has' = ap (λ (h : Chunk). holds (span (copy_at (object_at h hit.object) hit'.unit) hit.object.bytes) byte) e ∙ ap (λ (o : Object). holds (span (copy_at (object_at hit'.chunk o) hit'.unit) o.bytes) byte) f ∙ hit'.has in
-          omega (arith, units_sum hit.chunk hit.object, object_once i j cpu hit, sum_two (of_unit hit.chunk hit.object) c.units cpu cpu' hit.unit hit'.unit hit.at_unit hit'.at_unit apart, ap one_if hit.has, ap one_if has'))
-    ]
+    same_cpu i j cpu cpu' hit hit' e f =
+        let has' = ap (λ (h : Chunk). holds (span (copy_at (object_at h hit.object) hit'.unit) hit.object.bytes) byte) e ∙ ap (λ (o : Object). holds (span (copy_at (object_at hit'.chunk o) hit'.unit) o.bytes) byte) f ∙ hit'.has in
+        same_place (of_unit hit.chunk hit.object) c.units cpu cpu' hit.unit hit'.unit (omega (arith, units_sum hit.chunk hit.object, object_once i j cpu hit)) hit.at_unit hit'.at_unit (omega (arith, ap one_if hit.has)) (omega (arith, ap one_if has'))
 
     same_object_place : (i j j' cpu cpu' : ℕ) (hit : IsHit c chunks byte i j cpu) (hit' : IsHit c chunks byte i j' cpu') → hit.chunk ≡ hit'.chunk → j ≡ j'
-    same_object_place i j j' cpu cpu' hit hit' e = elim (same_or j j') [
-      | inl same ↦ same
-      | inr apart ↦ absurd (let there' : slice_get hit.chunk.objects j' ≡ Some hit'.object = ap (λ (h : Chunk). slice_get h.objects j') e ∙ hit'.at_object in
-          let counts' : 1 ≤ of_object hit.chunk hit'.object = subst (λ (h : Chunk). 1 ≤ of_object h hit'.object) (sym e) (object_counts i j' cpu' hit') in
-          omega (arith, objects_sum hit.chunk, chunk_once i j cpu hit, sum_two (of_object hit.chunk) hit.chunk.objects j j' hit.object hit'.object hit.at_object there' apart, object_counts i j cpu hit))
-    ]
+    same_object_place i j j' cpu cpu' hit hit' e =
+        let there' : slice_get hit.chunk.objects j' ≡ Some hit'.object = ap (λ (h : Chunk). slice_get h.objects j') e ∙ hit'.at_object in
+        let counts' : 1 ≤ of_object hit.chunk hit'.object = subst (λ (h : Chunk). 1 ≤ of_object h hit'.object) (sym e) (object_counts i j' cpu' hit') in
+        same_place (of_object hit.chunk) hit.chunk.objects j j' hit.object hit'.object (omega (arith, objects_sum hit.chunk, chunk_once i j cpu hit)) hit.at_object there' (object_counts i j cpu hit) counts'
 
     same_chunk_place : (i i' j j' cpu cpu' : ℕ) → IsHit c chunks byte i j cpu → IsHit c chunks byte i' j' cpu' → i ≡ i'
-    same_chunk_place i i' j j' cpu cpu' hit hit' = elim (same_or i i') [
-      | inl same ↦ same
-      | inr apart ↦ absurd (omega (arith, chunks_sum chunks, sum_two of_chunk chunks i i' hit.chunk hit'.chunk hit.at_chunk hit'.at_chunk apart, chunk_counts i j cpu hit, chunk_counts i' j' cpu' hit'))
-    ]
+    same_chunk_place i i' j j' cpu cpu' hit hit' =
+        same_place of_chunk chunks i i' hit.chunk hit'.chunk (omega (arith, chunks_sum chunks)) hit.at_chunk hit'.at_chunk (chunk_counts i j cpu hit) (chunk_counts i' j' cpu' hit')
 
     -- two copies with one byte are one
     pub record IsOneHit (i i' j j' cpu cpu' : ℕ) (hit : IsHit c chunks byte i j cpu) (hit' : IsHit c chunks byte i' j' cpu') : Type 0 where
@@ -102,26 +96,16 @@ module _ (c : Setup) (byte : ℕ) where
       pub object : hit.object ≡ hit'.object
       pub same : cpu ≡ cpu'
 
-    one_by : (i i' j j' cpu cpu' : ℕ) (hit : IsHit c chunks byte i j cpu) (hit' : IsHit c chunks byte i' j' cpu') → i ≡ i' → IsOneHit i i' j j' cpu cpu' hit hit'
-    one_by i i' j j' cpu cpu' hit hit' e =
-        let chunk : hit.chunk ≡ hit'.chunk = same_Some hit.chunk hit'.chunk (sym hit.at_chunk ∙ ap (slice_get chunks) e ∙ hit'.at_chunk) in
-        let moved : IsHit c chunks byte i j' cpu' = record { chunk = hit'.chunk; at_chunk = ap (slice_get chunks) e ∙ hit'.at_chunk; object = hit'.object; at_object = hit'.at_object; unit = hit'.unit; at_unit = hit'.at_unit; has = hit'.has } in
-        let place : j ≡ j' = same_object_place i j j' cpu cpu' hit moved chunk in
-        let object : hit.object ≡ hit'.object =
-        same_Some hit.object hit'.object (sym hit.at_object ∙ ap (λ (h : Chunk). slice_get h.objects j) chunk ∙ ap (slice_get hit'.chunk.objects) place ∙ hit'.at_object) in
-        let again : IsHit c chunks byte i j cpu' = record {
-          chunk = hit'.chunk;
-          at_chunk = ap (slice_get chunks) e ∙ hit'.at_chunk;
-          object = hit'.object;
-          at_object = ap (slice_get hit'.chunk.objects) place ∙ hit'.at_object;
-          unit = hit'.unit;
-          at_unit = hit'.at_unit;
-          has = hit'.has;
-        } in
-        record { chunk = chunk; object = object; same = same_cpu i j cpu cpu' hit again chunk object }
+    one_there : (i j cpu cpu' : ℕ) (hit : IsHit c chunks byte i j cpu) (hit' : IsHit c chunks byte i j cpu') → IsOneHit i i j j cpu cpu' hit hit'
+    one_there i j cpu cpu' hit hit' =
+        let chunk = same_Some hit.chunk hit'.chunk (sym hit.at_chunk ∙ hit'.at_chunk) in
+        let object = same_Some hit.object hit'.object (sym hit.at_object ∙ ap (λ (h : Chunk). slice_get h.objects j) chunk ∙ hit'.at_object) in
+        record { chunk = chunk; object = object; same = same_cpu i j cpu cpu' hit hit' chunk object }
 
     one_hit : (i i' j j' cpu cpu' : ℕ) (hit : IsHit c chunks byte i j cpu) (hit' : IsHit c chunks byte i' j' cpu') → IsOneHit i i' j j' cpu cpu' hit hit'
-    one_hit i i' j j' cpu cpu' hit hit' = one_by i i' j j' cpu cpu' hit hit' (same_chunk_place i i' j j' cpu cpu' hit hit')
+    one_hit i i' j j' cpu cpu' hit hit' = subst (λ n. (x : IsHit c chunks byte n j' cpu') → IsOneHit i n j j' cpu cpu' hit x) (same_chunk_place i i' j j' cpu cpu' hit hit')
+        (λ x. subst (λ n. (y : IsHit c chunks byte i n cpu') → IsOneHit i i j n cpu cpu' hit y)
+            (same_object_place i j j' cpu cpu' hit x (same_Some hit.chunk x.chunk (sym hit.at_chunk ∙ x.at_chunk))) (one_there i j cpu cpu' hit) x) hit'
 
 -- A word of an object, by its processor and index.
 
