@@ -174,9 +174,6 @@ module _ (c : Setup) (m : PlainMap) (k : ℕ) (fine : IsMapFine m) where
   -- An area is removed.
 
   module _ (p : Place) (start serial : ℕ) (area : Area) (once : (page : ℕ) → own_uses c m p page ≤ 1) (legal : named_areas start serial m.areas ≡ area ∷ []) (plain : IsPlainKind area.kind) where
-    not_not : (b : Bool) → b ≡ not (not b)
-    not_not b = grind arith
-
     named_times : (page : ℕ) → times page (spans_of (filter (is_area start serial) m.areas)) ≡ one_if (holds area.span page)
     named_times page = ap (λ l. times page (spans_of l)) legal ∙ times-one page area.span
 

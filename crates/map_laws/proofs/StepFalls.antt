@@ -110,11 +110,6 @@ adds_chunk (AddingChunk base chunk bytes align) = true
 adds_chunk _ = false
 
 module _ (c : Setup) where
-  -- a new chunk is added, at the cost that was counted for it
-  added_left : (chunk base bytes align : ℕ) (o : Option (ObjectAt × List ℕ)) (p : ObjectAt × List ℕ) → o ≡ Some p
-      → left_next c (after_place bytes align 0 (placed (placing_new chunk base bytes align o))) + added c (placing_new chunk base bytes align o) < 4 + chunk_cost c
-  added_left chunk base bytes align o p e = grind (arith, nat_tests)
-
   module _ (m : PlainMap) (units : 8 ≤ c.unit_pages) where
     pub chunk_left : (base chunk bytes align : ℕ) (s : Section) → bytes ≤ 32768 → given c m (AskAddChunk chunk base bytes align) ≡ Some s
         → left_next c (after_place bytes align 0 (placed s)) + added c s < 4 + chunk_cost c
@@ -195,10 +190,6 @@ module _ (c : Setup) (m : PlainMap) (k : ℕ) (units : 8 ≤ c.unit_pages) where
   noted : (chunk page : ℕ) → 4 + worth_of c (effect_as c m k (Filled chunk page)).chunks < 2 + (3 - 3 * opens chunk page m.chunks) + worth_of c m.chunks
   noted chunk page = let low = lower_section c chunk page m k (Filled chunk page) in let a = low.less in let b = low.closes in
       omega (arith, closed_all chunk page m.chunks)
-
-  told_falls : (p : Place) (t s : Section) (n : ℕ) → Some t ≡ Some s → left_next c (next c p t) + credit_next (effect_as c m k t).chunks (next c p t) + worth_of c (effect_as c m k t).chunks < n
-      → left_next c (next c p s) + credit_next (effect_as c m k s).chunks (next c p s) + worth_of c (effect_as c m k s).chunks < n
-  told_falls p t s n e h = let is : t ≡ s = cc in subst (λ (x : Section). left_next c (next c p x) + credit_next (effect_as c m k x).chunks (next c p x) + worth_of c (effect_as c m k x).chunks < n) is h
 
   balance_falls : AreSized c m.chunks → (p : Place) (s : Section) → is_balancing p ≡ true → given c m (ask c p) ≡ Some s
       → left_next c (next c p s) + credit_next (effect_as c m k s).chunks (next c p s) + worth_of c (effect_as c m k s).chunks < left c p + credit m.chunks p + worth_of c m.chunks

@@ -127,10 +127,6 @@ unit_word c at cpu index unit there inside = record { unit = unit; at_unit = the
 test_not : (a b : ℕ) (t : Bool) → (a == b) ≡ t → a ≢ b → t ≡ false
 test_not a b t e n = grind arith
 
--- what an add comes to, for its own serial and index, and for others
-amount_own : (at : ObjectAt) (serial cpu index : ℕ) (amount : ℤ) → amount_of serial index (AddWord at serial cpu index amount) ≡ amount
-amount_own at serial cpu index amount = grind (arith, nat_tests)
-
 pub amount_serial : (at : ObjectAt) (serial own cpu index at_index : ℕ) (amount : ℤ) → own ≢ serial → amount_of serial index (AddWord at own cpu at_index amount) ≡ pos 0
 amount_serial at serial own cpu index at_index amount n = grind (arith, test_not, nat_tests)
 

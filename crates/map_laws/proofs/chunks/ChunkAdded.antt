@@ -187,9 +187,6 @@ chunk_number p = option_and_then number_then (then_of p)
 abbrev pub IsNumberNext : PlainMap → Place → Type 0
 IsNumberNext m p = (number : ℕ) → chunk_number p ≡ Some number → number ≡ m.next_chunk
 
-abbrev pub HasNumber : Option ℕ → Place → Type 0
-HasNumber o q = (number : ℕ) → chunk_number q ≡ Some number → o ≡ Some number
-
 aim_alloc : (aim : Aim) (number : ℕ) → number_aim aim ≡ Some number → is_for_chunk aim ≡ true
 aim_alloc aim number e = grind arith
 
@@ -201,21 +198,6 @@ pub number_alloc : (p : Place) (number : ℕ) → chunk_number p ≡ Some number
 number_alloc p number e = grind (arith, aim_alloc, then_alloc)
 
 module _ (c : Setup) where
-  -- places that choose a chunk
-  abbrev pub is_choosing : Place → Bool
-  is_choosing (Choosing bytes align) = true
-  is_choosing (AddingChunk base chunk bytes align) = true
-  is_choosing _ = false
-
-  -- a section elsewhere leads to no other number
-  number_row : (s : Section) (p : Place) (n : Next) → PlaceRow c s p n → is_choosing p ≡ false → OnNext (HasNumber (chunk_number p)) n
-  number_row s _ _ Stays h = λ number e. e
-  number_row s _ _ (NoSpaceForChunk search chunk bytes align) h = λ number e. cc
-  number_row s _ _ _ h = grind arith
-
-  pub number_next : (p : Place) (s : Section) → is_choosing p ≡ false → OnNext (HasNumber (chunk_number p)) (next c p s)
-  number_next p s h = number_row s p (next c p s) (place_row c s p) h
-
   module _ (m : PlainMap) (k : ℕ) where
     -- no other section gives a chunk a number
     next_same : (s : Section) → added c s ≡ 0 → (effect_as c m k s).next_chunk ≡ m.next_chunk

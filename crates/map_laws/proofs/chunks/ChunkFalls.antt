@@ -89,9 +89,6 @@ module _ (c : Setup) (number page : ℕ) where
   lower_same : (chunks : List Chunk) → IsLower c number page 0 chunks chunks
   lower_same chunks = record { less = omega arith; closes = omega arith }
 
-  lower_trans : (one two : ℕ) (xs ys zs : List Chunk) → IsLower c number page one xs ys → IsLower c number page two ys zs → IsLower c number page (one + two) xs zs
-  lower_trans one two xs ys zs a b = grind (arith, nat_tests)
-
   lower_cons : (h h' : Chunk) (xs ys : List Chunk) → worth c h' ≤ worth c h → 3 * open_in number page h + worth c h' ≤ 3 * open_in number page h' + worth c h
       → IsLower c number page 0 xs ys → IsLower c number page 0 (h ∷ xs) (h' ∷ ys)
   lower_cons h h' xs ys a b more = search (sum_by-cons, arith) depth 6
@@ -127,9 +124,6 @@ none_taken : (n first k : ℕ) → k ≤ n → begins_free k (map (covers []) (c
 none_taken n first zero h = refl
 none_taken zero first (suc k) h = absurd (omega arith)
 none_taken (suc n) first (suc k) h = none_taken n (suc first) k (omega arith)
-
-zero_mod : (k : ℕ) → (0 % k == 0) ≡ true
-zero_mod k = let z : 0 % k ≡ 0 = omega arith in grind (arith, nat_tests)
 
 lowest_zero : (n k align : ℕ) → k ≤ n → 0 < n → lowest (map (covers []) (count_from n 0)) k align ≡ Some 0
 lowest_zero n k align h p = grind (arith, the_lowest_fits, none_taken)

@@ -23,9 +23,6 @@ use Rattle.map_laws.proofs.ProperPlaces.{IsObjectSize}
 -- Lists in which the elements with one key are changed.
 
 module _ {X : Type 0} (key : X → ℕ) (start : ℕ) (change : X → X) where
-  abbrev change_if : X → X
-  change_if x = if key x == start then change x else x
-
   -- an element of the changed list is the changed one, or another one as it was
   pub keyed_is : (xs : List X) (y : X) → IsIn y (map (λ x. if key x == start then change x else x) xs) → (was : X) × IsIn was xs × (((key was ≡ start) × (y ≡ change was)) ⊎ ((key was ≢ start) × (y ≡ was)))
   keyed_is xs y there = grind (arith, mapped_at, there, nat_tests)

@@ -237,10 +237,6 @@ removed_keeps at chunks other life apart is = changed_object at.chunk (without_o
 
 -- A chunk is added, given up, or gets a page.
 module _ (c : Setup) (placing placing' : ℕ → ℕ → Type 0) (chunks : List Chunk) (fine : AreChunksFine c placing chunks) (more : (number off : ℕ) → placing number off → placing' number off) where
-  chunk_counts : (h : Chunk) → IsIn h chunks → (number : ℕ) → h.number ≡ number → 1 ≤ count_of number (chunk_numbers chunks)
-  chunk_counts h there number e =
-      omega (arith, count_sum (λ (x : Chunk). x.number) number chunks, sum_has (λ (x : Chunk). one_if (x.number == number)) chunks h there.place there.at, ap one_if (ap (λ n. n == number) e ∙ same_test number))
-
   pub grown_fine : (number base : ℕ) → ((h : Chunk) → IsIn h chunks → h.number < number) → AreChunksFine c placing' (chunks ++ new_chunk c number base ∷ [])
   grown_fine number base low = record {
     once = λ n. by_number n (number == n) refl;

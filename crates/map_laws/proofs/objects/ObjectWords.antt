@@ -226,9 +226,6 @@ word_stays c m k s byte f f' legal quiet h g = grind (arith, same_word, frame_st
 -- Where an object is zeroed.
 
 module _ (c : Setup) (frames : List (Option ℕ)) (cells : List ℤ) (own : ObjectAt) (wordy : IsWordy own) where
-  abbrev zeroed_units : List ℕ
-  zeroed_units = map (λ unit. own.base + unit) c.units
-
   abbrev zeroed : List ℤ
   zeroed = zero_words frames (map (λ unit. own.base + unit) c.units) own.off own.bytes cells
 
