@@ -1,4 +1,5 @@
 -- What is kept of serials, sums and zeroed objects behind a legal section.
+use Rattle.std.proofs.lemmas.Bool.Decides.{nat_tests}
 use Rattle.std.proofs.Common.{◌≡◌, ◌≢◌, ℕ, ◌*◌, ◌/◌, ◌<◌, ◌≤◌, ◌⊎◌, inl, inr, List, [], ◌∷◌, ◌++◌, take, slice_get, slice_set, Some, refl, ap, sym, ◌∙◌, subst, arith, ℤ, pos, ◌+ℤ◌, zero, suc, true}
 use Rattle.std.proofs.lemmas.List.{take-append-le, take_all}
 use Rattle.vm_model.specs.Setup.{Setup, pages_in_units}
@@ -60,19 +61,7 @@ module _ (c : Setup) (w : World) (own : AreWordsOwn c w) (kept : IsSummed c w) (
     serial_by at serial r law (Settled o life is e f) = omega arith
 
     unique_by : (at o : ObjectAt) (serial : ℕ) → CameFrom w.map.chunks at serial s → CameFrom w.map.chunks o serial s → (at.chunk ≡ o.chunk) × (at.off ≡ o.off)
-    unique_by at o serial from from' = elim (was_or_settled w.map.chunks at serial s from) [
-      | inl is ↦ elim (was_or_settled w.map.chunks o serial s from') [
-        | inl is' ↦ kept.unique at o serial is is'
-        | inr new ↦ absurd (let low = kept.serials at serial is in let next = (subst (IsLegalAs c w.map k) new.1 legal).1 in omega arith)
-      ]
-      | inr new ↦ elim (was_or_settled w.map.chunks o serial s from') [
-        | inl is' ↦ absurd (let low = kept.serials o serial is' in let next = (subst (IsLegalAs c w.map k) new.1 legal).1 in omega arith)
-        | inr new' ↦ (
-            let same : SettleObject new.0 serial ≡ SettleObject new'.0 serial = sym new.1 ∙ new'.1 in let target : new.0 ≡ new'.0 = cc in
-            (new.2 ∙ ap (λ (x : ObjectAt). x.chunk) target ∙ sym new'.2, new.3 ∙ ap (λ (x : ObjectAt). x.off) target ∙ sym new'.3)
-            )
-      ]
-    ]
+    unique_by at o serial from from' = grind (arith, was_or_settled)
 
     later_now : (serial index : ℕ) → made.map.next_object ≤ serial → added serial index made.events ≡ pos 0
     later_now serial index high = grind (arith, next_grows, added_same, amount_serial, adding, adds_nothing)
@@ -82,9 +71,7 @@ module _ (c : Setup) (w : World) (own : AreWordsOwn c w) (kept : IsSummed c w) (
 
       sum_by : (at : ObjectAt) (serial index : ℕ) (t : Section) → Meets c (ask c l.place) t → IsLegalAs c w.map k t → AreApartFrames (effect_as c w.map k t).frames → IsObject w.map.chunks at (Lives serial) → OnPages (object_pages c at) (IsMapped (effect_as c w.map k t)) → 4 * index < at.bytes
           → sum_of c (effect_as c w.map k t) at index ≡ added serial index (w.events ++ (record { caller = k; section = t }) ∷ [])
-      sum_by at serial index (AddWord o own_serial cpu at_index amount) asked law apart is mapped' inside =
-          sum_added c w own kept k l here hand usable o own_serial cpu at_index amount asked law apart at serial index is mapped' inside
-          ∙ ap (λ v. v +ℤ amount_of serial index (AddWord o own_serial cpu at_index amount)) (kept.sums at serial index is inside) ∙ sym (added_more serial index w.events (record { caller = k; section = AddWord o own_serial cpu at_index amount }))
+      sum_by at serial index (AddWord o own_serial cpu at_index amount) asked law apart is mapped' inside = grind (arith, sum_added, added_more, nat_tests)
       sum_by at serial index t asked law apart is mapped' inside =
           sum_same c w own kept k l here hand usable t asked law apart at (Lives serial) index is (own.live at serial is) mapped' inside (λ cpu touched. live_untouched c w own kept k l here hand usable at serial cpu index t refl asked is touched)
           ∙ kept.sums at serial index is inside ∙ sym (added_same serial index w.events (record { caller = k; section = t }) (adds_nothing serial index t refl))
@@ -95,7 +82,6 @@ module _ (c : Setup) (w : World) (own : AreWordsOwn c w) (kept : IsSummed c w) (
           let at_place = settling_zeroed o l.place (settles_at c l.place o serial asked) in
           let held = own.hand k l o here at_place in
           let same = one_object c (SomeonePlaces w) w.map.chunks own.fine at o life (InHand k) is held.0 e f in
-          let base = same.base in let bytes = same.bytes in let next = law.1 in
           sums_zero w.map.frames w.map.cells (byte_in at index) c.units
           (λ cpu unit there. kept.zeroed k l o here at_place cpu index (byte_in at index unit) (record { unit = unit; at_unit = there; inside = omega arith; is = omega arith }))
           ∙ sym (added_same serial index w.events (record { caller = k; section = SettleObject o serial }) refl ∙ kept.later serial index (omega arith))
@@ -198,8 +184,7 @@ pub record IsSumWorld (c : Setup) (opening : List Call) (calls : List (List Call
   pub summed : IsSummed c w
 
 just_begins : (P : Place → Type 0) (c : Setup) → ((p : Place) → ((at : ObjectAt) → IsZeroedAt p at → ⊥) → P p) → HaveBeginnings P c
-just_begins P c have _ AtOver = have _ (λ at is. is)
-just_begins P c have _ _ = have _ (λ at is. is)
+just_begins P c have x4 x5 = grind arith
 
 -- a beginning settles nothing
 abbrev IsUnsettling : Place → Type 0

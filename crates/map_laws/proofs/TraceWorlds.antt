@@ -59,8 +59,7 @@ abbrev pub IsUnnumbered : Place → Type 0
 IsUnnumbered p = chunk_number p ≡ None
 
 unnumbered_begins : (c : Setup) → HaveBeginnings IsUnnumbered c
-unnumbered_begins c _ AtOver = refl
-unnumbered_begins c _ _ = refl
+unnumbered_begins c x2 x3 = grind arith
 
 -- another caller's object outlives a section
 hand_lives : (k j : ℕ) (s : Section) → j ≢ k → Kills k s (InHand j) → ⊥
@@ -102,8 +101,7 @@ module _ (w : World) (l : Local) (s : Section) (kept : IsObjectWorld l.setup w) 
   pub object_step : IsObjectWorld l.setup (made_by w l s)
   object_step = record {
     fine = same_fine l.setup _ (SomeonePlaces (made_by w l s)) after_map.chunks after_map.chunks refl joined_placed moved.fine;
-    hands = all_moved (λ x. IsObjectAt after_map x.caller x.place) w.locals l.caller _ (subst (λ i. IsObjectAt after_map i (moved_to l (next l.setup l.place s)).place) (sym (moved_caller l (next l.setup l.place s) call))
-        (moved_has (IsObjectAt after_map l.caller) l (λ p opens. unhanded_at after_map l.caller p (unchunked_begins l.setup p opens)) call _ moved.own)) other_hand;
+    hands = all_moved (λ x. IsObjectAt after_map x.caller x.place) w.locals l.caller _ (grind (arith, moved_caller, moved_has, unchunked_begins)) other_hand;
     numbers = all_moved (λ x. IsNumberNext after_map x.place) w.locals l.caller _
         (moved_has (IsNumberNext after_map) l (λ p opens number f. (let none = unnumbered_begins l.setup p opens in cc)) call _ (number_after l.setup w.map l.caller l.place s meets legal (kept.numbers l.caller l here))) other_number;
   }
@@ -203,9 +201,7 @@ module _ (c : Setup) (setup : IsSetup c) (w : World) (framed : IsFramed c w) (is
 
 -- what a legal section keeps over the setup and the number that its caller has, it keeps
 pub by_caller : (P : Setup → World → Type 0) → ((w : World) (l : Local) (s : Section) → IsFramed l.setup w → P l.setup w → IsLegalStep w l.caller l s → P l.setup (made_by w l s)) → (c : Setup) → IsKeptByLegal c (P c)
-by_caller P keeps c w k l s framed is step =
-    let own = framed.own k l step.step.here in
-    subst (λ d. IsFramed d w → P d w → P d (made_by w l s)) own.setup (λ framed is. keeps w l s framed is (subst (λ i. IsLegalStep w i l s) (sym own.caller) step)) framed is
+by_caller P keeps c w k l s framed is step = grind arith
 
 trace_step : (w : World) (l : Local) (s : Section) → IsSetup l.setup → IsFramed l.setup w → IsTraceWorld l.setup w → IsLegalStep w l.caller l s → IsTraceWorld l.setup (made_by w l s)
 trace_step w l s setup framed is step =

@@ -72,8 +72,7 @@ abbrev IsGrounded : Place → Type 0
 IsGrounded p = flight p ≡ MadeNothing
 
 grounded_begins : (c : Setup) → HaveBeginnings IsGrounded c
-grounded_begins c _ AtOver = refl
-grounded_begins c _ _ = refl
+grounded_begins c x2 x3 = grind arith
 
 -- the serial that a section gives
 abbrev gives : ℕ → Section → ℕ
@@ -114,11 +113,7 @@ module _ (c : Setup) (w : World) (l : Local) (s : Section) (kept : AreObjectsMad
   -- Serials.
 
   next_count : (serial : ℕ) (p : Place) (b : Bool) → makes_object p ≡ b → Meets c (ask c p) s → is_made serial (next_made (next c p s)) ≤ is_made serial (flight p) + gives serial s
-  next_count serial p false e v = omega (arith, no_count serial (next_made (next c p s)) (none_made (next c p s) (making_none c p s e)))
-  next_count serial (SettlingObject at) true e v = subst (λ (x : Section). is_made serial (next_made (next c (SettlingObject at) x)) ≤ is_made serial (flight (SettlingObject at)) + gives serial x) (sym v.1) (omega arith)
-  next_count serial (SettlingAtomic at) true e v = subst (λ (x : Section). is_made serial (next_made (next c (SettlingAtomic at) x)) ≤ is_made serial (flight (SettlingAtomic at)) + gives serial x) (sym v.1) (omega arith)
-  next_count serial (GivingAlloc r made) true e v = omega arith
-  next_count serial _ true e v = cc
+  next_count serial p b e v = grind (arith, no_count, none_made)
 
   given_more : (serial : ℕ) (x : Section) → IsLegalAs c w.map l.caller x → one_if (nat_lt serial w.map.next_object) + gives serial x ≤ one_if (nat_lt serial (effect_as c w.map l.caller x).next_object)
   given_more serial x legal = grind (arith, to_same, nat_tests)
@@ -167,8 +162,7 @@ module _ (c : Setup) (w : World) (l : Local) (s : Section) (kept : AreObjectsMad
   own_apart : (i serial : ℕ) (a : Answered) (o : ObjectAt) → slice_get l.answers i ≡ Some a → a.made ≡ MadeObject o serial → (is : IsFreeing l s serial) → suc i ≡ is.target.call
   own_apart i serial a o at e is =
       let few = kept.few serial in let one = one_if_le (nat_lt serial w.map.next_object) in let mine = sum_has (made_count serial) w.locals l l.caller here in
-      let same = same_place (λ (a : Answered). is_made serial a.made) l.answers i (is.target.call - 1) a is.answer (omega arith) at is.there (omega (arith, made_one o serial a.made e)) (omega (arith, made_one is.at serial is.answer.made is.made)) in
-      let some = is.some in omega arith
+      grind (arith, same_place)
 
   freed_next : (serial : ℕ) → IsFreeing l s serial → next c l.place s ≡ Answer reply.Done MadeNothing
   freed_next serial is = ap (λ p. next c p s) is.place ∙ ap (next c (FreeingObject is.at serial)) is.section
@@ -196,7 +190,6 @@ module _ (c : Setup) (w : World) (l : Local) (s : Section) (kept : AreObjectsMad
       by_freeing i a o serial old f none is =
           let number = own_apart i serial a o old f is in
           let called : own ≡ FreePercpu is.target = (let g = is.call in cc) in
-          let done : Answer r made ≡ Answer reply.Done MadeNothing = sym e ∙ freed_next serial is in
           let reply_done : r ≡ reply.Done = cc in
           let yes : (is_free_of (suc i) own && is_done r) ≡ true = ap (λ x. is_free_of (suc i) x && is_done r) called ∙ ap (λ x. (is.target.call == suc i) && is_done x) reply_done ∙ ap (λ n. (is.target.call == n) && true) number ∙ ap (λ b. b && true) (same_test is.target.call) in cc
 
@@ -217,11 +210,7 @@ module _ (c : Setup) (w : World) (l : Local) (s : Section) (kept : AreObjectsMad
   -- What stays of the caller.
 
   next_unusing : (p : Place) (b : Bool) → makes_object p ≡ b → OnNext (λ q. is_using q ≡ false) (next c p s)
-  next_unusing p false e = grind (arith, making_none, is_using, nat_tests)
-  next_unusing (SettlingObject at) true e = refl
-  next_unusing (SettlingAtomic at) true e = tt
-  next_unusing (GivingAlloc r made) true e = tt
-  next_unusing _ true e = cc
+  next_unusing p b e = grind (arith, nat_tests)
 
   own_calls : (n : Next) → (moved_to l n).calls ≡ l.calls
   own_calls n = grind (arith, answers_call, nat_tests)
