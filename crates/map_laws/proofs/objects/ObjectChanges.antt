@@ -1,4 +1,5 @@
 -- What placing, settling and removing an object do to the objects of all chunks, and so do adding, giving up and filling a chunk.
+use Rattle.map_laws.proofs.blocks.BlockWorlds.{sum_some}
 use Rattle.std.proofs.Common.{Bool, List, Some, [], ap, arith, false, filter, if◌then◌else◌, inl, inr, length, map, not, option_map, refl, slice_get, subst, suc, sym, true, zero, ℕ, ◌++◌, ◌+◌, ◌-◌, ◌/◌, ◌<◌, ◌==◌, ◌∙◌, ◌∷◌, ◌≡◌, ◌≢◌, ◌≤◌, ◌⊎◌}
 use Rattle.std.proofs.lemmas.List.Sums.{sum_by-append, sum_by-cons}
 use Rattle.std.proofs.lemmas.Option.{slice_get-map, slice_get_within}
@@ -12,7 +13,7 @@ use Rattle.vm_model.specs.Space.{holds, is_among, one_if, times}
 use Rattle.vm_model.specs.Told.{placed}
 use Rattle.map_laws.proofs.blocks.BlockFacts.{count_cons, same_test, to_same}
 use Rattle.map_laws.proofs.chunks.ChunkRows.{keyed_in, keyed_is, unkeyed_in, IsFitting, fitting_bit}
-use Rattle.map_laws.proofs.TestsAndFilters.{IsIn, filter_has, filter_in, in_more, sum_by-filter-le, sum_has, put_in, put_keeps, put_new, put_sum, holds_to}
+use Rattle.map_laws.proofs.TestsAndFilters.{IsIn, filter_has, filter_in, in_more, sum_by-filter-le, sum_has, put_in, put_keeps, put_new, put_sum, holds_to, by_test, not_true, one_of_two, one_if_le}
 use Rattle.map_laws.proofs.KeptThroughSteps.{append_cases, append_first, same_or, there, there as there_at}
 use Rattle.map_laws.proofs.objects.ObjectFacts.{AreChunksFine, AreObjectsFine, IsObject, IsShaped, chunk_numbers, count_sum, object_only, same_chunk, times_map}
 use Rattle.map_laws.proofs.ProperPlaces.{IsObjectSize}
@@ -36,6 +37,20 @@ shaped_as c o o' off bytes is = record { bit = is.bit; more = is.more; at = off 
 pub shaped_low : (c : Setup) (o : Object) → IsShaped c o → (page : ℕ) → is_among (pages_of_bytes o.off o.bytes) page ≡ true → page < c.unit_pages
 shaped_low c o is page h = let row = in_row (suc ((o.off + o.bytes - 1) / 4096) - o.off / 4096) (o.off / 4096) page h in let a = is.at in let w = is.whole in let l = is.within in omega arith
 
+-- an object stays in another list of chunks, where a chunk with its number and its base has it
+object_in : (chunks chunks' : List Chunk) (at : ObjectAt) (life : Life) (is : IsObject chunks at life) (h : Chunk) → IsIn h chunks' → h.number ≡ is.chunk.number → h.base ≡ is.chunk.base → IsIn is.object h.objects → IsObject chunks' at life
+object_in chunks chunks' at life is h there number base object_there = record {
+  chunk = h;
+  there = there;
+  numbered = number ∙ is.numbered;
+  based = base ∙ is.based;
+  object = is.object;
+  object_there = object_there;
+  off = is.off;
+  bytes = is.bytes;
+  lives = is.lives;
+}
+
 module _ (number : ℕ) (change : Chunk → Chunk) (numbers : (h : Chunk) → (change h).number ≡ h.number) where
   pub changed_fine : (c : Setup) (placing placing' : ℕ → ℕ → Type 0) (chunks : List Chunk) → AreChunksFine c placing chunks → ((h : Chunk) → IsIn h chunks → h.number ≡ number → AreObjectsFine c placing' (change h))
       → ((h : Chunk) → IsIn h chunks → h.number ≢ number → AreObjectsFine c placing' h) → AreChunksFine c placing' (change_chunk number change chunks)
@@ -49,28 +64,8 @@ module _ (number : ℕ) (change : Chunk → Chunk) (numbers : (h : Chunk) → (c
 
   pub changed_object : ((h : Chunk) → (change h).base ≡ h.base) → (chunks : List Chunk) (at : ObjectAt) (life : Life) → (is : IsObject chunks at life) → (at.chunk ≡ number → IsIn is.object (change is.chunk).objects) → IsObject (change_chunk number change chunks) at life
   changed_object bases chunks at life is still = elim (same_or is.chunk.number number) [
-    | inl e ↦ record {
-      chunk = change is.chunk;
-      there = keyed_in (λ (x : Chunk). x.number) number change chunks is.chunk is.there e;
-      numbered = numbers is.chunk ∙ is.numbered;
-      based = bases is.chunk ∙ is.based;
-      object = is.object;
-      object_there = still (sym is.numbered ∙ e);
-      off = is.off;
-      bytes = is.bytes;
-      lives = is.lives;
-    }
-    | inr apart ↦ record {
-      chunk = is.chunk;
-      there = unkeyed_in (λ (x : Chunk). x.number) number change chunks is.chunk is.there apart;
-      numbered = is.numbered;
-      based = is.based;
-      object = is.object;
-      object_there = is.object_there;
-      off = is.off;
-      bytes = is.bytes;
-      lives = is.lives;
-    }
+    | inl e ↦ object_in chunks (change_chunk number change chunks) at life is (change is.chunk) (keyed_in (λ (x : Chunk). x.number) number change chunks is.chunk is.there e) (numbers is.chunk) (bases is.chunk) (still (sym is.numbered ∙ e))
+    | inr apart ↦ object_in chunks (change_chunk number change chunks) at life is is.chunk (unkeyed_in (λ (x : Chunk). x.number) number change chunks is.chunk is.there apart) refl refl is.object_there
   ]
 
 -- An object is placed, where its bits are free.
@@ -95,24 +90,17 @@ module _ (c : Setup) (placing placing' : ℕ → ℕ → Type 0) (k : ℕ) (at :
       let i : fits.bit + (bit - fits.bit) ≡ bit = omega arith in
       free bit (ap (slice_get bits) (sym i) ∙ fitting_bit bits at.bytes at.off (bit - fits.bit) fits (omega arith))
 
-  new_bits : (bit : ℕ) (t : Bool) → holds (object_bits new_object) bit ≡ t → times bit (map object_bits (with_object k at h).objects) ≤ 1
-  new_bits bit t e = let few = (fine.each h there).bits bit in
-      omega (
-        arith,
-        times_map object_bits bit (with_object k at h).objects,
-        put_sum (λ (o : Object). one_if (holds (object_bits o) bit)) (λ (o : Object). o.off) new_object h.objects,
-        times_map object_bits bit h.objects,
-        by_test t e,
-      )
-    where
-      by_test : (t : Bool) → holds (object_bits new_object) bit ≡ t → one_if (holds (object_bits new_object) bit) + times bit (map object_bits h.objects) ≤ 1
-      by_test true e = omega (arith, ap one_if e, new_free bit e)
-      by_test false e = let few = (fine.each h there).bits bit in omega (arith, ap one_if e)
+  new_bits : (bit : ℕ) → times bit (map object_bits (with_object k at h).objects) ≤ 1
+  new_bits bit =
+      let few = (fine.each h there).bits bit in
+      let own : one_if (holds (object_bits new_object) bit) + times bit (map object_bits h.objects) ≤ 1 = by_test (holds (object_bits new_object) bit) (λ e. omega (arith, ap one_if e, new_free bit e)) (λ e. omega (arith, ap one_if e)) in
+      let put = put_sum (λ (o : Object). one_if (holds (object_bits o) bit)) (λ (o : Object). o.off) new_object h.objects in
+      omega (arith, times_map object_bits bit (with_object k at h).objects, times_map object_bits bit h.objects)
 
   own_fine : AreObjectsFine c placing' (with_object k at h)
   own_fine = record {
     shaped = λ o is. elim (put_in (λ (o : Object). o.off) new_object h.objects o is) [ inl new ↦ subst (IsShaped c) (sym new) new_shaped | inr old ↦ (fine.each h there).shaped o old ];
-    bits = λ bit. new_bits bit _ refl;
+    bits = new_bits;
     settled = λ o is. elim (put_in (λ (o : Object). o.off) new_object h.objects o is) [
       | inl new ↦ subst (λ (x : Object). ((page : ℕ) → is_among (pages_of_bytes x.off x.bytes) page ≡ true → slice_get h.populated page ≡ Some true) ⊎ placing' h.number x.off) (sym new)
           (elim settles [ inl done ↦ inl done | inr placed ↦ inr (subst (λ n. placing' n at.off) (sym numbered) placed) ])
@@ -202,12 +190,10 @@ module _ (c : Setup) (placing placing' : ℕ → ℕ → Type 0) (k : ℕ) (at :
   }
 
   pub lived_keeps : (other : ObjectAt) (life : Life) → (life ≢ InHand k) → IsObject chunks other life → IsObject (change_chunk at.chunk (with_live_object at (Lives serial)) chunks) other life
-  lived_keeps other life apart is = changed_object at.chunk (with_live_object at (Lives serial)) (λ h. refl) (λ h. refl) chunks other life is (λ e. by_test e (is.object.off == at.off) refl)
-    where
-      by_test : other.chunk ≡ at.chunk → (t : Bool) → (is.object.off == at.off) ≡ t → IsIn is.object (map alive is.chunk.objects)
-      by_test e true f = absurd (apart (let one = object_only c placing chunks fine at (InHand k) hand is.chunk is.object is.there (is.numbered ∙ e) is.object_there (to_same is.object.off at.off f) in
-          sym is.lives ∙ ap (λ (x : Object). x.life) one ∙ hand.lives))
-      by_test e false f = alive_in is.object is.chunk.objects false f is.object_there
+  lived_keeps other life apart is = changed_object at.chunk (with_live_object at (Lives serial)) (λ h. refl) (λ h. refl) chunks other life is (λ e. by_test (is.object.off == at.off)
+      (λ f. absurd (apart (let one = object_only c placing chunks fine at (InHand k) hand is.chunk is.object is.there (is.numbered ∙ e) is.object_there (to_same is.object.off at.off f) in
+          sym is.lives ∙ ap (λ (x : Object). x.life) one ∙ hand.lives)))
+      (λ f. alive_in is.object is.chunk.objects false f is.object_there))
 
 -- An object is removed.
 module _ (c : Setup) (placing placing' : ℕ → ℕ → Type 0) (at : ObjectAt) (chunks : List Chunk) (fine : AreChunksFine c placing chunks) where
@@ -229,17 +215,14 @@ module _ (c : Setup) (placing placing' : ℕ → ℕ → Type 0) (at : ObjectAt)
       (λ h there apart. more_fine c placing placing' h (λ off placed. elim (more h.number off placed) [ inl still ↦ still | inr own ↦ absurd (apart (sym own.0)) ]) (fine.each h there))
 
 pub removed_keeps : (at : ObjectAt) (chunks : List Chunk) (other : ObjectAt) (life : Life) → (other.chunk ≡ at.chunk → other.off ≡ at.off → ⊥) → IsObject chunks other life → IsObject (change_chunk at.chunk (without_object at) chunks) other life
-removed_keeps at chunks other life apart is = changed_object at.chunk (without_object at) (λ h. refl) (λ h. refl) chunks other life is (λ e. by_test e (is.object.off == at.off) refl)
-  where
-    by_test : other.chunk ≡ at.chunk → (t : Bool) → (is.object.off == at.off) ≡ t → IsIn is.object (filter (λ (o : Object). not (o.off == at.off)) is.chunk.objects)
-    by_test e true f = absurd (apart e (sym is.off ∙ to_same is.object.off at.off f))
-    by_test e false f = filter_in (λ (o : Object). not (o.off == at.off)) is.chunk.objects is.object is.object_there.place is.object_there.at (ap not f)
+removed_keeps at chunks other life apart is = changed_object at.chunk (without_object at) (λ h. refl) (λ h. refl) chunks other life is (λ e.
+    filter_in (λ (o : Object). not (o.off == at.off)) is.chunk.objects is.object is.object_there.place is.object_there.at (ap not (not_true (is.object.off == at.off) (λ f. apart e (sym is.off ∙ to_same is.object.off at.off f)))))
 
 -- A chunk is added, given up, or gets a page.
 module _ (c : Setup) (placing placing' : ℕ → ℕ → Type 0) (chunks : List Chunk) (fine : AreChunksFine c placing chunks) (more : (number off : ℕ) → placing number off → placing' number off) where
   pub grown_fine : (number base : ℕ) → ((h : Chunk) → IsIn h chunks → h.number < number) → AreChunksFine c placing' (chunks ++ new_chunk c number base ∷ [])
   grown_fine number base low = record {
-    once = λ n. by_number n (number == n) refl;
+    once = few;
     each = λ h there. elim (append_cases chunks (new_chunk c number base ∷ []) there.place h there.at) [
       | inl e ↦ more_fine c placing placing' h (more h.number) (fine.each h (record { place = there.place; at = e }))
       | inr e ↦ new_fine h e.0 e.2
@@ -249,21 +232,13 @@ module _ (c : Setup) (placing placing' : ℕ → ℕ → Type 0) (chunks : List 
       counted : (n : ℕ) → count_of n (chunk_numbers (chunks ++ new_chunk c number base ∷ [])) ≡ count_of n (chunk_numbers chunks) + one_if (number == n)
       counted n = search (count_sum, sum_by-append, arith) depth 6
 
-      none_there : (n : ℕ) → number ≡ n → (total : ℕ) → count_of n (chunk_numbers chunks) ≡ total → total ≡ 0
-      none_there n e zero f = refl
-      none_there n e (suc total) f = absurd (let is = counted_chunk n chunks (omega arith) in let l = low is.0 is.1 in let same = is.2 in omega arith)
-        where
-          counted_chunk : (n : ℕ) (chunks : List Chunk) → 1 ≤ count_of n (chunk_numbers chunks) → (h : Chunk) × IsIn h chunks × (h.number ≡ n)
-          counted_chunk n [] h = absurd (omega arith)
-          counted_chunk n (x ∷ xs) h = by_first (x.number == n) refl (counted_chunk n xs)
-            where
-              by_first : (t : Bool) → (x.number == n) ≡ t → (1 ≤ count_of n (chunk_numbers xs) → (h : Chunk) × IsIn h xs × (h.number ≡ n)) → (h : Chunk) × IsIn h (x ∷ xs) × (h.number ≡ n)
-              by_first true e more = (x, record { place = 0; at = refl }, to_same x.number n e)
-              by_first false e more = let is = more (omega (arith, count_cons n x.number (chunk_numbers xs), ap one_if e)) in (is.0, in_more is.0 x xs is.1, is.2)
+      none_there : (n : ℕ) → number ≡ n → 1 ≤ count_of n (chunk_numbers chunks) → ⊥
+      none_there n e some =
+          let is = sum_some (λ (x : Chunk). one_if (x.number == n)) chunks (omega (arith, count_sum (λ (x : Chunk). x.number) n chunks)) in
+          let l = low is.1 (record { place = is.0; at = is.2 }) in let hit = is.3 in grind (arith, to_same)
 
-      by_number : (n : ℕ) (t : Bool) → (number == n) ≡ t → count_of n (chunk_numbers (chunks ++ new_chunk c number base ∷ [])) ≤ 1
-      by_number n true e = omega (arith, counted n, ap one_if e, none_there n (to_same number n e) _ refl)
-      by_number n false e = let few = fine.once n in omega (arith, counted n, ap one_if e)
+      few : (n : ℕ) → count_of n (chunk_numbers (chunks ++ new_chunk c number base ∷ [])) ≤ 1
+      few n = let one = one_of_two _ _ (fine.once n) (one_if_le (number == n)) (λ some hit. (let same : number ≡ n = grind (arith, to_same) in none_there n same some)) in omega (arith, counted n)
 
       new_fine : (h : Chunk) (j : ℕ) → slice_get (new_chunk c number base ∷ []) j ≡ Some h → AreObjectsFine c placing' h
       new_fine h zero e = let same : new_chunk c number base ≡ h = cc in subst (AreObjectsFine c placing') same (record { shaped = λ o is. (let no = is.at in cc); bits = λ bit. omega arith; settled = λ o is. (let no = is.at in cc) })
