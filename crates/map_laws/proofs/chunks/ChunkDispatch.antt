@@ -103,7 +103,7 @@ module _ (c : Setup) (m : PlainMap) (once : (page : ℕ) → times page (spans_o
       let starts : is_among (group_starts c base) area.area.span.start ≡ true = ap (λ (s : Span). is_among (group_starts c base) s.start) area.span ∙ starts_at base is.0 is.1 c.groups is.2 in
       let kept = filter_in (λ (a : Area). is_among (group_starts c base) a.span.start) m.areas area.area area.there.place area.there.at starts in
       let there = area_times page (areas_starting (group_starts c base) m.areas) kept.place area.area kept.at (covers_one area.area.span page ∙ ap (λ s. holds s page) area.span ∙ is.3) in
-      let low = groups_once c base page groups _ refl in omega arith
+      let low = groups_once c base page groups in omega arith
 
   -- its groups can be unlinked
   pub groups_unlinked : OnEach (groups_at c base) (IsUnmapped m) → IsUnlinked c m (group_starts c base) (groups_at c base)

@@ -1,4 +1,5 @@
 -- What is kept of chunks, of their areas and of their pages between two events, and of the chunks at callers' places.
+use Rattle.std.proofs.lemmas.Bool.{cases_lt}
 use Rattle.std.proofs.Common.{Bool, List, Some, [], ap, arith, false, flat_map, inl, inr, length, map, nat_lt, option_map, refl, slice_get, subst, suc, sym, true, zero, ℕ, ◌++◌, ◌+◌, ◌<◌, ◌==◌, ◌||◌, ◌∙◌, ◌∷◌, ◌≡◌, ◌≢◌, ◌≤◌, ◌⊎◌}
 use Rattle.std.proofs.lemmas.Bool.Decides.{nat_tests}
 use Rattle.std.proofs.lemmas.Option.{slice_get-map, slice_get_within}
@@ -184,12 +185,11 @@ unit_apart c page other cpu cpu' unit unit' units at at' low low' less e =
 pub same_page : (c : Setup) (page other cpu cpu' unit unit' : ℕ) → AreUnits c → slice_get c.units cpu ≡ Some unit → slice_get c.units cpu' ≡ Some unit' → page < c.unit_pages → other < c.unit_pages → unit + page ≡ unit' + other → page ≡ other
 same_page c page other cpu cpu' unit unit' units at at' low low' e = elim (same_or cpu cpu') [
   | inl same ↦ let u : unit ≡ unit' = (let f : slice_get c.units cpu ≡ Some unit' = ap (slice_get c.units) same ∙ at' in cc) in omega arith
-  | inr apart ↦ absurd (by_order (nat_lt cpu cpu') refl apart)
+  | inr apart ↦ elim (cases_lt cpu cpu') [
+    | inl less ↦ absurd (unit_apart c page other cpu cpu' unit unit' units at at' low low' less e)
+    | inr more ↦ absurd (unit_apart c other page cpu' cpu unit' unit units at' at low' low (omega arith) (sym e))
+  ]
 ]
-  where
-    by_order : (t : Bool) → nat_lt cpu cpu' ≡ t → cpu ≢ cpu' → ⊥
-    by_order true f apart = let less : cpu < cpu' = grind (arith, nat_tests) in unit_apart c page other cpu cpu' unit unit' units at at' low low' less e
-    by_order false f apart = let more : cpu' ≤ cpu = grind (arith, nat_tests) in unit_apart c other page cpu' cpu unit' unit units at' at low' low (omega arith) (sym e)
 
 -- What stays.
 

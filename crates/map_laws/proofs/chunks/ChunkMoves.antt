@@ -1,4 +1,5 @@
 -- What sections do to chunks and their pages: those that change no chunk's pages, and those that give pages frames.
+use Rattle.std.proofs.lemmas.Bool.{cases_lt}
 use Rattle.std.proofs.Common.{Bool, List, None, Some, ap, arith, false, inl, inr, refl, slice_get, subst, suc, sym, true, zero, ℕ, ◌+◌, ◌<◌, ◌==◌, ◌||◌, ◌∙◌, ◌≡◌, ◌≢◌, ◌≤◌, ◌⊎◌, ◌-◌, nat_le, [], ◌∷◌, map, drop, slice_index}
 use Rattle.std.proofs.lemmas.Option.{slice_get_within}
 use Rattle.vm_model.specs.Areas.{spans_of}
@@ -16,7 +17,7 @@ use Rattle.vm_model.specs.Setup.{Setup, pages_in_units, groups_at, highest}
 use Rattle.vm_model.specs.Space.{count_from, is_among, times, span, holds, one_if, begins_free, free_from, one_longer}
 use Rattle.map_laws.proofs.blocks.BlockFacts.{IsStill, same_test, still_unmapped}
 use Rattle.map_laws.proofs.blocks.BlockPlaces.{IsInChunk}
-use Rattle.map_laws.proofs.TestsAndFilters.{IsIn, or_right, times-cons, holds_to, holds_from}
+use Rattle.map_laws.proofs.TestsAndFilters.{IsIn, or_right, times-cons, holds_to, holds_from, not_true, by_test}
 use Rattle.map_laws.proofs.chunks.ChunkFacts.{AreGroupsLive, AreSameRows, IsChunkAt, IsChunkFine, IsChunkOf, IsPlacedAt, NumberStays, OnUnits, chunk_at_stays, chunk_stays, group_page, page_in_units, same_page, unit_covered, unit_page}
 use Rattle.map_laws.proofs.chunks.ChunkRows.{AreNumbered, rows_kept, rows_numbered, same_row}
 use Rattle.map_laws.proofs.KeptThroughSteps.{same_or}
@@ -191,11 +192,7 @@ all_free m (s ∷ spans) page h n = let both = and_both (nat_le s.pages (slice_i
 -- spans that are apart have each page once
 none_more : (s : Span) (spans : List Span) (page : ℕ) → holds s page ≡ true → ((j : ℕ) (t : Span) → slice_get spans j ≡ Some t → AreApart s t) → times page spans ≡ 0
 none_more s [] page h apart = refl
-none_more s (t ∷ spans) page h apart = omega (arith, times-cons page t spans, none_here (holds t page) refl, none_more s spans page h (λ j x e. apart (suc j) x e))
-  where
-    none_here : (b : Bool) → holds t page ≡ b → one_if (holds t page) ≡ 0
-    none_here true e = absurd (apart 0 t refl page h e)
-    none_here false e = ap one_if e
+none_more s (t ∷ spans) page h apart = omega (arith, times-cons page t spans, ap one_if (not_true (holds t page) (apart 0 t refl page h)), none_more s spans page h (λ j x e. apart (suc j) x e))
 
 once_by : (s : Span) (spans : List Span) (page : ℕ) (t : Bool) → holds s page ≡ t → ((j : ℕ) (u : Span) → slice_get spans j ≡ Some u → AreApart s u) → times page spans ≤ 1 → times page (s ∷ spans) ≤ 1
 once_by s spans page t e apart more = grind (arith, times-cons, none_more)
@@ -207,25 +204,20 @@ apart_once (s ∷ spans) page apart = once_by s spans page _ refl (λ j u e. apa
 -- a page of the groups at a base is one of the groups themselves
 shifted : (base page : ℕ) (groups : List Span) → base ≤ page → times page (map (λ (g : Span). span (base + g.start) g.pages) groups) ≤ times (page - base) groups
 shifted base page [] low = omega arith
-shifted base page (g ∷ groups) low = omega (
-  arith,
-  times-cons page (span (base + g.start) g.pages) (map (λ (g : Span). span (base + g.start) g.pages) groups),
-  times-cons (page - base) g groups,
-  shifted base page groups low,
-  same_hold (holds (span (base + g.start) g.pages) page) refl,
-)
-  where
-    same_hold : (t : Bool) → holds (span (base + g.start) g.pages) page ≡ t → one_if (holds (span (base + g.start) g.pages) page) ≤ one_if (holds g (page - base))
-    same_hold true e = let r = holds_to (span (base + g.start) g.pages) page e in omega (arith, ap one_if e, ap one_if (holds_from g (page - base) (omega arith) (omega arith)))
-    same_hold false e = omega (arith, ap one_if e)
+shifted base page (g ∷ groups) low =
+    let hold : one_if (holds (span (base + g.start) g.pages) page) ≤ one_if (holds g (page - base)) = by_test (holds (span (base + g.start) g.pages) page)
+        (λ e. (let r = holds_to (span (base + g.start) g.pages) page e in omega (arith, ap one_if e, ap one_if (holds_from g (page - base) (omega arith) (omega arith))))) (λ e. omega (arith, ap one_if e)) in
+    omega (arith, times-cons page (span (base + g.start) g.pages) (map (λ (g : Span). span (base + g.start) g.pages) groups), times-cons (page - base) g groups, shifted base page groups low)
 
 below_none : (base page : ℕ) (groups : List Span) → page < base → times page (map (λ (g : Span). span (base + g.start) g.pages) groups) ≡ 0
 below_none base page [] low = refl
 below_none base page (g ∷ groups) low = grind (arith, below_none base page groups low, times-cons, holds_to, nat_tests)
 
-pub groups_once : (c : Setup) (base page : ℕ) → AreGroups c → (t : Bool) → nat_le base page ≡ t → times page (groups_at c base) ≤ 1
-groups_once c base page groups true e = let low : base ≤ page = grind (arith, nat_tests) in omega (arith, shifted base page c.groups low, apart_once c.groups (page - base) groups.apart)
-groups_once c base page groups false e = let high : page < base = grind (arith, nat_tests) in omega (arith, below_none base page c.groups high)
+pub groups_once : (c : Setup) (base page : ℕ) → AreGroups c → times page (groups_at c base) ≤ 1
+groups_once c base page groups = elim (cases_lt page base) [
+  | inl high ↦ omega (arith, below_none base page c.groups high)
+  | inr low ↦ omega (arith, shifted base page c.groups low, apart_once c.groups (page - base) groups.apart)
+]
 
 free_or : (page : ℕ) (spans : List Span) (free n : ℕ) → times page spans ≡ n → times page spans ≤ 1 → (1 ≤ times page spans → 1 ≤ free) → times page spans ≤ free
 free_or page spans free n e once h = grind (arith, nat_tests)
@@ -233,4 +225,4 @@ free_or page spans free n e once h = grind (arith, nat_tests)
 -- the groups that a search finds are free, each page in one of them
 pub groups_free : (c : Setup) (m : PlainMap) (base page : ℕ) → AreGroups c → highest c (taken m) ≡ Some base → times page (groups_at c base) ≤ as_free (slice_get m.marks page)
 groups_free c m base page groups e =
-    free_or page (groups_at c base) (as_free (slice_get m.marks page)) _ refl (groups_once c base page groups _ refl) (all_free m (groups_at c base) page (highest_fit c (taken m) base e).1)
+    free_or page (groups_at c base) (as_free (slice_get m.marks page)) _ refl (groups_once c base page groups) (all_free m (groups_at c base) page (highest_fit c (taken m) base e).1)

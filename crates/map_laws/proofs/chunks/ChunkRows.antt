@@ -153,12 +153,7 @@ object_low c bits at bytes long size same is page h =
 -- Which pages of an object lack frames.
 
 pub populated_at : (h : Chunk) (page : ℕ) → is_populated h page ≡ true → slice_get h.populated page ≡ Some true
-populated_at h page e = by_value (slice_get h.populated page) refl
-  where
-    by_value : (o : Option Bool) → slice_get h.populated page ≡ o → slice_get h.populated page ≡ Some true
-    by_value None f = let g : is_populated h page ≡ false = sym (unwrap_or-slice_get h.populated page false) ∙ ap (λ o. unwrap_or o false) f in cc
-    by_value (Some true) f = f
-    by_value (Some false) f = let g : is_populated h page ≡ false = get_or_from_slice_get h.populated page false false f in cc
+populated_at h page e = let value = unwrap_or-slice_get h.populated page false in grind arith
 
 module _ (c : Setup) (fit : Chunk → Option ℕ) (bytes : ℕ) (chunks : List Chunk) (m : PlainMap) (at : ObjectAt) (missing : List ℕ) (is : IsPlacement c fit bytes chunks at missing) where
   missing_within : (page : ℕ) → is_among missing page ≡ true → is_among (pages_of_object at) page ≡ true

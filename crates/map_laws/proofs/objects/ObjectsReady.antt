@@ -23,7 +23,7 @@ use Rattle.map_laws.proofs.areas.AreaFacts.{IsHolding}
 use Rattle.map_laws.proofs.areas.AreaWorlds.{IsLegalStep}
 use Rattle.map_laws.proofs.blocks.BlockFacts.{IsBlockAt, among_count, block_out, block_starts, same_test, to_same}
 use Rattle.map_laws.proofs.blocks.BlockWorlds.{only_one}
-use Rattle.map_laws.proofs.TestsAndFilters.{IsIn, filter_has, filter_in, in_more}
+use Rattle.map_laws.proofs.TestsAndFilters.{IsIn, filter_has, filter_in, in_more, not_true}
 use Rattle.map_laws.proofs.PlaceRows.{place_row}
 use Rattle.map_laws.proofs.chunks.ChunkFacts.{AreGroupsLive, IsChunkAt, IsOpenPage, start_of, unit_covered, unit_page}
 use Rattle.map_laws.proofs.chunks.ChunkAdded.{IsNumberNext}
@@ -90,20 +90,14 @@ module _ (c : Setup) (setup : IsSetup c) (w : World) (framed : IsFramed c w) (is
 
   -- no object has a byte in a page that isn't populated, while nobody is placing one
   untouched_page : has_alloc l.place ≡ true → ((number off : ℕ) → IsBeingPlaced number off l.place → ⊥) → (h : Chunk) → IsIn h w.map.chunks → (page : ℕ) → slice_get h.populated page ≡ Some false → list_any (touches page) h.objects ≡ false
-  untouched_page alloc idle h there page lack = by_test (list_any (touches page) h.objects) refl
-    where
-      fine : AreChunksFine c (λ number off. OthersPlace w k number off ⊎ IsBeingPlaced number off l.place) w.map.chunks
-      fine = objects_here c w k l here is.objects
-
-      by_test : (t : Bool) → list_any (touches page) h.objects ≡ t → list_any (touches page) h.objects ≡ false
-      by_test false e = e
-      by_test true e = absurd (let o = any_in (touches page) h.objects e in elim ((fine.each h there).settled o.0 o.1) [
+  untouched_page alloc idle h there page lack = not_true (list_any (touches page) h.objects) (λ e. (
+      let o = any_in (touches page) h.objects e in elim (((objects_here c w k l here is.objects).each h there).settled o.0 o.1) [
         | inl done ↦ (let yes = done page o.2 in cc)
         | inr b ↦ elim b [
           | inl other ↦ (let no = alone w k l here is.turns.turns other.0 other.1 other.2 other.3 alloc in let yes = placed_alloc other.1.place h.number o.0.off other.4 in cc)
           | inr mine ↦ idle h.number o.0.off mine
         ]
-      ])
+      ]))
 
   can_fill : has_alloc l.place ≡ true → ((number off : ℕ) → IsBeingPlaced number off l.place → ⊥) → (number base page : ℕ) → IsOpenPage c w.map number base page → CanFill w.map number page
   can_fill alloc idle number base page at =
