@@ -48,8 +48,7 @@ IsPlainPlace m _ = Unit {0}
 -- the serials of settled areas
 settled_serial : (k first : ℕ) (areas : List (Span × AreaKind)) (i : ℕ) (a : Area) → slice_get (areas_of k first areas) i ≡ Some a → a.serial ≡ first + i
 settled_serial k first [] i a h = cc
-settled_serial k first (p ∷ areas) zero a h = let is : first ≡ a.serial = cc in let z : first ≡ first + 0 = omega arith in sym is ∙ z
-settled_serial k first (p ∷ areas) (suc i) a h = let z : suc first + i ≡ first + suc i = omega arith in settled_serial k (suc first) areas i a h ∙ z
+settled_serial k first (p ∷ areas) i a h = grind (arith, settled_serial k (suc first) areas)
 
 length-areas_of : (k first : ℕ) (areas : List (Span × AreaKind)) → length (areas_of k first areas) ≡ length areas
 length-areas_of k first [] = refl
@@ -133,8 +132,7 @@ pub record IsPlainWorld (w : World) : Type 0 where
 
 module _ (m : PlainMap) (c : Setup) (opening own : List Answered) (p : (i : ℕ) (a : Answered) → slice_get opening i ≡ Some a → IsPlainMade m a.made) (q : (i : ℕ) (a : Answered) → slice_get own i ≡ Some a → IsPlainMade m a.made) where
   begin_plain : (o : Option Call) → IsPlainPlace m (begin c opening own o)
-  begin_plain None = tt
-  begin_plain (Some call) = grind (arith, either_place, nat_tests)
+  begin_plain o = grind (arith, nat_tests)
 
 moved_plain : (m : PlainMap) (l : Local) (n : Next) → length l.answers < length l.calls → IsPlainCaller m l → IsPlainNext m n → IsPlainCaller m (moved_to l n)
 moved_plain m l (Go p) call is to = record { answers = is.answers; opening = is.opening; place = to }

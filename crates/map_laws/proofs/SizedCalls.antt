@@ -1,5 +1,6 @@
 -- Which sections make an object, and where a call begins that uses one.
 -- what a caller is about to answer with
+use Rattle.std.proofs.lemmas.Bool.Decides.{nat_tests}
 use Rattle.std.proofs.Common.{Bool, List, Option, Some, [], false, length, nat_le, slice_get, suc, true, zero, ℕ, ◌++◌, ◌-◌, ◌∷◌, ◌≡◌, ◌≤◌, arith, ◌*◌, inl, inr, None, refl, sym, ◌∙◌, subst, ◌+◌, ◌<◌, ap, length-append, IsSomeAnd}
 use Rattle.vm_model.specs.Calls.{answers_in, begin, begin_call, is_bad_map_size, is_bad_object_align, is_bad_object_size, is_bad_vmalloc_align, is_bad_vmalloc_size, made_in, target_of, was_freed, Answered, words_for}
 use Rattle.vm_model.specs.Chunks.{ObjectAt}
@@ -83,17 +84,7 @@ IsNow l _ = Unit {0}
 
 module _ (l : Local) where
   call_now : (c : Setup) (call : Call) → slice_get l.calls (length l.answers) ≡ Some call → IsWellNamed call → IsNow l (begin_call c l.opening l.answers call)
-  call_now c (Vmalloc bytes align) now is = either_place (IsNow l) (is_bad_vmalloc_size c bytes) _ _ (λ e. tt) (λ e. either_place (IsNow l) (is_bad_vmalloc_align align) _ _ (λ f. tt) (λ f. tt))
-  call_now c (Vfree t) now is = grind arith
-  call_now c (MapRam cpu pages) now is = either_place (IsNow l) (is_bad_map_size c pages) _ _ (λ e. tt) (λ e. either_place (IsNow l) (nat_le pages c.part_limit) _ _ (λ f. tt) (λ f. tt))
-  call_now c (UnmapRam t) now is = grind arith
-  call_now c UnmapAliases now is = tt
-  call_now c (AllocPercpu bytes align) now is = either_place (IsNow l) (is_bad_object_size bytes) _ _ (λ e. tt) (λ e. either_place (IsNow l) (is_bad_object_align align) _ _ (λ f. tt) (λ f. tt))
-  call_now c (AllocAtomic bytes align) now is = either_place (IsNow l) (is_bad_object_size bytes) _ _ (λ e. tt) (λ e. either_place (IsNow l) (is_bad_object_align align) _ _ (λ f. tt) (λ f. tt))
-  call_now c (FreePercpu t) now is = grind arith
-  call_now c (Add t cpu index amount) now is = grind arith
-  call_now c (Sum t index) now is = grind arith
-  call_now c Balance now is = tt
+  call_now c call now is = grind (arith, nat_tests)
 
   -- a call at its beginning
   pub begun_now : (c : Setup) → AreWellNamed l.calls → (o : Option Call) → slice_get l.calls (length l.answers) ≡ o → IsNow l (begin c l.opening l.answers o)
@@ -154,9 +145,7 @@ call_bytes (AllocAtomic bytes align) = Some (4 * words_for bytes)
 call_bytes _ = None
 
 pub begins_sized : (c : Setup) (opening own : List Answered) (call : Call) (bytes : ℕ) → call_bytes call ≡ Some bytes → IsSizedAt bytes (begin_call c opening own call)
-begins_sized c opening own (AllocPercpu asked align) bytes e = grind (arith, same_Some)
-begins_sized c opening own (AllocAtomic asked align) bytes e = grind (arith, same_Some)
-begins_sized c opening own _ bytes e = cc
+begins_sized c opening own call bytes e = grind (arith, nat_tests)
 
 -- What each caller's answers say of its calls, and which call an add and a sum are made for.
 
@@ -171,17 +160,7 @@ unused l p h = grind arith
 
 module _ (l : Local) where
   call_use : (c : Setup) (call : Call) → slice_get l.calls (length l.answers) ≡ Some call → IsUse l (begin_call c l.opening l.answers call)
-  call_use c (Vmalloc bytes align) h = either_place (IsUse l) (is_bad_vmalloc_size c bytes) _ _ (λ e. tt) (λ e. either_place (IsUse l) (is_bad_vmalloc_align align) _ _ (λ f. tt) (λ f. tt))
-  call_use c (Vfree t) h = grind arith
-  call_use c (MapRam cpu pages) h = either_place (IsUse l) (is_bad_map_size c pages) _ _ (λ e. tt) (λ e. either_place (IsUse l) (nat_le pages c.part_limit) _ _ (λ f. tt) (λ f. tt))
-  call_use c (UnmapRam t) h = grind arith
-  call_use c UnmapAliases h = tt
-  call_use c (AllocPercpu bytes align) h = either_place (IsUse l) (is_bad_object_size bytes) _ _ (λ e. tt) (λ e. either_place (IsUse l) (is_bad_object_align align) _ _ (λ f. tt) (λ f. tt))
-  call_use c (AllocAtomic bytes align) h = either_place (IsUse l) (is_bad_object_size bytes) _ _ (λ e. tt) (λ e. either_place (IsUse l) (is_bad_object_align align) _ _ (λ f. tt) (λ f. tt))
-  call_use c (FreePercpu t) h = grind arith
-  call_use c (Add t cpu index amount) h = grind arith
-  call_use c (Sum t index) h = grind arith
-  call_use c Balance h = tt
+  call_use c call h = grind (arith, nat_tests)
 
   begin_use : (c : Setup) (o : Option Call) → slice_get l.calls (length l.answers) ≡ o → IsUse l (begin c l.opening l.answers o)
   begin_use c o h = grind (arith, call_use)
@@ -191,11 +170,7 @@ begin_sized c opening own o call bytes e f = subst (λ x. IsSizedAt bytes (begin
 
 -- no section begins an add or a sum
 unused_next : (c : Setup) (p : Place) (s : Section) (b : Bool) → makes_object p ≡ b → OnNext (λ q. is_using q ≡ false) (next c p s)
-unused_next c p s false e = grind (arith, making_none, is_using)
-unused_next c (SettlingObject at) s true e = refl
-unused_next c (SettlingAtomic at) s true e = tt
-unused_next c (GivingAlloc r made) s true e = tt
-unused_next c _ s true e = cc
+unused_next c p s b e = grind arith
 
 -- of a caller with these calls
 pub record IsLocalSized (own : List Call) (l : Local) : Type 0 where
