@@ -81,12 +81,10 @@ OnNext P (Go p) = P p
 OnNext P (Answer reply made) = Unit {0}
 
 pub either_next : (P : Place → Type 0) (b : Bool) (x y : Next) → OnNext P x → OnNext P y → OnNext P (if b then x else y)
-either_next P true x y p q = p
-either_next P false x y p q = q
+either_next P b x y p q = grind arith
 
 pub either_place : (P : Place → Type 0) (b : Bool) (x y : Place) → (b ≡ true → P x) → (b ≡ false → P y) → P (if b then x else y)
-either_place P true x y p q = p refl
-either_place P false x y p q = q refl
+either_place P b x y p q = grind arith
 
 -- What a search tells.
 
@@ -206,11 +204,7 @@ module _ (P : Place → Type 0) (c : Setup) (have : HaveBeginnings P c) where
   begins_with opening own (Some call) = call_begins opening own call
 
 pub proper_begins : (c : Setup) → HaveBeginnings (IsProper c) c
-proper_begins c _ (AtArea pages align k plain some) = (plain, some)
-proper_begins c _ (AtPart cpu pages e f) = (some_pages c pages e, (let few : pages ≤ c.part_limit = grind (arith, nat_tests) in few))
-proper_begins c _ (AtObject bytes align few) = few
-proper_begins c _ (AtAtomic bytes align few) = few
-proper_begins c _ _ = tt
+proper_begins c x2 x3 = grind arith
 
 -- Where a caller goes, by what holds of the place behind a section and of each beginning.
 
@@ -233,9 +227,7 @@ moved_has P l have h (Answer r made) is =
 pub started_caller : (c : Setup) (answers : List Answered) (first : ℕ) (calls : List (List Call)) (j : ℕ) (l : Local) → slice_get (callers_from c answers first calls) j ≡ Some l
     → (own : List Call) × (slice_get calls j ≡ Some own) × (l ≡ started c answers (first + j) own)
 started_caller c answers first [] j l h = cc
-started_caller c answers first (own ∷ more) zero l h = (own, refl, (let n : first + 0 ≡ first = omega arith in cc))
-started_caller c answers first (own ∷ more) (suc j) l h =
-    let is = started_caller c answers (suc first) more j l h in let n : suc first + j ≡ first + suc j = omega arith in (is.0, is.1, is.2 ∙ ap (λ i. started c answers i is.0) n)
+started_caller c answers first (own ∷ more) j l h = grind (arith, started_caller c answers (suc first) more)
 
 -- callers at their start
 pub all_started : (P : Local → Type 0) (c : Setup) (answers : List Answered) (first : ℕ) (calls : List (List Call)) → ((i : ℕ) (own : List Call) → P (started c answers i own))
@@ -278,9 +270,7 @@ stand_lasts c calls P have keeps = record {
 }
   where
     own : (w : World) (k : ℕ) (l : Local) (s : Section) → IsOwn c k l → P l.setup l.place → IsStep w k l s → P (moved_to l (next l.setup l.place s)).setup (moved_to l (next l.setup l.place s)).place
-    own w k l s is here step = subst (λ d. P d (moved_to l (next l.setup l.place s)).place) (sym (moved_setup l _))
-        (moved_has (P l.setup) l (subst (λ d. HaveBeginnings (P d) d) (sym is.setup) have) (has_call c k l is (not_over l.setup w.map l.place s step.gives)) _
-        (subst (IsKeptAtPlaces P) (sym is.setup) keeps w.map l.place s here step.gives))
+    own w k l s is here step = grind (arith, moved_has)
 
 pub proper_lasts : (c : Setup) (calls : List (List Call)) → IsLasting c calls (AllStand IsProper)
 proper_lasts c calls = stand_lasts c calls IsProper (proper_begins c) (λ m p s. proper_next c m p s)

@@ -34,9 +34,7 @@ module _ (has : Place → Bool) (w : World) (k : ℕ) (l : Local) (t after : Opt
   now_moved = ap (λ (ls : List Local). slice_get ls k) set ∙ set_same w.locals k l moved here
 
   pub turn_moves : IsTurnKept w t has → Change t after k (has l.place) (has moved.place) → IsTurnKept w' after has
-  turn_moves kept (Stays e same) = grind (arith, set_cases, same_or, set_same, set_other)
-  turn_moves kept (Taken none e now) = grind (arith, now_moved, set_cases)
-  turn_moves kept (Given had e now) = grind (arith, set_cases)
+  turn_moves kept x2 = grind (arith, set_other, now_moved)
 
 -- Which sections leave the two turns as they are: all that ask for no turn.
 
@@ -64,8 +62,7 @@ alloc_stays c m k s e = grind arith
 -- What the map gives to an ask for no turn is no section of a turn.
 
 pub no_turn : (c : Setup) (m : PlainMap) (a : Ask) (s : Section) → asks_turn a ≡ false → given c m a ≡ Some s → is_turn s ≡ false
-no_turn c m (AskAddChunk chunk base bytes align) s n e = grind arith
-no_turn c m a s n e = grind (arith, ask_row, given_meets)
+no_turn c m a s n e = grind arith
 
 -- Which places have the two turns, before and after each section.
 
@@ -119,12 +116,10 @@ module _ (c : Setup) (m : PlainMap) where
 -- The turns are kept in each reached world, and the purge turn is taken last.
 
 no_purge_begins : (c : Setup) → HaveBeginnings (Has has_purge false) c
-no_purge_begins c _ AtOver = refl
-no_purge_begins c _ _ = refl
+no_purge_begins c x2 x3 = grind arith
 
 no_alloc_begins : (c : Setup) → HaveBeginnings (Has has_alloc false) c
-no_alloc_begins c _ AtOver = refl
-no_alloc_begins c _ _ = refl
+no_alloc_begins c x2 x3 = grind arith
 
 module _ (has : Place → Bool) (none : (c : Setup) → HaveBeginnings (Has has false) c) where
   has_moved : (l : Local) → length l.answers < length l.calls → (n : Next) → has (moved_to l n).place ≡ has_next has n
@@ -149,9 +144,7 @@ module _ (has : Place → Bool) (none : (c : Setup) → HaveBeginnings (Has has 
 
   turn_step : (w : World) (l : Local) (s : Section) (t after : Option ℕ) → slice_get w.locals l.caller ≡ Some l → length l.answers < length l.calls
       → IsTurnKept w t has → Change t after l.caller (has l.place) (has_next has (next l.setup l.place s)) → IsTurnKept (made_by w l s) after has
-  turn_step w l s t after here h kept change =
-      turn_moves has w l.caller l t after (made_by w l s) (moved_to l (next l.setup l.place s)) here refl kept
-      (subst (Change t after l.caller (has l.place)) (sym (has_moved l h (next l.setup l.place s))) change)
+  turn_step w l s t after here h kept change = search (turn_moves, has_moved, arith) depth 6
 
 -- what is needed beside the turns themselves
 pub record AreTurnsProper (w : World) : Type 0 where
@@ -159,13 +152,7 @@ pub record AreTurnsProper (w : World) : Type 0 where
   pub turns : AreTurnsKept w
 
 turns_step : (c : Setup) (w : World) (k : ℕ) (l : Local) (s : Section) → IsFramed c w → AreTurnsKept w → IsProper l.setup l.place → IsStep w k l s → AreTurnsKept (made_by w l s)
-turns_step c w k l s framed kept proper step =
-    let own = framed.own k l step.here in
-    let here : slice_get w.locals l.caller ≡ Some l = subst (λ i. slice_get w.locals i ≡ Some l) (sym own.caller) step.here in
-    let call = has_call c k l own (not_over l.setup w.map l.place s step.gives) in record {
-      purge = turn_step has_purge no_purge_begins w l s w.map.purge_turn _ here call kept.purge (purge_change l.setup w.map l.caller l.place s step.gives);
-      alloc = turn_step has_alloc no_alloc_begins w l s w.map.alloc_turn _ here call kept.alloc (alloc_change l.setup w.map l.caller l.place s proper step.gives);
-    }
+turns_step c w k l s framed kept proper step = grind (arith, turn_step, no_purge_begins, purge_change, no_alloc_begins, alloc_change)
 
 pub turns_last : (c : Setup) (calls : List (List Call)) → IsLasting c calls AreTurnsProper
 turns_last c calls = record {
@@ -180,10 +167,7 @@ turns_last c calls = record {
 }
 
 pub turns_first : (c : Setup) (opening : List Call) (calls : List (List Call)) → AreTurnsProper (opening_world c opening calls)
-turns_first c opening calls = record {
-  proper = stand_first IsProper c opening calls (proper_begins c);
-  turns = record { purge = turn_first has_purge no_purge_begins c opening calls; alloc = turn_first has_alloc no_alloc_begins c opening calls };
-}
+turns_first c opening calls = grind (arith, stand_first, proper_begins, turn_first, no_purge_begins, no_alloc_begins)
 
 pub turns_proper : (c : Setup) (opening : List Call) (calls : List (List Call)) (w : World) → IsReached c opening calls w → IsFramed c w × AreTurnsProper w
 turns_proper c opening calls w reached = lasts c opening calls AreTurnsProper (turns_first c opening calls) (turns_last c calls) w reached

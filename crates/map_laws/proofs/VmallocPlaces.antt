@@ -96,8 +96,7 @@ moved_aligned : (l : Local) (m : PlainMap) (s : Section) → length l.answers < 
 moved_aligned l m s call gives is (Go p) e = record { answers = is.answers; now = λ bytes align h. subst (IsNextAt (align_pages align)) e (next_at l.setup m (align_pages align) l.place s (is.now bytes align h) gives) }
 moved_aligned l m s call gives is (Answer r made) e =
     let at = answers_call l r made call in
-    subst IsLocalAligned (sym at.2) (answered_aligned l (record { call = at.0; reply = r; made = made; own_event = suc l.events }) is
-    (made_at at.0 made (λ bytes align f. subst (IsNextAt (align_pages align)) e (next_at l.setup m (align_pages align) l.place s (is.now bytes align (at.1 ∙ ap (λ x. Some x) f)) gives))))
+    subst IsLocalAligned (sym at.2) (grind (arith, answered_aligned, made_at))
 
 started_aligned : (c : Setup) (opening : List Answered) (k : ℕ) (own : List Call) → IsLocalAligned (started c opening k own)
 started_aligned c opening k own = record { answers = λ i a h. cc; now = λ bytes align h. starts_at c opening [] (slice_get own 0) bytes align h }
