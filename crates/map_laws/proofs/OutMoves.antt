@@ -1,4 +1,5 @@
 -- What the sections that settle, remove and unlink areas do to pages, and those inside of blocks and chunks.
+use Rattle.map_laws.proofs.chunks.ChunkFalls.{mapped_at}
 use Rattle.std.proofs.lemmas.Bool.Decides.{nat_tests}
 use Rattle.std.proofs.Common.{Bool, List, Some, [], ap, arith, false, filter, if◌then◌else◌, inl, inr, length, map, not, option_map, refl, slice_get, suc, sum_by, sym, true, zero, ℕ, ◌+◌, ◌∙◌, ◌∷◌, ◌≡◌, ◌≢◌, ◌≤◌, ◌⊎◌, Option, subst}
 use Rattle.std.proofs.lemmas.List.Sums.{sum_by-cons}
@@ -19,7 +20,7 @@ use Rattle.vm_model.specs.declared.areas.Area.{Area}
 use Rattle.vm_model.specs.declared.areas.AreaKind.{AreaKind}
 use Rattle.vm_model.specs.declared.areas.Span.{Span}
 use Rattle.map_laws.proofs.areas.AreaFacts.{IsAreaFine, IsMapFine, IsUnbearing, area_stays, guard_part, own_uses, IsHolding, mapped_covers, guard_covers, same_mapped, same_unmapped, IsSame, painted, spans_of-areas_of, touch, unmarked_live, untouched}
-use Rattle.map_laws.proofs.TestsAndFilters.{not_true, IsIn, filter_has, in_more, sum_has, put_in, put_sum, covers_one, covers_times, in_spans, none_covers, times-cons, times-one}
+use Rattle.map_laws.proofs.TestsAndFilters.{not_true, IsIn, filter_has, in_more, sum_has, put_in, put_sum, covers_one, covers_times, in_spans, none_covers, times-cons, times-one, covers_in}
 use Rattle.map_laws.proofs.KeptThroughSteps.{same_or, there}
 use Rattle.map_laws.proofs.Quiet.{area_times, held_fine, live_fine, page_by, painted_free, times_areas, times_both}
 use Rattle.map_laws.proofs.PlaceMoves.{IsMoved, unbearing_own, unbearing_uses}
@@ -50,8 +51,7 @@ with_times page xs areas = omega (arith, times_areas page (with_areas xs areas),
 
 -- a page of the spans is in one of the areas
 pub covering : (page : ℕ) (xs : List Area) → covers (spans_of xs) page ≡ true → (a : Area) × IsIn a xs × (holds a.span page ≡ true)
-covering page [] h = cc
-covering page (x ∷ xs) h = grind (arith, covering page xs, in_more)
+covering page xs h = let from = covers_in page (spans_of xs) h in let at = mapped_at (λ (a : Area). a.span) xs from.1.place from.0 from.1.at in (at.0, record { place = from.1.place; at = at.1 }, ap (λ s. holds s page) at.2 ∙ from.2)
 
 some_painted : (test : ℕ → Bool) (mark : Mark) (marks : List Mark) (page : ℕ) (old : Mark) → slice_get marks page ≡ Some old → (new : Mark) × (slice_get (paint test mark marks) page ≡ Some new)
 some_painted test mark marks page old h = ((if test page then mark else old), slice_get-paint test mark marks page ∙ ap (option_map (λ y. if test page then mark else y)) h)

@@ -194,6 +194,15 @@ pub covers_append : (page : ℕ) (xs ys : List Span) → covers (xs ++ ys) page 
 covers_append page [] ys = refl
 covers_append page (x ∷ xs) ys = ap (λ b. holds x page || b) (covers_append page xs ys) ∙ or_assoc (holds x page) (covers xs page) (covers ys page)
 
+-- a page that spans cover is in one of them
+pub covers_in : (page : ℕ) (spans : List Span) → covers spans page ≡ true → (s : Span) × IsIn s spans × (holds s page ≡ true)
+covers_in page [] h = cc
+covers_in page (s ∷ spans) h = grind (arith, covers_in page spans, in_more, nat_tests)
+
+pub in_covers : (page : ℕ) (spans : List Span) (i : ℕ) (s : Span) → slice_get spans i ≡ Some s → holds s page ≡ true → covers spans page ≡ true
+in_covers page [] i s e h = cc
+in_covers page (t ∷ spans) i s e h = grind (arith, in_covers page spans, nat_tests)
+
 -- The hull covers each of its spans.
 
 pub record IsHull (spans : List Span) (o : Option Span) : Type 0 where

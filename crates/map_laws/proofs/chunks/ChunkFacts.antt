@@ -1,4 +1,7 @@
 -- What is kept of chunks, of their areas and of their pages between two events, and of the chunks at callers' places.
+use Rattle.map_laws.proofs.SearchEnds.{flat_has}
+use Rattle.map_laws.proofs.GivenMeets.{flat_in}
+use Rattle.map_laws.proofs.chunks.ChunkFalls.{mapped_at}
 use Rattle.std.proofs.lemmas.Bool.{cases_lt}
 use Rattle.std.proofs.Common.{Bool, List, Some, [], ap, arith, false, flat_map, inl, inr, length, map, nat_lt, option_map, refl, slice_get, subst, suc, sym, true, zero, ℕ, ◌++◌, ◌+◌, ◌<◌, ◌==◌, ◌||◌, ◌∙◌, ◌∷◌, ◌≡◌, ◌≢◌, ◌≤◌, ◌⊎◌}
 use Rattle.std.proofs.lemmas.Bool.Decides.{nat_tests}
@@ -14,7 +17,7 @@ use Rattle.vm_model.specs.declared.areas.Area.{Area}
 use Rattle.vm_model.specs.declared.areas.Span.{Span}
 use Rattle.map_laws.proofs.blocks.BlockFacts.{IsStill, same_test, still_bare, still_mapped, still_unmapped, to_same}
 use Rattle.map_laws.proofs.blocks.BlockPlaces.{IsInChunk}
-use Rattle.map_laws.proofs.TestsAndFilters.{IsIn, or_assoc, or_either, or_right, holds_from}
+use Rattle.map_laws.proofs.TestsAndFilters.{IsIn, or_assoc, or_either, or_right, holds_from, among_in, in_among, covers_in, in_covers}
 use Rattle.map_laws.proofs.KeptThroughSteps.{same_or}
 use Rattle.vm_model.specs.declared.areas.AreaKind.TheVariants as kind
 
@@ -90,10 +93,6 @@ IsChunkAt c m _ = Unit {0}
 
 -- Pages in units and in groups.
 
-pub among_append : (x : ℕ) (xs ys : List ℕ) → is_among (xs ++ ys) x ≡ (is_among xs x || is_among ys x)
-among_append x [] ys = refl
-among_append x (y ∷ xs) ys = ap (λ b. (y == x) || b) (among_append x xs ys) ∙ or_assoc (y == x) (is_among xs x) (is_among ys x)
-
 -- a page of a unit, by its number there
 pub record IsUnitPage (c : Setup) (base : ℕ) (pages : List ℕ) (x : ℕ) : Type 0 where
   pub cpu : ℕ
@@ -103,65 +102,37 @@ pub record IsUnitPage (c : Setup) (base : ℕ) (pages : List ℕ) (x : ℕ) : Ty
   pub among : is_among pages page ≡ true
   pub same : x ≡ base + unit + page
 
-shifted_among : (first x : ℕ) (pages : List ℕ) → is_among (map (λ page. first + page) pages) x ≡ true → (page : ℕ) × (is_among pages page ≡ true) × (x ≡ first + page)
-shifted_among first x [] h = cc
-shifted_among first x (page ∷ pages) h = grind (arith, shifted_among first x pages, or_either, same_test, to_same, or_right, nat_tests)
-
-among_shifted : (first page : ℕ) (pages : List ℕ) → is_among pages page ≡ true → is_among (map (λ page. first + page) pages) (first + page) ≡ true
-among_shifted first page [] h = cc
-among_shifted first page (p ∷ pages) h = grind (arith, among_shifted first page pages, or_either, to_same, same_test, or_right, nat_tests)
-
-units_in : (base x : ℕ) (pages units : List ℕ) → is_among (flat_map (λ unit. map (λ page. base + unit + page) pages) units) x ≡ true
-    → (cpu : ℕ) × (unit : ℕ) × (page : ℕ) × (slice_get units cpu ≡ Some unit) × (is_among pages page ≡ true) × (x ≡ base + unit + page)
-units_in base x pages [] h = cc
-units_in base x pages (unit ∷ units) h = elim (or_either (is_among (map (λ page. base + unit + page) pages) x) _ (sym (among_append x (map (λ page. base + unit + page) pages) _) ∙ h)) [
-  | inl e ↦ let is = shifted_among (base + unit) x pages e in (0, unit, is.0, refl, is.1, is.2)
-  | inr e ↦ let is = units_in base x pages units e in (suc is.0, is.1, is.2, is.3, is.4, is.5)
-]
-
 pub unit_page : (c : Setup) (base x : ℕ) (pages : List ℕ) → is_among (pages_in_units c base pages) x ≡ true → IsUnitPage c base pages x
-unit_page c base x pages h = let is = units_in base x pages c.units h in record { cpu = is.0; unit = is.1; at = is.3; page = is.2; among = is.4; same = is.5 }
-
-in_units : (base page cpu unit : ℕ) (pages units : List ℕ) → slice_get units cpu ≡ Some unit → is_among pages page ≡ true → is_among (flat_map (λ unit. map (λ page. base + unit + page) pages) units) (base + unit + page) ≡ true
-in_units base page cpu unit pages [] e h = cc
-in_units base page zero unit pages (u ∷ units) e h = let same : u ≡ unit = cc in
-    among_append (base + unit + page) (map (λ page. base + u + page) pages) _
-    ∙ ap (λ b. b || is_among (flat_map (λ unit. map (λ page. base + unit + page) pages) units) (base + unit + page)) (ap (λ n. is_among (map (λ page. base + n + page) pages) (base + unit + page)) same ∙ among_shifted (base + unit) page pages h)
-in_units base page (suc cpu) unit pages (u ∷ units) e h = grind (arith, in_units base page cpu unit pages units e h, among_append, or_right, nat_tests)
+unit_page c base x pages h =
+    let from = flat_in (λ unit. map (λ page. base + unit + page) pages) c.units x (among_in x (pages_in_units c base pages) h) in let at = mapped_at (λ page. base + from.0 + page) pages from.2.place x from.2.at in
+    record { cpu = from.1.place; unit = from.0; at = from.1.at; page = at.0; among = in_among at.0 pages (record { place = from.2.place; at = at.1 }); same = sym at.2 }
 
 pub page_in_units : (c : Setup) (base page cpu unit : ℕ) (pages : List ℕ) → slice_get c.units cpu ≡ Some unit → is_among pages page ≡ true → is_among (pages_in_units c base pages) (base + unit + page) ≡ true
-page_in_units c base page cpu unit pages e h = in_units base page cpu unit pages c.units e h
+page_in_units c base page cpu unit pages e h =
+    let there = among_in page pages h in in_among (base + unit + page) (pages_in_units c base pages) (flat_has (λ unit. map (λ page. base + unit + page) pages) c.units cpu unit (base + unit + page) e
+    (record { place = there.place; at = slice_get-map (λ page. base + unit + page) pages there.place ∙ ap (option_map (λ page. base + unit + page)) there.at }))
 
 -- the group of a page of the groups at a base
 pub group_in : (base page : ℕ) (groups : List Span) → covers (map (λ (g : Span). span (base + g.start) g.pages) groups) page ≡ true
     → (group : ℕ) × (g : Span) × (slice_get groups group ≡ Some g) × (holds (span (base + g.start) g.pages) page ≡ true)
-group_in base page [] h = cc
-group_in base page (g ∷ groups) h = elim (or_either (holds (span (base + g.start) g.pages) page) _ h) [
-  | inl e ↦ (0, g, refl, e)
-  | inr e ↦ let is = group_in base page groups e in (suc is.0, is.1, is.2, is.3)
-]
+group_in base page groups h =
+    let from = covers_in page (map (λ (g : Span). span (base + g.start) g.pages) groups) h in let at = mapped_at (λ (g : Span). span (base + g.start) g.pages) groups from.1.place from.0 from.1.at in
+    (from.1.place, at.0, at.1, ap (λ s. holds s page) at.2 ∙ from.2)
 
-group_covers : (base page group : ℕ) (g : Span) (groups : List Span) → slice_get groups group ≡ Some g → holds (span (base + g.start) g.pages) page ≡ true → covers (map (λ (g : Span). span (base + g.start) g.pages) groups) page ≡ true
-group_covers base page group g [] e h = cc
-group_covers base page zero g (x ∷ groups) e h = grind (arith, nat_tests)
-group_covers base page (suc group) g (x ∷ groups) e h = or_right (holds (span (base + x.start) x.pages) page) _ (group_covers base page group g groups e h)
+shifted_at : (base group : ℕ) (g : Span) (groups : List Span) → slice_get groups group ≡ Some g → slice_get (map (λ (g : Span). span (base + g.start) g.pages) groups) group ≡ Some (span (base + g.start) g.pages)
+shifted_at base group g groups e = slice_get-map (λ (g : Span). span (base + g.start) g.pages) groups group ∙ ap (option_map (λ (g : Span). span (base + g.start) g.pages)) e
 
 -- the group whose span starts there
-starts_in : (base start : ℕ) (groups : List Span) → is_among (map (λ (s : Span). s.start) (map (λ (g : Span). span (base + g.start) g.pages) groups)) start ≡ true
-    → (group : ℕ) × (g : Span) × (slice_get groups group ≡ Some g) × (base + g.start ≡ start)
-starts_in base start [] h = cc
-starts_in base start (g ∷ groups) h = elim (or_either (base + g.start == start) _ h) [
-  | inl e ↦ (0, g, refl, to_same (base + g.start) start e)
-  | inr e ↦ let is = starts_in base start groups e in (suc is.0, is.1, is.2, is.3)
-]
-
 pub start_of : (c : Setup) (base start : ℕ) → is_among (group_starts c base) start ≡ true → (group : ℕ) × (g : Span) × (slice_get c.groups group ≡ Some g) × (base + g.start ≡ start)
-start_of c base start h = starts_in base start c.groups h
+start_of c base start h =
+    let there = among_in start (group_starts c base) h in let one = mapped_at (λ (s : Span). s.start) (groups_at c base) there.place start there.at in
+    let two = mapped_at (λ (g : Span). span (base + g.start) g.pages) c.groups there.place one.0 one.1 in (there.place, two.0, two.1, ap (λ (s : Span). s.start) two.2 ∙ one.2)
 
 pub starts_at : (base group : ℕ) (g : Span) (groups : List Span) → slice_get groups group ≡ Some g → is_among (map (λ (s : Span). s.start) (map (λ (g : Span). span (base + g.start) g.pages) groups)) (base + g.start) ≡ true
-starts_at base group g [] e = cc
-starts_at base zero g (x ∷ groups) e = grind (arith, same_test, nat_tests)
-starts_at base (suc group) g (x ∷ groups) e = or_right (base + x.start == base + g.start) _ (starts_at base group g groups e)
+starts_at base group g groups e = in_among (base + g.start) _ (record {
+  place = group;
+  at = slice_get-map (λ (s : Span). s.start) (map (λ (g : Span). span (base + g.start) g.pages) groups) group ∙ ap (option_map (λ (s : Span). s.start)) (shifted_at base group g groups e);
+})
 
 -- a page of a live group
 pub group_page : (c : Setup) (m : PlainMap) (chunk base page : ℕ) → AreGroupsLive c m chunk base → covers (groups_at c base) page ≡ true
@@ -173,7 +144,7 @@ group_page c m chunk base page live h =
 pub unit_covered : (c : Setup) (base page cpu unit : ℕ) → AreUnits c → slice_get c.units cpu ≡ Some unit → page < c.unit_pages → covers (groups_at c base) (base + unit + page) ≡ true
 unit_covered c base page cpu unit units at low =
     let is = units.within cpu unit at in let low' = is.3 in let high' = is.4 in
-    group_covers base (base + unit + page) is.0 is.1 c.groups is.2 (holds_from (span (base + is.1.start) is.1.pages) (base + unit + page) (omega arith) (omega arith))
+    in_covers (base + unit + page) (groups_at c base) is.0 (span (base + is.1.start) is.1.pages) (shifted_at base is.0 is.1 c.groups is.2) (holds_from (span (base + is.1.start) is.1.pages) (base + unit + page) (omega arith) (omega arith))
 
 -- a page stands in one place of one unit
 unit_apart : (c : Setup) (page other cpu cpu' unit unit' : ℕ) → AreUnits c → slice_get c.units cpu ≡ Some unit → slice_get c.units cpu' ≡ Some unit' → page < c.unit_pages → other < c.unit_pages → cpu < cpu' → unit + page ≡ unit' + other → ⊥
