@@ -113,18 +113,18 @@ module _ (c : Setup) (placing placing' : ℕ → ℕ → Type 0) (k : ℕ) (at :
       (λ x is e. subst (λ (y : Chunk). AreObjectsFine c placing' (with_object k at y)) (same_chunk chunks h x fine.once there is (numbered ∙ sym e)) own_fine)
       (λ x is apart. more_fine c placing placing' x (more x.number) (fine.each x is))
 
-  pub placed_object : IsObject (change_chunk at.chunk (with_object k at) chunks) at (InHand k)
-  placed_object = record {
-    chunk = with_object k at h;
-    there = keyed_in (λ (x : Chunk). x.number) at.chunk (with_object k at) chunks h there numbered;
-    numbered = numbered;
-    based = based;
-    object = new_object;
-    object_there = put_new (λ (o : Object). o.off) new_object h.objects;
-    off = refl;
-    bytes = refl;
-    lives = refl;
-  }
+pub placed_object : (k : ℕ) (at : ObjectAt) (chunks : List Chunk) (h : Chunk) → IsIn h chunks → h.number ≡ at.chunk → h.base ≡ at.base → IsObject (change_chunk at.chunk (with_object k at) chunks) at (InHand k)
+placed_object k at chunks h there numbered based = record {
+  chunk = with_object k at h;
+  there = keyed_in (λ (x : Chunk). x.number) at.chunk (with_object k at) chunks h there numbered;
+  numbered = numbered;
+  based = based;
+  object = record { off = at.off; bytes = at.bytes; caller = k; life = InHand k };
+  object_there = put_new (λ (o : Object). o.off) (record { off = at.off; bytes = at.bytes; caller = k; life = InHand k }) h.objects;
+  off = refl;
+  bytes = refl;
+  lives = refl;
+}
 
 pub placed_keeps : (k : ℕ) (at : ObjectAt) (chunks : List Chunk) (other : ObjectAt) (life : Life) → IsObject chunks other life → IsObject (change_chunk at.chunk (with_object k at) chunks) other life
 placed_keeps k at chunks other life is = changed_object at.chunk (with_object k at) (λ h. refl) (λ h. refl) chunks other life is

@@ -97,8 +97,7 @@ module _ (c : Setup) (m : PlainMap) (k : ℕ) (numbered : AreNumbered m) (long :
       let is = placement_is c (plain_fit c at.bytes align) at.bytes m.chunks at missing legal in record {
         fine = placed_fine c _ _ k at m.chunks all is.chunk is.there (sym is.numbered) (sym is.based) size (bit_list c is.chunk) (fitting at.bytes align at.off (bit_list c is.chunk) is.fits) (length-tabulated _ (unit_bits c) 0) (plain_free c is.chunk)
             (others_only (Choosing bytes align) all (λ number off mine. mine) (Go (Populating at missing))) (inr (inr (refl, refl)));
-        own = placed_object c _ (λ number off. placing number off ⊎ next_placed (Go (Populating at missing)) number off) k at m.chunks all is.chunk is.there (sym is.numbered) (sym is.based) size (bit_list c is.chunk) (fitting at.bytes align at.off (bit_list c is.chunk) is.fits) (length-tabulated _ (unit_bits c) 0)
-            (plain_free c is.chunk) (others_only (Choosing bytes align) all (λ number off mine. mine) (Go (Populating at missing))) (inr (inr (refl, refl)));
+        own = placed_object k at m.chunks is.chunk is.there (sym is.numbered) (sym is.based);
         keeps = λ other life there never. placed_keeps k at m.chunks other life there;
       }
 
@@ -109,8 +108,7 @@ module _ (c : Setup) (m : PlainMap) (k : ℕ) (numbered : AreNumbered m) (long :
       let is = placement_is c (plain_fit c at.bytes align) at.bytes (m.chunks ++ new_chunk c chunk base ∷ []) at missing legal.2 in record {
         fine = placed_fine c placing _ k at (m.chunks ++ new_chunk c chunk base ∷ []) grown is.chunk is.there (sym is.numbered) (sym is.based) size (bit_list c is.chunk) (fitting at.bytes align at.off (bit_list c is.chunk) is.fits) (length-tabulated _ (unit_bits c) 0) (plain_free c is.chunk)
             (λ number off b. inl b) (inr (inr (refl, refl)));
-        own = placed_object c placing (λ number off. placing number off ⊎ next_placed (Go (Populating at missing)) number off) k at (m.chunks ++ new_chunk c chunk base ∷ []) grown is.chunk is.there (sym is.numbered) (sym is.based) size (bit_list c is.chunk)
-            (fitting at.bytes align at.off (bit_list c is.chunk) is.fits) (length-tabulated _ (unit_bits c) 0) (plain_free c is.chunk) (λ number off b. inl b) (inr (inr (refl, refl)));
+        own = placed_object k at (m.chunks ++ new_chunk c chunk base ∷ []) is.chunk is.there (sym is.numbered) (sym is.based);
         keeps = λ other life there never. placed_keeps k at (m.chunks ++ new_chunk c chunk base ∷ []) other life (grown_keeps c m.chunks chunk base other life there);
       }
 
@@ -122,8 +120,7 @@ module _ (c : Setup) (m : PlainMap) (k : ℕ) (numbered : AreNumbered m) (long :
       (λ page f. placed.populated (with_object k at is.chunk) (keyed_in (λ (x : Chunk). x.number) at.chunk (with_object k at) m.chunks is.chunk is.there (sym is.numbered)) (sym is.numbered) page f) in record {
         fine = placed_fine c _ _ k at m.chunks all is.chunk is.there (sym is.numbered) (sym is.based) size (atomic_bits c is.chunk) (fitting at.bytes align at.off (atomic_bits c is.chunk) is.fits) (length-tabulated _ (unit_bits c) 0) (atomic_free c is.chunk)
             (others_only (ChoosingAtomic bytes align) all (λ number off mine. mine) (Go (Zeroing at))) (inl done);
-        own = placed_object c _ (λ number off. placing number off ⊎ next_placed (Go (Zeroing at)) number off) k at m.chunks all is.chunk is.there (sym is.numbered) (sym is.based) size (atomic_bits c is.chunk) (fitting at.bytes align at.off (atomic_bits c is.chunk) is.fits) (length-tabulated _ (unit_bits c) 0)
-            (atomic_free c is.chunk) (others_only (ChoosingAtomic bytes align) all (λ number off mine. mine) (Go (Zeroing at))) (inl done);
+        own = placed_object k at m.chunks is.chunk is.there (sym is.numbered) (sym is.based);
         keeps = λ other life there never. placed_keeps k at m.chunks other life there;
       }
 
