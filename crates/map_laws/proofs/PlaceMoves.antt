@@ -143,7 +143,7 @@ module _ (c : Setup) (m : PlainMap) (k : ℕ) (fine : IsMapFine m) where
 
     groups_uses : (spans : List Span) (page : ℕ) → InSpans page spans → times page spans ≤ as_free (slice_get m.marks page)
         → times page spans + as_free (slice_get (paint (covers spans) (Held k) m.marks) page) ≤ as_free (slice_get m.marks page)
-    groups_uses spans page x2 free = grind (arith, painted_free, nat_tests)
+    groups_uses spans page either free = grind (arith, painted_free, nat_tests)
 
     group_free : (spans : List Span) (page : ℕ) → times page spans ≤ as_free (slice_get m.marks page) → covers spans page ≡ true → IsMarked m Free page
     group_free spans page free e = let n = covers_times page spans e in free_there (slice_get m.marks page) (omega arith)
@@ -189,7 +189,7 @@ module _ (c : Setup) (m : PlainMap) (k : ℕ) (fine : IsMapFine m) where
   return_outer waited after once legal = grind (arith, covers_times, free_fine, painted, nat_tests)
 
   covers_le : (page : ℕ) (spans : List Span) → InSpans page spans → one_if (covers spans page) ≤ times page spans
-  covers_le page spans x2 = grind (arith, nat_tests)
+  covers_le page spans either = grind (arith, nat_tests)
 
   pub return_moved : (waited : List Span) (after : Then) (once : (page : ℕ) → own_uses c m (PurgeReturning waited after) page ≤ 1) (n : Next) → OnNext IsUnbearing n
       → IsLegalAs c m k (Return waited) → IsMoved c m k (PurgeReturning waited after) (Return waited) n
@@ -246,7 +246,7 @@ module _ (c : Setup) (m : PlainMap) (k : ℕ) (fine : IsMapFine m) where
 
     unmap_frames : (page : ℕ) → (holds (mapped_part area.kind area.span) page ≡ true) ⊎ (covers (guard_part area.kind area.span ∷ []) page ≡ true)
         → IsUnmapped (effect_as c m k (Unmap (mapped_part area.kind area.span))) page
-    unmap_frames page x1 = grind (arith, covers_one, painted, painted_still, nat_tests)
+    unmap_frames page either = grind (arith, covers_one, painted, painted_still, nat_tests)
 
     pub unmap_moved : (after : Then) → IsMoved c m k (UnmappingArea area) (Unmap (mapped_part area.kind area.span)) (Go (Waiting (area.span ∷ []) after))
     unmap_moved after = record {
@@ -271,7 +271,7 @@ module _ (c : Setup) (m : PlainMap) (k : ℕ) (fine : IsMapFine m) where
     wait_marked page b w e = grind (arith, painted_still, painted)
 
     wait_free : (page : ℕ) → InSpans page spans → as_free (slice_get (paint (covers spans) Waits m.marks) page) ≤ as_free (slice_get m.marks page)
-    wait_free page x1 = grind (arith, painted_free, nat_tests)
+    wait_free page either = grind (arith, painted_free, nat_tests)
 
     pub wait_moved : (n : Next) → OnNext IsUnbearing n → IsMoved c m k p (Wait spans waiting) n
     wait_moved n none_next = record {
@@ -302,7 +302,7 @@ module _ (c : Setup) (m : PlainMap) (k : ℕ) (fine : IsMapFine m) where
     }
 
     take_free : (page : ℕ) → InSpans page m.waiting → as_free (slice_get (paint (covers m.waiting) (Flushing k) m.marks) page) ≤ as_free (slice_get m.marks page)
-    take_free page x1 = grind (arith, painted_free, nat_tests)
+    take_free page either = grind (arith, painted_free, nat_tests)
 
     -- the hull covers what waited
     in_hull : (s : Span) → hull (m.waiting ++ option_to_list extra) ≡ Some s → (page : ℕ) → covers m.waiting page ≡ true → holds s page ≡ true

@@ -40,10 +40,10 @@ potential c w = sum_by (weight c) w.locals + worth_of c w.map.chunks + credit_of
 -- The beginnings of calls.
 
 pub left_begins : (c : Setup) → HaveBeginnings (λ p. left c p ≤ per_call c) c
-left_begins c x2 x3 = grind arith
+left_begins c p opens = grind arith
 
 credit_begins : (chunks : List Chunk) (c : Setup) → HaveBeginnings (λ p. credit chunks p ≡ 0) c
-credit_begins chunks c x3 x4 = grind arith
+credit_begins chunks c p opens = grind arith
 
 credit_moved : (chunks : List Chunk) (l : Local) (n : Next) → length l.answers < length l.calls → credit chunks (moved_to l n).place ≡ credit_next chunks n
 credit_moved chunks l (Go p) h = refl
@@ -118,7 +118,7 @@ module _ (w : World) (l : Local) (s : Section) (here : slice_get w.locals l.call
       record { less = omega (arith, old, place_falls l.setup w.map l.caller units sized l.place s proper gives) }
 
   by_change : (later : Option ℕ) → Change w.map.alloc_turn later l.caller (has_alloc l.place) (has_next has_alloc (next l.setup l.place s)) → Falls w.map.alloc_turn later
-  by_change later x2 = grind (arith, stays_by, taken_falls, given_falls)
+  by_change later change = grind (arith, stays_by, taken_falls, given_falls)
 
   pub own_falls : Falls w.map.alloc_turn (effect_as l.setup w.map l.caller s).alloc_turn
   own_falls = by_change _ (alloc_change l.setup w.map l.caller l.place s proper gives)

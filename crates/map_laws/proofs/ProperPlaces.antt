@@ -204,7 +204,7 @@ module _ (P : Place → Type 0) (c : Setup) (have : HaveBeginnings P c) where
   begins_with opening own (Some call) = call_begins opening own call
 
 pub proper_begins : (c : Setup) → HaveBeginnings (IsProper c) c
-proper_begins c x2 x3 = grind arith
+proper_begins c p opens = grind arith
 
 -- Where a caller goes, by what holds of the place behind a section and of each beginning.
 

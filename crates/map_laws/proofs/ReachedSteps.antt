@@ -12,7 +12,7 @@ use Rattle.map_laws.proofs.objects.ObjectsReady.{trace_legal}
 
 -- a run on from a reached world leads to another
 runs_on : (c : Setup) (opening : List Call) (calls : List (List Call)) (w v : World) → IsReached c opening calls w → IsRunTo w v → IsReached c opening calls v
-runs_on c opening calls w v x5 on = grind (arith, run_append, after_append)
+runs_on c opening calls w v reached on = grind (arith, run_append, after_append)
 
 step_reached : (c : Setup) (opening : List Call) (calls : List (List Call)) (w : World) (k : ℕ) → IsTrace c opening calls → IsReached c opening calls w → IsReached c opening calls (step w k)
 step_reached c opening calls w k trace reached =

@@ -61,7 +61,7 @@ pub data IsOldOrNew (m m' : PlainMap) (a : Area) : Type 0 where
 
 module _ (c : Setup) (m : PlainMap) (k : ℕ) where
   new_area : (areas : List (Span × AreaKind)) (first : ℕ) (a : Area) → first ≡ m.next_area → IsIn a (areas_of k first areas) ⊎ IsIn a m.areas → IsOldOrNew m (effect_as c m k (Settle areas first)) a
-  new_area areas first a e x4 = grind (arith, slice_get_within, settled_serial, length-areas_of, nat_tests)
+  new_area areas first a e either = grind (arith, slice_get_within, settled_serial, length-areas_of, nat_tests)
 
   pub old_or_new : (s : Section) → IsLegalAs c m k s → (a : Area) → IsIn a (effect_as c m k s).areas → IsOldOrNew m (effect_as c m k s) a
   old_or_new (Settle areas first) legal a there = new_area areas first a legal.1 (with_in (areas_of k first areas) m.areas a there)

@@ -40,11 +40,11 @@ next_grows : (c : Setup) (m : PlainMap) (k : ℕ) (s : Section) → IsLegalAs c 
 next_grows c m k s legal = grind arith
 
 settling_zeroed : (at : ObjectAt) (p : Place) → SettlesAt at p → IsZeroedAt p at
-settling_zeroed at p x2 = grind arith
+settling_zeroed at p settles = grind arith
 
 was_or_settled : (chunks : List Chunk) (at : ObjectAt) (serial : ℕ) (t : Section) → CameFrom chunks at serial t
     → IsObject chunks at (Lives serial) ⊎ ((o : ObjectAt) × (t ≡ SettleObject o serial) × (at.chunk ≡ o.chunk) × (at.off ≡ o.off))
-was_or_settled chunks at serial r x4 = grind arith
+was_or_settled chunks at serial r from = grind arith
 
 module _ (c : Setup) (w : World) (own : AreWordsOwn c w) (kept : IsSummed c w) (k : ℕ) (l : Local) (here : slice_get w.locals k ≡ Some l) (hand : IsObjectAt w.map k l.place) (usable : IsUsable c w.map l.place) where
   module _ (s : Section) (meets : Meets c (ask c l.place) s) (legal : IsLegalAs c w.map k s) (moved : Local) where
@@ -184,7 +184,7 @@ pub record IsSumWorld (c : Setup) (opening : List Call) (calls : List (List Call
   pub summed : IsSummed c w
 
 just_begins : (P : Place → Type 0) (c : Setup) → ((p : Place) → ((at : ObjectAt) → IsZeroedAt p at → ⊥) → P p) → HaveBeginnings P c
-just_begins P c have x4 x5 = grind arith
+just_begins P c have p opens = grind arith
 
 -- a beginning settles nothing
 abbrev IsUnsettling : Place → Type 0

@@ -59,7 +59,7 @@ abbrev pub IsUnnumbered : Place → Type 0
 IsUnnumbered p = chunk_number p ≡ None
 
 unnumbered_begins : (c : Setup) → HaveBeginnings IsUnnumbered c
-unnumbered_begins c x2 x3 = grind arith
+unnumbered_begins c p opens = grind arith
 
 -- another caller's object outlives a section
 hand_lives : (k j : ℕ) (s : Section) → j ≢ k → Kills k s (InHand j) → ⊥

@@ -34,7 +34,7 @@ module _ (has : Place → Bool) (w : World) (k : ℕ) (l : Local) (t after : Opt
   now_moved = ap (λ (ls : List Local). slice_get ls k) set ∙ set_same w.locals k l moved here
 
   pub turn_moves : IsTurnKept w t has → Change t after k (has l.place) (has moved.place) → IsTurnKept w' after has
-  turn_moves kept x2 = grind (arith, set_other, now_moved)
+  turn_moves kept change = grind (arith, set_other, now_moved)
 
 -- Which sections leave the two turns as they are: all that ask for no turn.
 
@@ -116,10 +116,10 @@ module _ (c : Setup) (m : PlainMap) where
 -- The turns are kept in each reached world, and the purge turn is taken last.
 
 no_purge_begins : (c : Setup) → HaveBeginnings (Has has_purge false) c
-no_purge_begins c x2 x3 = grind arith
+no_purge_begins c p opens = grind arith
 
 no_alloc_begins : (c : Setup) → HaveBeginnings (Has has_alloc false) c
-no_alloc_begins c x2 x3 = grind arith
+no_alloc_begins c p opens = grind arith
 
 module _ (has : Place → Bool) (none : (c : Setup) → HaveBeginnings (Has has false) c) where
   has_moved : (l : Local) → length l.answers < length l.calls → (n : Next) → has (moved_to l n).place ≡ has_next has n

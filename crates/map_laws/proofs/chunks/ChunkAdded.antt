@@ -207,4 +207,4 @@ module _ (c : Setup) where
     same_or_alloc p s w = grind (arith, asks_chunk, next_same, adds_nothing)
 
     pub number_after : (p : Place) (s : Section) → Meets c (ask c p) s → IsLegalAs c m k s → IsNumberNext m p → OnNext (IsNumberNext (effect_as c m k s)) (next c p s)
-    number_after p s x3 legal is = grind arith
+    number_after p s meets legal is = grind arith

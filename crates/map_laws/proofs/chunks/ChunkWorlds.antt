@@ -60,7 +60,7 @@ busy_alloc : (p : Place) (number page : ℕ) → IsBeingPopulated number page p 
 busy_alloc p number page b = grind arith
 
 pub unchunked_begins : (c : Setup) → HaveBeginnings IsUnchunked c
-unchunked_begins c x2 x3 = grind arith
+unchunked_begins c p opens = grind arith
 
 -- the other callers that are populating
 abbrev pub OthersPopulate : World → ℕ → (number page : ℕ) → Type 0

@@ -72,7 +72,7 @@ abbrev IsGrounded : Place → Type 0
 IsGrounded p = flight p ≡ MadeNothing
 
 grounded_begins : (c : Setup) → HaveBeginnings IsGrounded c
-grounded_begins c x2 x3 = grind arith
+grounded_begins c p opens = grind arith
 
 -- the serial that a section gives
 abbrev gives : ℕ → Section → ℕ
@@ -229,7 +229,7 @@ module _ (c : Setup) (w : World) (l : Local) (s : Section) (kept : AreObjectsMad
 
   -- the first caller has ended, and so isn't this one
   opened_stays : (events : List Event) (answers : List Answered) → IsOpened w answers → IsOpened (after_world events) answers
-  opened_stays events answers x2 = grind (arith, set_other, nat_tests)
+  opened_stays events answers was = grind (arith, set_other, nat_tests)
 
   pub made_step : (events : List Event) → AreObjectsMade (after_world events)
   made_step events = record {
