@@ -1,5 +1,6 @@
 -- What is proper of a caller's place whatever the map is: searches are for what fits them, and objects aren't too large.
-use Rattle.std.proofs.Common.{◌++◌, ◌≢◌, slice_set, ◌≡◌, ℕ, zero, suc, inl, inr, ◌+◌, ◌*◌, ◌%◌, ◌<◌, ◌≤◌, max, Bool, true, false, nat_le, if◌then◌else◌, List, [], ◌∷◌, slice_get, length, Option, Some, None, refl, ap, sym, ◌∙◌, subst, arith, ℤ, ◌-◌, IfSome}
+use Rattle.std.proofs.lemmas.List.Sums.{sum_by-cons}
+use Rattle.std.proofs.Common.{◌++◌, ◌≢◌, slice_set, ◌≡◌, ℕ, zero, suc, inl, inr, ◌+◌, ◌*◌, ◌%◌, ◌<◌, ◌≤◌, max, Bool, true, false, nat_le, if◌then◌else◌, List, [], ◌∷◌, slice_get, length, Option, Some, None, refl, ap, sym, ◌∙◌, subst, arith, ℤ, ◌-◌, IfSome, sum_by}
 use Rattle.std.proofs.lemmas.Bool.Decides.{nat_tests}
 use Rattle.vm_model.specs.declared.areas.AreaKind.{AreaKind}
 use Rattle.vm_model.specs.declared.calls.Call.{Call}
@@ -233,6 +234,11 @@ started_caller c answers first (own ∷ more) j l h = grind (arith, started_call
 pub all_started : (P : Local → Type 0) (c : Setup) (answers : List Answered) (first : ℕ) (calls : List (List Call)) → ((i : ℕ) (own : List Call) → P (started c answers i own))
     → (j : ℕ) (l : Local) → slice_get (callers_from c answers first calls) j ≡ Some l → P l
 all_started P c answers first calls begin j l h = let is = started_caller c answers first calls j l h in subst P (sym is.2) (begin (first + j) is.0)
+
+-- a count that is 0 for each caller at its start
+pub none_started : (f : Local → ℕ) (c : Setup) (answers : List Answered) → ((i : ℕ) (own : List Call) → f (started c answers i own) ≡ 0) → (first : ℕ) (calls : List (List Call)) → sum_by f (callers_from c answers first calls) ≡ 0
+none_started f c answers none first [] = refl
+none_started f c answers none first (own ∷ more) = omega (arith, sum_by-cons f (started c answers first own) (callers_from c answers (suc first) more), none first own, none_started f c answers none (suc first) more)
 
 -- callers of a world, with those that join them
 pub all_joined : (P : Local → Type 0) (c : Setup) (calls : List (List Call)) (w : World) → ((k : ℕ) (l : Local) → slice_get w.locals k ≡ Some l → P l)

@@ -20,7 +20,7 @@ use Rattle.map_laws.proofs.KeptThroughSteps.{there, SomeOther, Someone, other_or
 use Rattle.map_laws.proofs.objects.ObjectChanges.{same_fine}
 use Rattle.map_laws.proofs.objects.ObjectFacts.{AreChunksFine, IsBeingPlaced, IsObject, IsObjectAt, next_placed}
 use Rattle.map_laws.proofs.objects.ObjectMoves.{IsObjectMoved, Kills, unhanded_at, object_by}
-use Rattle.map_laws.proofs.ProperPlaces.{HaveBeginnings, AtOver, OnNext, begins_with, moved_has, IsProper, all_joined, all_moved, all_started}
+use Rattle.map_laws.proofs.ProperPlaces.{HaveBeginnings, AtOver, OnNext, begins_with, moved_has, IsProper, all_joined, all_moved, all_started, none_started}
 use Rattle.map_laws.specs.TwoTurns.{AreTurnsKept}
 use Rattle.std.proofs.lemmas.List.Sums.{sum_by-append, sum_by-cons}
 use Rattle.vm_model.specs.Areas.{areas_of, group_areas, group_kinds, spans_of}
@@ -233,13 +233,7 @@ trace_step w l s setup framed is step =
 module _ (c : Setup) (opening : List Call) (calls : List (List Call)) where
   -- callers at their start have no block
   callers_out : (start first : ℕ) (answers : List Answered) (more : List (List Call)) → sum_by (λ (x : Local). count_of start (block_out x.place)) (callers_from c answers first more) ≡ 0
-  callers_out start first answers [] = refl
-  callers_out start first answers (own ∷ more) = omega (
-    arith,
-    sum_by-cons (λ (x : Local). count_of start (block_out x.place)) (started c answers first own) (callers_from c answers (suc first) more),
-    unblocky_out (started c answers first own).place start (begins_with IsUnblocky c (unblocky_begins c) answers [] (slice_get own 0)),
-    callers_out start (suc first) answers more,
-  )
+  callers_out start first answers more = none_started (λ x. count_of start (block_out x.place)) c answers (λ i own. unblocky_out _ start (begins_with IsUnblocky c (unblocky_begins c) answers [] (slice_get own 0))) first more
 
   started_block : (m : PlainMap) (answers : List Answered) (k : ℕ) (own : List Call) → IsBlockAt c m k (started c answers k own).place
   started_block m answers k own = unblocky_at c m k _ (begins_with IsUnblocky c (unblocky_begins c) answers [] (slice_get own 0))

@@ -27,7 +27,7 @@ use Rattle.map_laws.proofs.objects.ObjectChanges.{lived_object}
 use Rattle.map_laws.proofs.objects.ObjectFacts.{AreChunksFine, IsObject, IsObjectAt, same_place}
 use Rattle.map_laws.proofs.objects.ObjectMoves.{Kills}
 use Rattle.map_laws.proofs.OutMoves.{sum_two}
-use Rattle.map_laws.proofs.ProperPlaces.{HaveBeginnings, AtOver, OnNext, all_moved, answers_call, begins_with, started_caller}
+use Rattle.map_laws.proofs.ProperPlaces.{HaveBeginnings, AtOver, OnNext, all_moved, answers_call, begins_with, started_caller, none_started}
 use Rattle.vm_model.specs.declared.calls.Reply.TheVariants as reply
 
 abbrev pub is_made : ℕ → Made → ℕ
@@ -250,8 +250,7 @@ module _ (c : Setup) (answers : List Answered) where
   grounded k own = begins_with IsGrounded c (grounded_begins c) answers [] (slice_get own 0)
 
   started_few : (serial first : ℕ) (more : List (List Call)) → sum_by (made_count serial) (callers_from c answers first more) ≡ 0
-  started_few serial first [] = refl
-  started_few serial first (own ∷ more) = omega (arith, sum_by-cons (made_count serial) (started c answers first own) (callers_from c answers (suc first) more), ap (is_made serial) (grounded first own), started_few serial (suc first) more)
+  started_few serial first more = none_started (made_count serial) c answers (λ k own. omega (arith, ap (is_made serial) (grounded k own))) first more
 
   -- what is made by callers at their start
   pub record AreStarted (m : PlainMap) (l : Local) : Type 0 where
