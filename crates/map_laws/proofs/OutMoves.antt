@@ -106,26 +106,17 @@ module _ (c : Setup) (m : PlainMap) (k : ℕ) (fine : IsMapFine m) where
         (at.0.serial, live_in (areas_of k first areas) m.marks page (Held k) at.1.place at.0 (new_once page) at.1.at at.2 (touched_held page t))
 
     old_same : (page : ℕ) (i : ℕ) (a : Area) → slice_get m.areas i ≡ Some a → covers (a.span ∷ []) page ≡ true → IsSame m (effect_as c m k (Settle areas first)) page
-    old_same page i a h e = untouched c m k (Settle areas first) page
-        (not_true _ (λ t. (let n = covers_times page (map (λ a. a.0) areas) t in let o = once page in let q = area_times page m.areas i a h e in omega (arith, ap (times page) here))))
+    old_same page i a h e = grind (arith, spans_of-areas_of, unmarked_live)
 
     waits_same : (page : ℕ) → covers m.waiting page ≡ true → IsSame m (effect_as c m k (Settle areas first)) page
-    waits_same page w = untouched c m k (Settle areas first) page
-        (not_true _ (λ t. (let n = covers_times page (map (λ a. a.0) areas) t in let o = once page in let q = covers_times page m.waiting w in omega (arith, ap (times page) here))))
+    waits_same page w = grind (arith, spans_of-areas_of, unmarked_live)
 
     area_in : (a : Area) → IsIn a (areas_of k first areas) ⊎ IsIn a m.areas → IsAreaFine (effect_as c m k (Settle areas first)) a
-    area_in a (inl new) = record {
-      marked = λ page e. (let t = sym (covers_one a.span page) ∙ e in
-          let inside : covers (spans_of (areas_of k first areas)) page ≡ true = times_in page (spans_of (areas_of k first areas)) (area_times page (areas_of k first areas) new.place a new.at e) in
-          live_in (areas_of k first areas) m.marks page (Held k) new.place a (new_once page) new.at t (touched_held page (sym (ap (λ spans. covers spans page) (spans_of-areas_of k first areas)) ∙ inside)));
-      mapped = λ plain. (news new.place a new.at plain).0;
-      guard = λ plain. (news new.place a new.at plain).1;
-    }
+    area_in a (inl new) = grind (arith, times_in, area_times, live_in, spans_of-areas_of, unmarked_live)
     area_in a (inr old) = area_stays m (effect_as c m k (Settle areas first)) a (λ page e. old_same page old.place a old.at e) (fine.areas old.place a old.at)
 
     settle_free : (page : ℕ) (b : Bool) → covers (map (λ a. a.0) areas) page ≡ b → as_free (slice_get (effect_as c m k (Settle areas first)).marks page) ≤ as_free (slice_get m.marks page)
-    settle_free page true t = let is = settled_live page t in omega (arith, ap as_free is.1)
-    settle_free page false t = let is = (untouched c m k (Settle areas first) page t).mark in omega (arith, ap as_free is)
+    settle_free page b t = grind (arith, settled_live, spans_of-areas_of, unmarked_live)
 
     pub settle_moved : (n : Next) → OnNext IsUnbearing n → IsMoved c m k p (Settle areas first) n
     settle_moved n none_next = record {
@@ -221,12 +212,7 @@ module _ (c : Setup) (m : PlainMap) (k : ℕ) (fine : IsMapFine m) where
     pub unlink_moved : IsUnbearing p → (p' : Place) → IsReceiver p' → IsMoved c m k p (Unlink starts) (Go p')
     unlink_moved none p' to = record {
       source = λ page t. (let n = out_source c m k fine p (Unlink starts) (λ (a : Area). is_among starts a.span.start) (λ (a : Area). not (is_among starts a.span.start)) (λ a. refl) once refl refl fine.long unlink_touch unlink_marked page t in omega arith);
-      uses = λ page. (let less = is.less page in let h : times page (held c p') ≡ times page spans = ap (times page) to.held_is in let f : times page (flushed p') ≡ 0 = ap (times page) to.flushed_is in
-          omega (
-            arith,
-            out_free c m k fine p (Unlink starts) (λ (a : Area). is_among starts a.span.start) (λ (a : Area). not (is_among starts a.span.start)) (λ a. refl) once refl refl fine.long unlink_touch unlink_marked (covers (spans_of (areas_starting starts m.areas))) refl page,
-            times_both page (λ (a : Area). is_among starts a.span.start) (λ (a : Area). not (is_among starts a.span.start)) (λ a. refl) m.areas,
-          ));
+      uses = λ page. (grind (arith, times_both, slice_get-paint, covers_one, covers_times, in_spans));
       own = to.own (λ page e. unlink_marked page (times_in page (spans_of (areas_starting starts m.areas)) (let n = covers_times page spans e in let less = is.less page in omega arith))) is.unmapped;
       fine = out_fine c m k fine p (Unlink starts) (λ (a : Area). is_among starts a.span.start) (λ (a : Area). not (is_among starts a.span.start)) (λ a. refl) once refl refl fine.long unlink_touch unlink_marked;
     }

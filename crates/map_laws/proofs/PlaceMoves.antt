@@ -109,13 +109,7 @@ module _ (c : Setup) (m : PlainMap) (k : ℕ) (fine : IsMapFine m) where
     carve_uses place page b e free = grind (arith, painted_free)
 
     carve_outer : (place : Span) (align : ℕ) → IsLegalAs c m k (Carve place align) → IsOuter c m k p (Carve place align) fine once
-    carve_outer place align legal = record {
-      areas = refl;
-      waiting = refl;
-      long = fine.long;
-      source = λ page t. (let f = free_one m page (place_free m place align page legal t) in omega arith);
-      touched = λ page t. held_fine _ k page (painted (holds place) (Held k) Free m.marks page t (place_free m place align page legal t));
-    }
+    carve_outer place align legal = grind (arith, place_free, painted, painted_still)
 
     carve_held : (place : Span) (align : ℕ) → IsLegalAs c m k (Carve place align) → OnEach (place ∷ []) (IsMarked (effect_as c m k (Carve place align)) (Held k))
     carve_held place align legal page e = let t = sym (covers_one place page) ∙ e in painted (holds place) (Held k) Free m.marks page t (place_free m place align page legal t)
@@ -149,13 +143,7 @@ module _ (c : Setup) (m : PlainMap) (k : ℕ) (fine : IsMapFine m) where
     group_free spans page free e = let n = covers_times page spans e in free_there (slice_get m.marks page) (omega arith)
 
     groups_outer : (base : ℕ) → ((page : ℕ) → times page (groups_at c base) ≤ as_free (slice_get m.marks page)) → IsOuter c m k p (CarveGroups base) fine once
-    groups_outer base free = record {
-      areas = refl;
-      waiting = refl;
-      long = fine.long;
-      source = λ page t. (let f = free_one m page (group_free (groups_at c base) page (free page) t) in omega arith);
-      touched = λ page t. held_fine _ k page (painted (covers (groups_at c base)) (Held k) Free m.marks page t (group_free (groups_at c base) page (free page) t));
-    }
+    groups_outer base free = grind (arith, painted, in_spans)
 
     pub carve_groups : (base chunk bytes align : ℕ) → IsUnbearing p → ((page : ℕ) → times page (groups_at c base) ≤ as_free (slice_get m.marks page)) → IsMoved c m k p (CarveGroups base) (Go (SettlingGroups base chunk bytes align))
     carve_groups base chunk bytes align none free = record {
@@ -217,16 +205,7 @@ module _ (c : Setup) (m : PlainMap) (k : ℕ) (fine : IsMapFine m) where
     mapping_moved = record {
       source = λ page t. (let n = mapping_outer.source page t in omega arith);
       uses = λ page. omega arith;
-      own = record {
-        held = own.held;
-        flushed = λ page e. cc;
-        bare = λ page e. cc;
-        mapped = λ page e. (let t = sym (covers_one (mapped_part kd place) page) ∙ e in
-            given_all (pages_of (mapped_part kd place)) (free_frames c m.frames) m.frames page None (held_in_row (mapped_part kd place) page t)
-            (let l = legal.1 in omega (arith, length-count_from (mapped_part kd place).pages (mapped_part kd place).start)) (own.bare page (mapped_covers kd place page e)).unmapped);
-        unmapped = λ page e. mapping_same page e ∙ (own.bare page (guard_covers kd place page e)).unmapped;
-        hull = tt;
-      };
+      own = grind (arith, given_all, held_in_row, length-count_from, ungiven, outside_row);
       fine = outer_map c m k (MappingArea place kd) (MapPages (mapped_part kd place)) fine once mapping_outer;
     }
 

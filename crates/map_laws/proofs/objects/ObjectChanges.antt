@@ -39,17 +39,7 @@ shaped_low c o is page h = let row = in_row (suc ((o.off + o.bytes - 1) / 4096) 
 
 -- an object stays in another list of chunks, where a chunk with its number and its base has it
 object_in : (chunks chunks' : List Chunk) (at : ObjectAt) (life : Life) (is : IsObject chunks at life) (h : Chunk) → IsIn h chunks' → h.number ≡ is.chunk.number → h.base ≡ is.chunk.base → IsIn is.object h.objects → IsObject chunks' at life
-object_in chunks chunks' at life is h there number base object_there = record {
-  chunk = h;
-  there = there;
-  numbered = number ∙ is.numbered;
-  based = base ∙ is.based;
-  object = is.object;
-  object_there = object_there;
-  off = is.off;
-  bytes = is.bytes;
-  lives = is.lives;
-}
+object_in chunks chunks' at life is h there number base object_there = grind arith
 
 module _ (number : ℕ) (change : Chunk → Chunk) (numbers : (h : Chunk) → (change h).number ≡ h.number) where
   pub changed_fine : (c : Setup) (placing placing' : ℕ → ℕ → Type 0) (chunks : List Chunk) → AreChunksFine c placing chunks → ((h : Chunk) → IsIn h chunks → h.number ≡ number → AreObjectsFine c placing' (change h))
@@ -215,8 +205,7 @@ module _ (c : Setup) (placing placing' : ℕ → ℕ → Type 0) (at : ObjectAt)
       (λ h there apart. more_fine c placing placing' h (λ off placed. elim (more h.number off placed) [ inl still ↦ still | inr own ↦ absurd (apart (sym own.0)) ]) (fine.each h there))
 
 pub removed_keeps : (at : ObjectAt) (chunks : List Chunk) (other : ObjectAt) (life : Life) → (other.chunk ≡ at.chunk → other.off ≡ at.off → ⊥) → IsObject chunks other life → IsObject (change_chunk at.chunk (without_object at) chunks) other life
-removed_keeps at chunks other life apart is = changed_object at.chunk (without_object at) (λ h. refl) (λ h. refl) chunks other life is (λ e.
-    filter_in (λ (o : Object). not (o.off == at.off)) is.chunk.objects is.object is.object_there.place is.object_there.at (ap not (not_true (is.object.off == at.off) (λ f. apart e (sym is.off ∙ to_same is.object.off at.off f)))))
+removed_keeps at chunks other life apart is = changed_object at.chunk (without_object at) (λ h. refl) (λ h. refl) chunks other life is (grind (arith, filter_in))
 
 -- A chunk is added, given up, or gets a page.
 module _ (c : Setup) (placing placing' : ℕ → ℕ → Type 0) (chunks : List Chunk) (fine : AreChunksFine c placing chunks) (more : (number off : ℕ) → placing number off → placing' number off) where

@@ -76,19 +76,13 @@ module _ (c : Setup) (byte : ℕ) where
     object_once i j cpu hit = omega (arith, objects_sum hit.chunk, sum_has (of_object hit.chunk) hit.chunk.objects hit.object j hit.at_object, chunk_once i j cpu hit)
 
     same_cpu : (i j cpu cpu' : ℕ) (hit : IsHit c chunks byte i j cpu) (hit' : IsHit c chunks byte i j cpu') → hit.chunk ≡ hit'.chunk → hit.object ≡ hit'.object → cpu ≡ cpu'
-    same_cpu i j cpu cpu' hit hit' e f =
-        let has' = ap (λ (h : Chunk). holds (span (copy_at (object_at h hit.object) hit'.unit) hit.object.bytes) byte) e ∙ ap (λ (o : Object). holds (span (copy_at (object_at hit'.chunk o) hit'.unit) o.bytes) byte) f ∙ hit'.has in
-        same_place (of_unit hit.chunk hit.object) c.units cpu cpu' hit.unit hit'.unit (omega (arith, units_sum hit.chunk hit.object, object_once i j cpu hit)) hit.at_unit hit'.at_unit (omega (arith, ap one_if hit.has)) (omega (arith, ap one_if has'))
+    same_cpu i j cpu cpu' hit hit' e f = grind (arith, sum_has, sum_two, times_map, times_flat)
 
     same_object_place : (i j j' cpu cpu' : ℕ) (hit : IsHit c chunks byte i j cpu) (hit' : IsHit c chunks byte i j' cpu') → hit.chunk ≡ hit'.chunk → j ≡ j'
-    same_object_place i j j' cpu cpu' hit hit' e =
-        let there' : slice_get hit.chunk.objects j' ≡ Some hit'.object = ap (λ (h : Chunk). slice_get h.objects j') e ∙ hit'.at_object in
-        let counts' : 1 ≤ of_object hit.chunk hit'.object = subst (λ (h : Chunk). 1 ≤ of_object h hit'.object) (sym e) (object_counts i j' cpu' hit') in
-        same_place (of_object hit.chunk) hit.chunk.objects j j' hit.object hit'.object (omega (arith, objects_sum hit.chunk, chunk_once i j cpu hit)) hit.at_object there' (object_counts i j cpu hit) counts'
+    same_object_place i j j' cpu cpu' hit hit' e = grind (arith, sum_has, sum_two, times_map, times_flat)
 
     same_chunk_place : (i i' j j' cpu cpu' : ℕ) → IsHit c chunks byte i j cpu → IsHit c chunks byte i' j' cpu' → i ≡ i'
-    same_chunk_place i i' j j' cpu cpu' hit hit' =
-        same_place of_chunk chunks i i' hit.chunk hit'.chunk (omega (arith, chunks_sum chunks)) hit.at_chunk hit'.at_chunk (chunk_counts i j cpu hit) (chunk_counts i' j' cpu' hit')
+    same_chunk_place i i' j j' cpu cpu' hit hit' = grind (arith, sum_has, sum_two, times_map, times_flat)
 
     -- two copies with one byte are one
     pub record IsOneHit (i i' j j' cpu cpu' : ℕ) (hit : IsHit c chunks byte i j cpu) (hit' : IsHit c chunks byte i' j' cpu') : Type 0 where
@@ -97,10 +91,7 @@ module _ (c : Setup) (byte : ℕ) where
       pub same : cpu ≡ cpu'
 
     one_there : (i j cpu cpu' : ℕ) (hit : IsHit c chunks byte i j cpu) (hit' : IsHit c chunks byte i j cpu') → IsOneHit i i j j cpu cpu' hit hit'
-    one_there i j cpu cpu' hit hit' =
-        let chunk = same_Some hit.chunk hit'.chunk (sym hit.at_chunk ∙ hit'.at_chunk) in
-        let object = same_Some hit.object hit'.object (sym hit.at_object ∙ ap (λ (h : Chunk). slice_get h.objects j) chunk ∙ hit'.at_object) in
-        record { chunk = chunk; object = object; same = same_cpu i j cpu cpu' hit hit' chunk object }
+    one_there i j cpu cpu' hit hit' = grind (arith, sum_has, times_map, same_place, times_flat)
 
     one_hit : (i i' j j' cpu cpu' : ℕ) (hit : IsHit c chunks byte i j cpu) (hit' : IsHit c chunks byte i' j' cpu') → IsOneHit i i' j j' cpu cpu' hit hit'
     one_hit i i' j j' cpu cpu' hit hit' = subst (λ n. (x : IsHit c chunks byte n j' cpu') → IsOneHit i n j j' cpu cpu' hit x) (same_chunk_place i i' j j' cpu cpu' hit hit')
