@@ -198,9 +198,6 @@ module _ (c : Setup) (m : PlainMap) (k : ℕ) (fine : IsMapFine m) where
     mapping_outer : IsOuter c m k (MappingArea place kd) (MapPages (mapped_part kd place)) fine once
     mapping_outer = grind (arith, length-give_frames, times-one, held_fine, covers_one, mapped_within, nat_tests)
 
-    mapping_same : (page : ℕ) → covers (guard_part kd place ∷ []) page ≡ true → slice_get (effect_as c m k (MapPages (mapped_part kd place))).frames page ≡ slice_get m.frames page
-    mapping_same page e = ungiven (pages_of (mapped_part kd place)) (free_frames c m.frames) m.frames page (outside_row (mapped_part kd place) page (guard_apart kd place page e))
-
     pub mapping_moved : IsMoved c m k (MappingArea place kd) (MapPages (mapped_part kd place)) (Go (SettlingArea place kd))
     mapping_moved = record {
       source = λ page t. (let n = mapping_outer.source page t in omega arith);
@@ -249,13 +246,10 @@ module _ (c : Setup) (m : PlainMap) (k : ℕ) (fine : IsMapFine m) where
     wait_marked : (page : ℕ) → (b : Bool) → covers m.waiting page ≡ b → (b || covers spans page) ≡ true → IsMarked (effect_as c m k (Wait spans waiting)) Waits page
     wait_marked page b w e = grind (arith, painted_still, painted)
 
-    wait_free : (page : ℕ) → InSpans page spans → as_free (slice_get (paint (covers spans) Waits m.marks) page) ≤ as_free (slice_get m.marks page)
-    wait_free page either = grind (arith, painted_free, nat_tests)
-
     pub wait_moved : (n : Next) → OnNext IsUnbearing n → IsMoved c m k p (Wait spans waiting) n
     wait_moved n none_next = record {
       source = λ page t. (let q = covers_times page spans t in omega (arith, held_times page));
-      uses = λ page. (grind (arith, wait_free, in_spans, times-append));
+      uses = λ page. (grind (arith, in_spans, times-append, painted_free, nat_tests));
       own = unbearing_own c m k fine (effect_as c m k (Wait spans waiting)) n none_next;
       fine = record {
         areas = λ i a h. area_stays m (effect_as c m k (Wait spans waiting)) a (λ page e. wait_area page i a h e) (fine.areas i a h);

@@ -107,12 +107,9 @@ module _ (c : Setup) (m : PlainMap) where
   found_groups chunk bytes align otherwise None e few q = q
   found_groups chunk bytes align otherwise (Some base) e few q = (few, is_zero (base % c.atom) (highest_fit c (taken m) base e).0)
 
-  told_proper : (aim : Aim) (otherwise : Next) (s t : Section) → Some t ≡ Some s → OnNext (IsProper c) (found aim (carved t) (carved_base t) otherwise) → OnNext (IsProper c) (found aim (carved s) (carved_base s) otherwise)
-  told_proper aim otherwise s t e h = let same : t ≡ s = cc in subst (λ (x : Section). OnNext (IsProper c) (found aim (carved x) (carved_base x) otherwise)) same h
-
   found_proper : (search : Search) (aim : Aim) (s : Section) (otherwise : Next) → IsAimed c search aim → given c m (AskSearch search) ≡ Some s → OnNext (IsProper c) otherwise
       → OnNext (IsProper c) (found aim (carved s) (carved_base s) otherwise)
-  found_proper search aim s otherwise is e q = grind (arith, told_proper, found_pages, found_groups, nat_tests)
+  found_proper search aim s otherwise is e q = grind (arith, found_pages, found_groups, nat_tests)
 
   no_space_proper : (aim : Aim) → OnNext (IsProper c) (without_space aim)
   no_space_proper aim = grind (arith, nat_tests)

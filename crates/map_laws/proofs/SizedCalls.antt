@@ -159,11 +159,8 @@ unused : (l : Local) (p : Place) → is_using p ≡ false → IsUse l p
 unused l p h = grind arith
 
 module _ (l : Local) where
-  call_use : (c : Setup) (call : Call) → slice_get l.calls (length l.answers) ≡ Some call → IsUse l (begin_call c l.opening l.answers call)
-  call_use c call h = grind (arith, nat_tests)
-
   begin_use : (c : Setup) (o : Option Call) → slice_get l.calls (length l.answers) ≡ o → IsUse l (begin c l.opening l.answers o)
-  begin_use c o h = grind (arith, call_use)
+  begin_use c o h = grind (arith, nat_tests)
 
 begin_sized : (c : Setup) (opening own : List Answered) (o : Option Call) (call : Call) (bytes : ℕ) → o ≡ Some call → call_bytes call ≡ Some bytes → IsSizedAt bytes (begin c opening own o)
 begin_sized c opening own o call bytes e f = subst (λ x. IsSizedAt bytes (begin c opening own x)) (sym e) (begins_sized c opening own call bytes f)

@@ -117,9 +117,6 @@ module _ (c : Setup) where
         let room = new_chunk_has_room c chunk base bytes align m.chunks units few in
         grind arith
 
-    pub step_falls : (p : Place) (s : Section) → is_balancing p ≡ false → adds_chunk p ≡ false → IsProper c p → given c m (ask c p) ≡ Some s → left_next c (next c p s) < left c p
-    step_falls p s n a is e = grind (arith, place_row, nat_tests)
-
 -- What a caller that fills pages has to its credit, and that none but a balance has any.
 
 -- a page that it fills and that someone else populated meanwhile
@@ -144,11 +141,8 @@ asks_chunk _ = false
 abbrev pub IsNoFilling : Place → Type 0
 IsNoFilling p = is_filling p ≡ false
 
-pub no_credit : (chunks : List Chunk) (p : Place) → IsNoFilling p → credit chunks p ≡ 0
-no_credit chunks p h = grind (arith, nat_tests)
-
 pub no_credit_next : (chunks : List Chunk) (n : Next) → OnNext IsNoFilling n → credit_next chunks n ≡ 0
-no_credit_next chunks n h = grind (arith, no_credit, nat_tests)
+no_credit_next chunks n h = grind (arith, nat_tests)
 
 module _ (c : Setup) where
   pub no_filling_next : (p : Place) (s : Section) → is_balancing p ≡ false → OnNext IsNoFilling (next c p s)
@@ -165,7 +159,7 @@ has_room c m p u is = grind (arith, new_chunk_has_room, nat_tests)
 
 module _ (c : Setup) (m : PlainMap) (k : ℕ) (units : 8 ≤ c.unit_pages) where
   pub plain_falls : (p : Place) (s : Section) → is_balancing p ≡ false → IsProper c p → given c m (ask c p) ≡ Some s → left_next c (next c p s) + added c s < left c p
-  plain_falls p s h is e = grind (arith, added, step_falls, adds_nothing, given_meets, has_room, chunk_left, nat_tests)
+  plain_falls p s h is e = grind (arith, added, adds_nothing, given_meets, has_room, chunk_left, nat_tests, place_row)
 
   -- The sections of a balance.
 

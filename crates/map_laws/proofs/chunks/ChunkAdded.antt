@@ -187,24 +187,17 @@ chunk_number p = option_and_then number_then (then_of p)
 abbrev pub IsNumberNext : PlainMap → Place → Type 0
 IsNumberNext m p = (number : ℕ) → chunk_number p ≡ Some number → number ≡ m.next_chunk
 
-aim_alloc : (aim : Aim) (number : ℕ) → number_aim aim ≡ Some number → is_for_chunk aim ≡ true
-aim_alloc aim number e = grind arith
-
 then_alloc : (after : Then) (number : ℕ) → number_then after ≡ Some number → keeps_alloc after ≡ true
-then_alloc after number e = grind (arith, aim_alloc)
+then_alloc after number e = grind arith
 
 -- such a place has the alloc turn
 pub number_alloc : (p : Place) (number : ℕ) → chunk_number p ≡ Some number → has_alloc p ≡ true
-number_alloc p number e = grind (arith, aim_alloc, then_alloc)
+number_alloc p number e = grind (arith, then_alloc)
 
 module _ (c : Setup) where
   module _ (m : PlainMap) (k : ℕ) where
-    -- no other section gives a chunk a number
-    next_same : (s : Section) → added c s ≡ 0 → (effect_as c m k s).next_chunk ≡ m.next_chunk
-    next_same s e = grind arith
-
     pub same_or_alloc : (p : Place) (s : Section) → Meets c (ask c p) s → ((effect_as c m k s).next_chunk ≡ m.next_chunk) ⊎ (has_alloc p ≡ true)
-    same_or_alloc p s w = grind (arith, asks_chunk, next_same, adds_nothing)
+    same_or_alloc p s w = grind (arith, asks_chunk, adds_nothing)
 
     pub number_after : (p : Place) (s : Section) → Meets c (ask c p) s → IsLegalAs c m k s → IsNumberNext m p → OnNext (IsNumberNext (effect_as c m k s)) (next c p s)
     number_after p s meets legal is = grind arith

@@ -49,12 +49,9 @@ pub record AreGrown (m m' : PlainMap) : Type 0 where
   pub next : m.next_chunk ≤ m'.next_chunk
   pub back : (h : Chunk) → IsIn h m'.chunks → h.number < m.next_chunk → (was : Chunk) × IsIn was m.chunks × (was.number ≡ h.number) × ((page : ℕ) → slice_get was.populated page ≡ Some true → slice_get h.populated page ≡ Some true)
 
-pub placed_grown : (m m' : PlainMap) (at : ObjectAt) → AreGrown m m' → IsPlacedAt m at → IsPlacedAt m' at
-placed_grown m m' at grown is = grind arith
-
 -- a caller without the alloc turn has at most an object that was placed at once
 pub later_places : (c : Setup) (m m' : PlainMap) → AreGrown m m' → (q : Place) → has_alloc q ≡ false → IsChunkAt c m q → IsChunkAt c m' q
-later_places c m m' grown q h is = grind (arith, placed_grown)
+later_places c m m' grown q h is = grind arith
 
 pub rows_grown : (m m' : PlainMap) → AreSameRows m m' → AreGrown m m'
 rows_grown m m' rows = record {

@@ -125,15 +125,12 @@ module _ (c : Setup) (placing placing' : ℕ → ℕ → Type 0) (k : ℕ) (at :
   abbrev alive : Object → Object
   alive o = if o.off == at.off then record o { life = Lives serial } else o
 
-  alive_same : (o : Object) (t : Bool) → ((if t then record o { life = Lives serial } else o).off ≡ o.off) × ((if t then record o { life = Lives serial } else o).bytes ≡ o.bytes)
-  alive_same o t = grind arith
-
   alive_bits : (objects : List Object) → map object_bits (map alive objects) ≡ map object_bits objects
   alive_bits [] = refl
-  alive_bits (o ∷ objects) = grind (arith, alive_bits objects, alive_same)
+  alive_bits (o ∷ objects) = grind (arith, alive_bits objects)
 
   was_object : (objects : List Object) (o : Object) → IsIn o (map alive objects) → (was : Object) × IsIn was objects × (o.off ≡ was.off) × (o.bytes ≡ was.bytes)
-  was_object objects o is = grind (arith, mapped_at, alive_same)
+  was_object objects o is = grind (arith, mapped_at)
 
   module _ (long : (h : Chunk) → IsIn h chunks → length h.populated ≡ c.unit_pages) (more : (number off : ℕ) → placing number off → placing' number off ⊎ ((at.chunk ≡ number) × (at.off ≡ off))) where
     now_populated : (h : Chunk) (o was : Object) → IsIn h chunks → IsIn was h.objects → o.off ≡ was.off → o.bytes ≡ was.bytes → at.chunk ≡ h.number → at.off ≡ was.off → (page : ℕ) → is_among (pages_of_bytes o.off o.bytes) page ≡ true

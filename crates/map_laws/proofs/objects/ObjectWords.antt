@@ -44,37 +44,13 @@ pub record IsHit (c : Setup) (chunks : List Chunk) (byte i j cpu : ℕ) : Type 0
   pub has : holds (span (copy_at (object_at chunk object) unit) object.bytes) byte ≡ true
 
 module _ (c : Setup) (byte : ℕ) where
-  abbrev of_unit : Chunk → Object → ℕ → ℕ
-  of_unit h o unit = one_if (holds (span (copy_at (object_at h o) unit) o.bytes) byte)
-
   abbrev of_object : Chunk → Object → ℕ
   of_object h o = times byte (copies_of c (object_at h o))
 
   abbrev of_chunk : Chunk → ℕ
   of_chunk h = times byte (flat_map (λ o. copies_of c (object_at h o)) h.objects)
 
-  units_sum : (h : Chunk) (o : Object) → of_object h o ≡ sum_by (of_unit h o) c.units
-  units_sum h o = times_map (λ unit. span (copy_at (object_at h o) unit) o.bytes) byte c.units
-
-  objects_sum : (h : Chunk) → of_chunk h ≡ sum_by (of_object h) h.objects
-  objects_sum h = times_flat (λ o. copies_of c (object_at h o)) byte h.objects
-
-  chunks_sum : (chunks : List Chunk) → times byte (all_copies c chunks) ≡ sum_by of_chunk chunks
-  chunks_sum chunks = times_flat (λ (h : Chunk). flat_map (λ o. copies_of c (object_at h o)) h.objects) byte chunks
-
   module _ (chunks : List Chunk) (once : times byte (all_copies c chunks) ≤ 1) where
-    object_counts : (i j cpu : ℕ) (hit : IsHit c chunks byte i j cpu) → 1 ≤ of_object hit.chunk hit.object
-    object_counts i j cpu hit = omega (arith, units_sum hit.chunk hit.object, sum_has (of_unit hit.chunk hit.object) c.units hit.unit cpu hit.at_unit, ap one_if hit.has)
-
-    chunk_counts : (i j cpu : ℕ) (hit : IsHit c chunks byte i j cpu) → 1 ≤ of_chunk hit.chunk
-    chunk_counts i j cpu hit = omega (arith, objects_sum hit.chunk, sum_has (of_object hit.chunk) hit.chunk.objects hit.object j hit.at_object, object_counts i j cpu hit)
-
-    chunk_once : (i j cpu : ℕ) (hit : IsHit c chunks byte i j cpu) → of_chunk hit.chunk ≤ 1
-    chunk_once i j cpu hit = omega (arith, chunks_sum chunks, sum_has of_chunk chunks hit.chunk i hit.at_chunk)
-
-    object_once : (i j cpu : ℕ) (hit : IsHit c chunks byte i j cpu) → of_object hit.chunk hit.object ≤ 1
-    object_once i j cpu hit = omega (arith, objects_sum hit.chunk, sum_has (of_object hit.chunk) hit.chunk.objects hit.object j hit.at_object, chunk_once i j cpu hit)
-
     same_cpu : (i j cpu cpu' : ℕ) (hit : IsHit c chunks byte i j cpu) (hit' : IsHit c chunks byte i j cpu') → hit.chunk ≡ hit'.chunk → hit.object ≡ hit'.object → cpu ≡ cpu'
     same_cpu i j cpu cpu' hit hit' e f = grind (arith, sum_has, sum_two, times_map, times_flat)
 

@@ -63,8 +63,9 @@ settled_before chunks own at given serial is =
         → ((o : Object) × IsIn o h.objects × (((o.off ≡ own.off) × (is.object ≡ record o { life = Lives given })) ⊎ ((o.off ≢ own.off) × (is.object ≡ o)))) → CameFrom chunks at serial (SettleObject own given)
     by_object h there e f (o, o_there, inl mine) =
         let same : given ≡ serial = (let l : o.life ≡ o.life = refl in let a : Lives given ≡ Lives serial = ap (λ (x : Object). x.life) (sym mine.1) ∙ is.lives in cc) in
-        subst (λ n. CameFrom chunks at serial (SettleObject own n)) (sym same) (Settled own o.life (object_of chunks h at o.life ((
-            grind arith))) (sym is.numbered ∙ ap (λ (x : Chunk). x.number) f ∙ e) (sym is.off ∙ ap (λ (x : Object). x.off) mine.1 ∙ mine.0))
+        let was : IsObject chunks at o.life = object_of chunks h at o.life (grind arith) in
+        subst (λ n. CameFrom chunks at serial (SettleObject own n)) (sym same)
+            (Settled own o.life was (sym is.numbered ∙ ap (λ (x : Chunk). x.number) f ∙ e) (sym is.off ∙ ap (λ (x : Object). x.off) mine.1 ∙ mine.0))
     by_object h there e f (o, o_there, inr other) = Was (SettleObject own given) (object_of chunks h at (Lives serial) (grind arith))
 
 pub came_from : (c : Setup) (m : PlainMap) (k : ℕ) (s : Section) (at : ObjectAt) (serial : ℕ) → IsObject (effect_as c m k s).chunks at (Lives serial) → CameFrom m.chunks at serial s
