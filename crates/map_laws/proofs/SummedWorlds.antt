@@ -124,14 +124,11 @@ byte_in at index unit = copy_at at unit + 4 * index
 unit_word : (c : Setup) (at : ObjectAt) (cpu index unit : ℕ) → slice_get c.units cpu ≡ Some unit → 4 * index < at.bytes → IsWordOf c at cpu index (byte_in at index unit)
 unit_word c at cpu index unit there inside = record { unit = unit; at_unit = there; inside = inside; is = refl }
 
-test_not : (a b : ℕ) (t : Bool) → (a == b) ≡ t → a ≢ b → t ≡ false
-test_not a b t e n = grind arith
-
 pub amount_serial : (at : ObjectAt) (serial own cpu index at_index : ℕ) (amount : ℤ) → own ≢ serial → amount_of serial index (AddWord at own cpu at_index amount) ≡ pos 0
-amount_serial at serial own cpu index at_index amount n = grind (arith, test_not, nat_tests)
+amount_serial at serial own cpu index at_index amount n = grind (arith, nat_tests)
 
 amount_index : (at : ObjectAt) (serial own cpu index at_index : ℕ) (amount : ℤ) → at_index ≢ index → amount_of serial index (AddWord at own cpu at_index amount) ≡ pos 0
-amount_index at serial own cpu index at_index amount n = grind (arith, test_not, nat_tests)
+amount_index at serial own cpu index at_index amount n = grind (arith, nat_tests)
 
 -- A legal section of one caller, over the setup itself and under its number.
 
