@@ -44,18 +44,12 @@ pub record IsHit (c : Setup) (chunks : List Chunk) (byte i j cpu : ℕ) : Type 0
   pub has : holds (span (copy_at (object_at chunk object) unit) object.bytes) byte ≡ true
 
 module _ (c : Setup) (byte : ℕ) where
-  abbrev of_object : Chunk → Object → ℕ
-  of_object h o = times byte (copies_of c (object_at h o))
-
-  abbrev of_chunk : Chunk → ℕ
-  of_chunk h = times byte (flat_map (λ o. copies_of c (object_at h o)) h.objects)
-
   module _ (chunks : List Chunk) (once : times byte (all_copies c chunks) ≤ 1) where
-    same_cpu : (i j cpu cpu' : ℕ) (hit : IsHit c chunks byte i j cpu) (hit' : IsHit c chunks byte i j cpu') → hit.chunk ≡ hit'.chunk → hit.object ≡ hit'.object → cpu ≡ cpu'
-    same_cpu i j cpu cpu' hit hit' e f = grind (arith, sum_has, sum_two, times_map, times_flat)
+    same_cpu : (i i' j j' cpu cpu' : ℕ) (hit : IsHit c chunks byte i j cpu) (hit' : IsHit c chunks byte i' j' cpu') → hit.chunk ≡ hit'.chunk → hit.object ≡ hit'.object → cpu ≡ cpu'
+    same_cpu i i' j j' cpu cpu' hit hit' e f = grind (arith, sum_has, sum_two, times_map, times_flat)
 
-    same_object_place : (i j j' cpu cpu' : ℕ) (hit : IsHit c chunks byte i j cpu) (hit' : IsHit c chunks byte i j' cpu') → hit.chunk ≡ hit'.chunk → j ≡ j'
-    same_object_place i j j' cpu cpu' hit hit' e = grind (arith, sum_has, sum_two, times_map, times_flat)
+    same_object_place : (i i' j j' cpu cpu' : ℕ) (hit : IsHit c chunks byte i j cpu) (hit' : IsHit c chunks byte i' j' cpu') → hit.chunk ≡ hit'.chunk → j ≡ j'
+    same_object_place i i' j j' cpu cpu' hit hit' e = grind (arith, sum_has, sum_two, times_map, times_flat)
 
     same_chunk_place : (i i' j j' cpu cpu' : ℕ) → IsHit c chunks byte i j cpu → IsHit c chunks byte i' j' cpu' → i ≡ i'
     same_chunk_place i i' j j' cpu cpu' hit hit' = grind (arith, sum_has, sum_two, times_map, times_flat)
@@ -66,13 +60,11 @@ module _ (c : Setup) (byte : ℕ) where
       pub object : hit.object ≡ hit'.object
       pub same : cpu ≡ cpu'
 
-    one_there : (i j cpu cpu' : ℕ) (hit : IsHit c chunks byte i j cpu) (hit' : IsHit c chunks byte i j cpu') → IsOneHit i i j j cpu cpu' hit hit'
-    one_there i j cpu cpu' hit hit' = grind (arith, sum_has, times_map, same_place, times_flat)
-
     one_hit : (i i' j j' cpu cpu' : ℕ) (hit : IsHit c chunks byte i j cpu) (hit' : IsHit c chunks byte i' j' cpu') → IsOneHit i i' j j' cpu cpu' hit hit'
-    one_hit i i' j j' cpu cpu' hit hit' = subst (λ n. (x : IsHit c chunks byte n j' cpu') → IsOneHit i n j j' cpu cpu' hit x) (same_chunk_place i i' j j' cpu cpu' hit hit')
-        (λ x. subst (λ n. (y : IsHit c chunks byte i n cpu') → IsOneHit i i j n cpu cpu' hit y)
-            (same_object_place i j j' cpu cpu' hit x (same_Some hit.chunk x.chunk (sym hit.at_chunk ∙ x.at_chunk))) (one_there i j cpu cpu' hit) x) hit'
+    one_hit i i' j j' cpu cpu' hit hit' =
+        let first = same_chunk_place i i' j j' cpu cpu' hit hit' in let chunk : hit.chunk ≡ hit'.chunk = grind arith in
+        let second = same_object_place i i' j j' cpu cpu' hit hit' chunk in let object : hit.object ≡ hit'.object = grind arith in
+        record { chunk = chunk; object = object; same = same_cpu i i' j j' cpu cpu' hit hit' chunk object }
 
 -- A word of an object, by its processor and index.
 
