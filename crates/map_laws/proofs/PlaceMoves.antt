@@ -7,6 +7,7 @@ use Rattle.vm_model.proofs.Elements.{slice_get-drop}
 use Rattle.vm_model.proofs.FreePlaces.{begins_free-at}
 use Rattle.vm_model.proofs.Search.{length-count_from}
 use Rattle.vm_model.specs.declared.areas.Span.{Span}
+use Rattle.vm_model.specs.declared.areas.AreaKind.TheVariants as kind
 use Rattle.vm_model.specs.declared.areas.AreaKind.{AreaKind}
 use Rattle.vm_model.specs.Space.{span, holds, covers, is_among, one_if, times, paint, pages_of, count_from, lowest, begins_free, hull}
 use Rattle.vm_model.specs.Setup.{Setup, groups_at}
@@ -126,12 +127,7 @@ module _ (c : Setup) (m : PlainMap) (k : ℕ) (fine : IsMapFine m) where
     }
 
     pub carve_block : (place : Span) (align cpu pages : ℕ) → IsUnbearing p → IsLegalAs c m k (Carve place align) → IsMoved c m k p (Carve place align) (Go (SettlingBlock place cpu pages))
-    carve_block place align cpu pages none legal = record {
-      source = λ page t. (let n = (carve_outer place align legal).source page t in omega arith);
-      uses = λ page. (omega (arith, carve_uses place page _ refl (place_free m place align page legal), times-one page place));
-      own = record { held = carve_held place align legal; flushed = λ page e. cc; bare = carve_bare place align legal; mapped = λ page e. cc; unmapped = λ page e. cc; hull = tt };
-      fine = outer_map c m k p (Carve place align) fine once (carve_outer place align legal);
-    }
+    carve_block place align cpu pages none legal = let is = carve_area place align kind.Vmalloc none legal in grind arith
 
     -- A carve of groups, each page of which is free and in one of them.
 
