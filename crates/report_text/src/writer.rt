@@ -14,6 +14,9 @@ use text_lines::{Text, put_field, put_line, put_words};
 use unit_layout::LayoutError;
 use vm_model::{CounterList, CounterRow, Tables};
 
+/// Room for the line of a reply, in bytes. Few are longer.
+const LINE: usize = 32;
+
 /// Writes the replies, and how many events there were.
 fn put_calls(text: &mut Vec<u8>, tables: &Tables) -> Result<(), AllocError>
     ensures { OnOk result (text.new.items ≡ text.old.items ++ call_lines tables.now) }
@@ -70,7 +73,7 @@ pub fn write_report(
 ) -> Result<Text, AllocError>
     ensures { IfOk result (λ text. text ≡ report tables.now counters.now audit) }
 {
-    let mut text = Vec::new(alloc);
+    let mut text = Vec::with_capacity(alloc, tables.entries.as_slice().len().saturating_mul(LINE))?;
     put_line(&mut text, b"vmreport", &[Word(b"1")])?;
     put_calls(&mut text, tables)?;
     put_space(&mut text, tables)?;

@@ -43,6 +43,7 @@ use std::alloc::AllocError;
 
 /// Makes the caller's next section over the region that it wants: one event. It stays where the region is a turn that
 /// another caller has; then, and where memory is wanting, nothing changes.
+#[inline(always)]
 pub fn section(local: &mut Local, region: &mut Region) -> Result<Stepped, AllocError>
     requires { StandTogether wants IsLawful local.old region.old }
     ensures answer { IfOk result (Answers local.old region.old local.new region.new) }
