@@ -1,5 +1,5 @@
 -- A kernel may go to another thread.
-use denote.Param.Send.{IsSend, view_send, recorded_send, struct_send, sendable}
+use denote.Param.Send.{IsSend, view_send, sendable}
 use denote.Param.SendFields.{declared_send}
 use Rattle.std.proofs.Crossing.{crosses}
 use Rattle.callers.proofs.local.Local.TheSendSync as caller

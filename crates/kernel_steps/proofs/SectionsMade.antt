@@ -1,7 +1,8 @@
 -- A section over a list of regions and a list of callers, and the step of a world that it is.
-use Rattle.std.proofs.Common.{Vec, Global, Result, Ok, Err, IfOk, OnOk, ◌<◌, zero, suc, ◌≡◌, ◌≢◌, ℕ, true, false, List, [], ◌∷◌, ◌++◌, length, slice_get, slice_set, Option, Some, None, is_some, refl, ap, sym, ◌∙◌, subst}
+use Rattle.std.proofs.Common.{Vec, Global, Result, Ok, Err, IfOk, OnOk, ◌<◌, zero, suc, ◌≡◌, ◌≢◌, ℕ, true, false, List, [], ◌∷◌, ◌++◌, length, slice_get, slice_set, Option, Some, None, is_some, refl, ap, sym, ◌∙◌, subst, arith}
 use Rattle.std.proofs.lemmas.List.{map-append, with_items_is}
 use Rattle.std.specs.Vec.{with_items}
+use Rattle.std.proofs.lemmas.Bool.Decides.{nat_tests}
 use Rattle.std.proofs.lemmas.Option.{slice_get_within}
 use Rattle.std.specs.declared.alloc.AllocError.{AllocError}
 use Rattle.vm_model.specs.declared.calls.Call.{Call}
@@ -11,6 +12,7 @@ use Rattle.vm_model.specs.Places.{Ask, AskNothing, ask}
 use Rattle.vm_model.specs.Given.{can_move}
 use Rattle.vm_model.specs.History.{World, Local, moves_in, section_of, event_of, made_if, step, step_of}
 use Rattle.vm_model.specs.Parts.{Region, regions_of, number_of, wants, moves, after, state_of}
+use Rattle.vm_model.specs.Space.{is_among}
 use Rattle.vm_model.specs.Run.{section_by}
 use Rattle.vm_model.specs.Rules.{IsSetup}
 use Rattle.vm_model.proofs.OneNext.{gives}
@@ -27,6 +29,9 @@ use Rattle.section_core.specs.declared.region.Stepped.TheVariants.{Moved, Stays,
 use Rattle.section_core.specs.MadeSections.{IsMoved, HasStayed, Answers}
 use Rattle.section_laws.specs.Lawful.{IsRunning, IsLawful}
 use Rattle.kernel_steps.specs.Kernels.{KernelState, IsStanding, IsSomewhere, IsSteppedAs, SectionAs, movers}
+
+not_there : {k : ℕ} (other : ℕ) → other ≢ k → is_among (k ∷ []) other ≡ false
+not_there other apart = grind (arith, nat_tests)
 
 set_there : {X : Type 0} (xs : List X) (i : ℕ) (x : X) → slice_get xs i ≡ Some x → slice_set xs i x ≡ xs
 set_there [] i x at = cc
@@ -209,6 +214,12 @@ module _ (regions : Vec Region Global) (locals : Vec Local Global) (moved moved'
 
   pub as_many : length (with_items locals ls').items ≡ length locals.items
   as_many = ap length locals_made ∙ ap (λ (s : List Region × List Local). length s.1) made ∙ (run_of_sections wants moves after).as_many_locals (rs, ls) (k ∷ []) ∙ ap length locals_were
+
+  -- the callers beside the one that made it stay
+  pub others_stay : (other : ℕ) → other ≢ k → slice_get (with_items locals ls').items other ≡ slice_get locals.items other
+  others_stay other apart =
+      ap (λ xs. slice_get xs other) locals_made ∙ ap (λ (s : List Region × List Local). slice_get s.1 other) made
+      ∙ (run_of_sections wants moves after).other_locals (rs, ls) (k ∷ []) other (not_there other apart) ∙ ap (λ xs. slice_get xs other) locals_were
 
 -- whether a caller of the kernel can move
 pub moves_there : (c : Setup) (opening : List Call) (calls : List (List Call)) (w : World) (k : KernelState) (caller n : ℕ) (l : Local) (r : Region) → IsStanding c opening calls w k

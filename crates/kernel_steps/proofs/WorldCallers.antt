@@ -1,10 +1,10 @@
 -- How many callers a world of a run has, and which of them moves first.
-use Rattle.std.proofs.Common.{◌≡◌, ℕ, suc, ◌+◌, ◌-◌, ◌<◌, ◌≤◌, ◌⊎◌, inl, inr, Bool, true, false, cond, List, [], ◌∷◌, length, find, slice_get, Option, Some, None, refl, ap, sym, ◌∙◌, subst, arith, length-append, length-set}
+use Rattle.std.proofs.Common.{◌≡◌, ℕ, suc, ◌+◌, ◌-◌, ◌<◌, ◌≤◌, ◌⊎◌, inl, inr, Bool, true, false, cond, List, [], ◌∷◌, length, find, slice_get, Option, Some, None, refl, ap, sym, ◌∙◌, subst, arith, length-append, length-set, zero}
 use Rattle.vm_model.specs.declared.calls.Call.{Call}
 use Rattle.vm_model.specs.Space.{count_from}
 use Rattle.vm_model.specs.Setup.{Setup}
 use Rattle.vm_model.specs.Calls.{Answered}
-use Rattle.vm_model.specs.History.{World, moves_in, finish, most_events, moved_to, opening_answers, callers_from}
+use Rattle.vm_model.specs.History.{World, moves_in, finish, most_events, moved_to, opening_answers, callers_from, first_mover}
 use Rattle.vm_model.specs.Next.{next}
 use Rattle.vm_model.specs.LegalHistory.{IsReached, AllOver}
 use Rattle.map_laws.proofs.EndProofs.{every_run_ends}
@@ -59,6 +59,11 @@ mover_later w k low h = mover_by w k (length w.locals - suc k) false (omega arit
 
 pub mover_none : (w : World) (k : ℕ) → length w.locals ≤ k → mover_from w k ≡ None
 mover_none w k high = let none : length w.locals - k ≡ 0 = omega arith in ap (λ m. find (λ k. moves_in w (slice_get w.locals k)) (count_from m k)) none
+
+-- where the first so many can't move
+pub mover_past : (w : World) (n : ℕ) → n ≤ length w.locals → ((k : ℕ) → k < n → moves_in w (slice_get w.locals k) ≡ false) → mover_from w n ≡ first_mover w
+mover_past w zero within still = ap (λ m. find (λ k. moves_in w (slice_get w.locals k)) (count_from m 0)) (let e : length w.locals - 0 ≡ length w.locals = omega arith in e)
+mover_past w (suc n) within still = sym (mover_later w n (omega arith) (still n (omega arith))) ∙ mover_past w n (omega arith) (λ k low. still k (omega arith))
 
 -- who has run to the end has ended
 pub over_there : (c : Setup) (opening : List Call) (calls : List (List Call)) (w : World) (old new : KernelState) (v : World) → IsStanding c opening calls w old → IsStanding c opening calls v new → v ≡ finish most_events w

@@ -1,5 +1,5 @@
 -- Where a kernel stands: its regions and callers are the parts of a world, after the world's own events.
-use Rattle.std.specs.Prelude.{length, ◌≤◌, [], ◌∷◌, ◌≡◌, ◌≢◌, ℕ, Bool, true, false, if◌then◌else◌, List, map, slice_get, Some, None}
+use Rattle.std.specs.Prelude.{length, ◌≤◌, ◌<◌, [], ◌∷◌, ◌≡◌, ◌≢◌, ℕ, Bool, true, false, if◌then◌else◌, List, map, slice_get, Some, None}
 use Rattle.vm_model.specs.declared.calls.Call.{Call}
 use Rattle.vm_model.specs.Setup.{Setup}
 use Rattle.vm_model.specs.Events.{Event}
@@ -45,6 +45,10 @@ StepsAs w l Ended = ask l.setup l.place ≡ AskNothing
 
 abbrev pub IsSteppedAs : World → (caller : ℕ) → Stepped → Type 0
 IsSteppedAs w caller stepped = (l : Local) × (slice_get w.locals caller ≡ Some l) × StepsAs w l stepped
+
+-- the calls of the first so many callers are all answered
+abbrev pub HaveEnded : ℕ → List Local → Type 0
+HaveEnded callers locals = (k : ℕ) → k < callers → (l : Local) × (slice_get locals k ≡ Some l) × (wants l ≡ None)
 
 -- the same over regions and locals alone
 abbrev pub SectionAs : List Region × List Local → (caller : ℕ) → Stepped → Type 0

@@ -1,5 +1,5 @@
 //! The kernel: all regions and all callers, one step after another.
-ghost use Rattle.std.specs.Prelude.{◌∷◌, ◌≡◌, ◌≢◌, ◌<◌, ℕ, true, false, List, All, Some, length, take, slice_get, IfOk, IfSome, OnOk, OnErr};
+ghost use Rattle.std.specs.Prelude.{◌∷◌, ◌≡◌, ◌≢◌, ◌≤◌, ◌<◌, ℕ, true, false, List, All, Some, length, take, slice_get, IfOk, IfSome, OnOk, OnErr};
 ghost use Rattle.vm_model.specs.declared.calls.Call.{Call};
 ghost use Rattle.vm_model.specs.Setup.{Setup};
 ghost use Rattle.unit_layout.specs.Config.{setup_of};
@@ -11,7 +11,7 @@ ghost use Rattle.vm_model.specs.Parts.{wants, moves, after};
 ghost use Rattle.vm_model.specs.Run.{section_by};
 ghost use Rattle.section_core.specs.declared.region.Stepped.TheVariants.{Moved};
 ghost use Rattle.section_laws.specs.Lawful.{IsLawful};
-ghost use Rattle.kernel_steps.specs.Kernels.{KernelState, IsStanding, IsSteppedAs, SectionAs, CanStart, IsBefore, CanJoin, start_of, opening_of, callers_of};
+ghost use Rattle.kernel_steps.specs.Kernels.{KernelState, IsStanding, IsSteppedAs, SectionAs, CanStart, IsBefore, CanJoin, HaveEnded, start_of, opening_of, callers_of};
 
 use callers::{AnswerList, Local, first_callers, placing_calls};
 use section_core::{Region, Stepped, first_regions, moves, section};
@@ -198,6 +198,8 @@ impl Kernel {
             → IsStanding c opening calls w self.old → IsSteppedAs w caller stepped) }
         ensures unchanged { IfOk result (λ stepped. stepped ≢ Moved → self.new ≡ self.old) }
         ensures callers { length self.new.locals ≡ length self.old.locals }
+        ensures others { (other : ℕ) → other ≢ caller
+            → slice_get self.new.locals other ≡ slice_get self.old.locals other }
         ensures err { OnErr result (self.new ≡ self.old) }
     {
         self.moved.reserve(1)?;
@@ -242,14 +244,35 @@ impl Kernel {
         Ok(())
     }
 
-    /// The lowest caller that can move.
+    /// The first caller from one on that has not ended, where those before it have, or how many callers there are.
     #[inline(always)]
-    fn first_mover(&self) -> Option<u16>
+    fn skip_ended(&self, from: u16) -> u16
+        requires within { from ≤ length self.now.locals }
+        requires ended { HaveEnded from self.now.locals }
+        ensures within { result ≤ length self.now.locals }
+        ensures ended { HaveEnded result self.now.locals }
+    {
+        let mut caller = from;
+        while (caller as usize) < self.locals.len() {
+            if self.locals[caller as usize].wants().is_some() {
+                break;
+            }
+            caller += 1;
+        }
+        caller
+    }
+
+    /// The lowest caller that can move, where so many have ended.
+    #[inline(always)]
+    fn first_mover(&self, ended: u16) -> Option<u16>
+        requires within { ended ≤ length self.now.locals }
+        requires ended { HaveEnded ended self.now.locals }
         ensures first { (c : Setup) (opening : List Call) (calls : List (List Call)) (w : World)
             → IsStanding c opening calls w self.now → result ≡ first_mover w }
         ensures within { IfSome result (λ caller. caller < length self.now.locals) }
+        ensures behind { IfSome result (λ caller. ended ≤ caller) }
     {
-        for caller in 0..self.locals.len() as u16 {
+        for caller in ended..self.locals.len() as u16 {
             if self.can_move(caller) {
                 return Some(caller);
             }
@@ -271,8 +294,10 @@ impl Kernel {
             → IsStanding c opening calls w self.old
             → IsStanding c opening calls (finish n w) self.new)) }
     {
+        let mut ended = 0;
         for _ in 0..MOST_EVENTS {
-            let Some(caller) = self.first_mover() else {
+            ended = self.skip_ended(ended);
+            let Some(caller) = self.first_mover(ended) else {
                 break;
             };
             self.advance(caller)?;

@@ -1,8 +1,8 @@
-use Rattle.std.proofs.Common.{length, ◌≡◌, ◌∷◌, ◌++◌, [], inl, inr, sym, ◌∙◌, ap, subst}
+use Rattle.std.proofs.Common.{length, slice_get, ◌≡◌, ◌∷◌, ◌++◌, [], inl, inr, sym, ◌∙◌, ap, subst}
 use Rattle.vm_model.specs.History.{step}
 use Rattle.section_core.specs.declared.region.Stepped.TheVariants.{Moved, Stays, Ended}
 use Rattle.kernel_steps.specs.Kernels.{KernelState, IsStanding}
-use Rattle.kernel_steps.proofs.SectionsMade.{stands_after, stepped_there, as_many, unchanged_after}
+use Rattle.kernel_steps.proofs.SectionsMade.{stands_after, stepped_there, as_many, unchanged_after, others_stay}
 use Rattle.kernel_steps.proofs.kernel.Kernel.advance.Goals as goal
 
 pub invariant_of-self-in-Moved : goal.invariant_of-self-in-Moved
@@ -39,6 +39,12 @@ returns-in-Moved-clause-callers c =
     c.deref_mut.result.now c.section_of.new.regions c.deref_mut-2.result.now c.section_of.new.locals c.deref_mut.ensures.value c.deref_mut-2.ensures.value c.in_ok-stepped.ensures.ok
     ∙ ap (λ (k : KernelState). length k.locals) c.self.view_is
 
+pub returns-in-Moved-clause-others : goal.returns-in-Moved-clause-others
+returns-in-Moved-clause-others c = λ other apart.
+    others_stay c.self.inside.regions c.self.inside.locals c.self.inside.moved c.push_reserved.new.self c.args.caller c.in_ok-stepped.stepped
+    c.deref_mut.result.now c.section_of.new.regions c.deref_mut-2.result.now c.section_of.new.locals c.deref_mut.ensures.value c.deref_mut-2.ensures.value c.in_ok-stepped.ensures.ok other apart
+    ∙ ap (λ (k : KernelState). slice_get k.locals other) c.self.view_is
+
 pub returns-in-Stays : goal.returns-in-Stays
 returns-in-Stays c = record {
   ok = λ setup opening calls w st.
@@ -59,5 +65,9 @@ returns-in-Stays c = record {
       as_many c.self.inside.regions c.self.inside.locals c.self.inside.moved c.reserve.new.self c.args.caller c.in_ok-stepped.stepped
       c.deref_mut.result.now c.section_of.new.regions c.deref_mut-2.result.now c.section_of.new.locals c.deref_mut.ensures.value c.deref_mut-2.ensures.value c.in_ok-stepped.ensures.ok
       ∙ ap (λ (k : KernelState). length k.locals) c.self.view_is;
+  others = λ other apart.
+      others_stay c.self.inside.regions c.self.inside.locals c.self.inside.moved c.reserve.new.self c.args.caller c.in_ok-stepped.stepped
+      c.deref_mut.result.now c.section_of.new.regions c.deref_mut-2.result.now c.section_of.new.locals c.deref_mut.ensures.value c.deref_mut-2.ensures.value c.in_ok-stepped.ensures.ok other apart
+      ∙ ap (λ (k : KernelState). slice_get k.locals other) c.self.view_is;
   err = tt;
 }

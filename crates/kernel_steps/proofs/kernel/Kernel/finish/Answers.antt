@@ -1,4 +1,4 @@
-use Rattle.std.proofs.Common.{IfSome, ◌≡◌, ◌<◌, ◌-◌, ◌+◌, suc, length, Some, None, refl, sym, ◌∙◌, ap, subst, arith}
+use Rattle.std.proofs.Common.{IfSome, ◌≡◌, ◌≤◌, ◌<◌, ◌-◌, ◌+◌, suc, length, Some, None, refl, sym, ◌∙◌, ap, subst, arith}
 use Rattle.vm_model.specs.History.{step, finish, first_mover, most_events}
 use Rattle.kernel_steps.specs.Kernels.{IsStanding}
 use Rattle.map_laws.proofs.EndProofs.{finish_zero, finish_some, finish_stays}
@@ -11,12 +11,19 @@ advance-requires c = subst (λ o. IfSome o (λ caller. caller < length c.loop.se
 
 pub loop-init : goal.loop-init
 loop-init c = record {
+  within = omega arith;
+  ended = λ k low. absurd (omega arith);
   callers = refl;
   stands = λ setup opening calls w st. (w, st, refl, sym (finish_zero w));
 }
 
 pub loop-preserved : goal.loop-preserved
 loop-preserved c = record {
+  within = subst (λ n. c.skip_ended-ended.result ≤ n) (sym c.advance.ensures.callers) c.skip_ended-ended.ensures.within;
+  ended = λ k low.
+      let behind = subst (λ o. IfSome o (λ caller. c.skip_ended-ended.result ≤ caller)) c.in-Some.is c.first_mover.ensures.behind in
+      let was = c.skip_ended-ended.ensures.ended k low in
+      (was.0, c.advance.ensures.others k (λ e. absurd (omega arith)) ∙ was.1, was.2);
   callers = c.advance.ensures.callers ∙ c.loop.invariant.callers;
   stands = λ setup opening calls w st.
       let is = c.loop.invariant.stands setup opening calls w st in
