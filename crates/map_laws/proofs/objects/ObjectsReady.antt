@@ -121,19 +121,10 @@ module _ (c : Setup) (setup : IsSetup c) (w : World) (framed : IsFramed c w) (is
       ((let few = starts_once c setup.groups base start in let some = among_count start (group_starts c base) h in omega arith), (area.0, subst (λ n. areas_at n w.map.areas ≡ area.0 ∷ []) s.3 area.1))
 
   ready_by : (p : Place) → l.place ≡ p → IsChunkAt c w.map p → IsObjectAt w.map k p → IsNumberNext w.map p → IsNow l p → IsReady c w.map k p
-  ready_by (AddingChunk base number bytes align) e chunk hand next now = ((λ group g f. group_at number base group g chunk.0 f), next number refl)
-  ready_by (Populating object missing) e chunk hand next now = grind (arith, open_bare)
-  ready_by (SettlingObject object) e chunk hand next now = life_is object (InHand k) hand
-  ready_by (Unplacing object) e chunk hand next now = life_is object (InHand k) hand
   ready_by (Zeroing object) e chunk hand next now = (life_is object (InHand k) hand, object_mapped object (InHand k) hand (λ page f. chunk.populated hand.chunk hand.there hand.numbered page f))
-  ready_by (SettlingAtomic object) e chunk hand next now = life_is object (InHand k) hand
-  ready_by (Adding object serial cpu index amount) e chunk hand next now = live_ready object serial (named_live object serial now)
-  ready_by (Summing object serial index) e chunk hand next now = live_ready object serial (named_live object serial now)
   ready_by (Depopulating base populated) e chunk hand next now = λ x f. (let u = unit_page c base x populated f in subst (IsMapped w.map) (sym u.same) ((chunk.2 u.page u.among).1 u.cpu u.unit u.at))
-  ready_by (UnlinkingGroups base) e chunk hand next now = starts_ready chunk.0 base chunk.1.live
-  ready_by (Filling number base page filled) e chunk hand next now = grind (arith, open_bare)
   ready_by (NotingFilled number page filled) e chunk hand next now = can_fill (ap has_alloc e) (λ i off b. subst (IsBeingPlaced i off) e b) number chunk.0 page chunk.1
-  ready_by _ e chunk hand next now = tt
+  ready_by _ e chunk hand next now = first_of (search (group_at, life_is, live_ready, named_live, starts_ready, arith) depth 6, grind (arith, open_bare))
 
   pub ready_here : IsReady c w.map k l.place
   ready_here = ready_by l.place refl (is.chunks.each k l here) (subst (λ i. IsObjectAt w.map i l.place) (framed.own k l here).caller (is.objects.hands k l here)) (is.objects.numbers k l here) (is.uses.now k l here)
