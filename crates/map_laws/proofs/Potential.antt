@@ -69,9 +69,7 @@ weight_answered l answer (Some call) e =
     search (one_rest, length-append, arith) depth 6
 
 weight_moved : (l : Local) (n : Next) → length l.answers < length l.calls → weight l.setup (moved_to l n) ≤ left_next l.setup n + per_call l.setup * (length l.calls - suc (length l.answers))
-weight_moved l (Go p) h = omega arith
-weight_moved l (Answer r made) h = let e = answers_call l r made h in
-    grind (arith, weight_answered)
+weight_moved l n h = grind (arith, weight_answered, past_end)
 
 -- who fills or gives up has the alloc turn
 balancing_has : (p : Place) → has_alloc p ≡ false → is_balancing p ≡ false
@@ -113,9 +111,7 @@ module _ (w : World) (l : Local) (s : Section) (here : slice_get w.locals l.call
   taken_falls false none e = record { less = omega (arith, moved_credit, no_own none, credit_falls l.setup w.map l.caller units s Over, plain none) }
 
   given_falls : has_alloc l.place ≡ true → Falls (Some l.caller) None
-  given_falls has =
-      let old : credit_at w.map.chunks (slice_get w.locals l.caller) ≡ credit w.map.chunks l.place = ap (credit_at w.map.chunks) here in
-      record { less = omega (arith, old, place_falls l.setup w.map l.caller units sized l.place s proper gives) }
+  given_falls has = grind (arith, place_falls, moved_credit)
 
   by_change : (later : Option ℕ) → Change w.map.alloc_turn later l.caller (has_alloc l.place) (has_next has_alloc (next l.setup l.place s)) → Falls w.map.alloc_turn later
   by_change later change = grind (arith, stays_by, taken_falls, given_falls)

@@ -240,8 +240,7 @@ none_started f c answers none first (own ∷ more) = omega (arith, sum_by-cons f
 -- callers of a world, with those that join them
 pub all_joined : (P : Local → Type 0) (c : Setup) (calls : List (List Call)) (w : World) → ((k : ℕ) (l : Local) → slice_get w.locals k ≡ Some l → P l)
     → ((i : ℕ) (own : List Call) → P (started c (opening_answers w.locals) i own)) → (k : ℕ) (l : Local) → slice_get (with_callers c calls w).locals k ≡ Some l → P l
-all_joined P c calls w all begin k l h =
-    elim (append_cases w.locals (callers_from c (opening_answers w.locals) 1 calls) k l h) [ inl e ↦ all k l e | inr e ↦ all_started P c (opening_answers w.locals) 1 calls begin e.0 l e.2 ]
+all_joined P c calls w all begin k l h = grind (arith, append_cases, started_caller)
 
 -- callers of which one has moved
 pub all_moved : (P : Local → Type 0) (locals : List Local) (k : ℕ) (moved : Local) → P moved → ((j : ℕ) (x : Local) → slice_get locals j ≡ Some x → j ≢ k → P x)

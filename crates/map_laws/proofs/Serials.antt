@@ -83,13 +83,10 @@ module _ (c : Setup) (m : PlainMap) (k : ℕ) where
   plain_stays s legal serial is = grind (arith, next_grows, old_or_new, nat_tests)
 
   pub made_stays : (s : Section) → IsLegalAs c m k s → (made : Made) → IsPlainMade m made → IsPlainMade (effect_as c m k s) made
-  made_stays s legal (MadeArea start serial) is = plain_stays s legal serial is
-  made_stays s legal _ is = tt
+  made_stays s legal made is = grind (arith, old_or_new)
 
   pub place_stays : (s : Section) → IsLegalAs c m k s → (p : Place) → IsPlainPlace m p → IsPlainPlace (effect_as c m k s) p
-  place_stays s legal (Removing start serial) is = plain_stays s legal serial is
-  place_stays s legal (GivingAlloc r made) is = made_stays s legal made is
-  place_stays s legal _ is = tt
+  place_stays s legal p is = grind (arith, old_or_new)
 
   -- an area that a caller settles is plain, and has the serial that it is told
   settled_plain : (place : Span) (kd : AreaKind) (first : ℕ) (a : Area) → IsPlainKind kd → AreGiven m → first ≡ m.next_area → a.serial ≡ first → IsIn a (areas_of k first ((place, kd) ∷ [])) ⊎ IsIn a m.areas → IsPlainKind a.kind

@@ -57,8 +57,7 @@ module _ (c : Setup) (w : World) (own : AreWordsOwn c w) (kept : IsSummed c w) (
     -- Serials.
 
     serial_by : (at : ObjectAt) (serial : ℕ) (t : Section) → IsLegalAs c w.map k t → CameFrom w.map.chunks at serial t → serial < (effect_as c w.map k t).next_object
-    serial_by at serial r law (Was t is) = let low = kept.serials at serial is in let more = next_grows c w.map k t law in omega arith
-    serial_by at serial r law (Settled o life is e f) = omega arith
+    serial_by at serial t law x5 = grind (arith, was_or_settled)
 
     unique_by : (at o : ObjectAt) (serial : ℕ) → CameFrom w.map.chunks at serial s → CameFrom w.map.chunks o serial s → (at.chunk ≡ o.chunk) × (at.off ≡ o.off)
     unique_by at o serial from from' = grind (arith, was_or_settled)

@@ -21,16 +21,14 @@ one_if_le b = grind arith
 
 -- what holds whether a test holds or not
 pub by_test : {P : Type 0} (t : Bool) → (t ≡ true → P) → (t ≡ false → P) → P
-by_test true f g = f refl
-by_test false f g = g refl
+by_test t f g = grind arith
 
 -- two counts that are not both above 0
 pub one_of_two : (a b : ℕ) → a ≤ 1 → b ≤ 1 → (1 ≤ a → 1 ≤ b → ⊥) → a + b ≤ 1
 one_of_two a b few few' apart = grind arith
 
 pub some_of_two : {P : Type 0} (a b : ℕ) → 1 ≤ a + b → (1 ≤ a → P) → (1 ≤ b → P) → P
-some_of_two zero b n f g = g (omega arith)
-some_of_two (suc a) b n f g = f (omega arith)
+some_of_two a b n f g = grind arith
 
 -- What a filter, a least element and a row of numbers hold.
 
@@ -191,8 +189,7 @@ pub holds_from : (s : Span) (page : ℕ) → s.start ≤ page → page < s.start
 holds_from s page a b = grind (arith, nat_tests)
 
 pub covers_append : (page : ℕ) (xs ys : List Span) → covers (xs ++ ys) page ≡ (covers xs page || covers ys page)
-covers_append page [] ys = refl
-covers_append page (x ∷ xs) ys = ap (λ b. holds x page || b) (covers_append page xs ys) ∙ or_assoc (holds x page) (covers xs page) (covers ys page)
+covers_append page xs ys = grind (arith, times-append, in_spans)
 
 -- a page that spans cover is in one of them
 pub covers_in : (page : ℕ) (spans : List Span) → covers spans page ≡ true → (s : Span) × IsIn s spans × (holds s page ≡ true)

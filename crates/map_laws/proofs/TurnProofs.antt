@@ -1,6 +1,6 @@
 -- Which places have the two turns, before and after each section, and which sections leave them.
 use Rattle.std.proofs.Common.{◌≡◌, ℕ, Bool, true, false, List, slice_get, slice_set, Option, Some, None, ap, ◌∙◌, refl, arith, ◌≢◌, zero, suc, ◌<◌, ◌⊎◌, inl, inr, [], ◌∷◌, length, is_none, sym, subst}
-use Rattle.vm_model.specs.Places.{Place, Ask, AskTakePurge, AskGivePurge, AskTakeAlloc, AskGiveAlloc, AskAddChunk, PurgeTaking, PurgeGiving, TakingAlloc, GivingAlloc, TakingToBalance, ask, AskNothing, Over}
+use Rattle.vm_model.specs.Places.{Place, Ask, AskTakePurge, AskGivePurge, AskTakeAlloc, AskGiveAlloc, AskAddChunk, PurgeTaking, PurgeGiving, TakingAlloc, GivingAlloc, TakingToBalance, ask, AskNothing}
 use Rattle.vm_model.specs.History.{World, Local, started, moved_to, made_by, opening_world, opening_answers, callers_from, with_callers, moves_in}
 use Rattle.vm_model.specs.Carried.{IsTurnKept, has_purge, has_alloc}
 use Rattle.map_laws.proofs.KeptThroughSteps.{same_or, set_same, set_cases, set_other, append_cases, append_first, IsFramed, IsStep, IsLasting, lasts, not_over, has_call}
@@ -88,8 +88,12 @@ module _ (c : Setup) (m : PlainMap) where
     purge_by : (p : Place) (s : Section) (b : Bool) → asks_turn (ask c p) ≡ b → given c m (ask c p) ≡ Some s
         → Change m.purge_turn (effect_as c m k s).purge_turn k (has_purge p) (has_next has_purge (next c p s))
     purge_by p s false n e = grind (arith, purge_stays, no_turn, place_row)
-    purge_by Over s true n e = cc
-    purge_by _ s true n e = grind (arith, taking_is, same_section)
+    purge_by (PurgeTaking extra after) s true n e = let is = taking_is m.purge_turn TakePurge s e in Taken is.0 (ap (λ x. (effect_as c m k x).purge_turn) is.1) refl
+    purge_by (PurgeGiving after) s true n e = grind (arith, same_section)
+    purge_by (TakingAlloc bytes align) s true n e = Stays (ap (λ x. (effect_as c m k x).purge_turn) (taking_is m.alloc_turn TakeAlloc s e).1) refl
+    purge_by TakingToBalance s true n e = Stays (ap (λ x. (effect_as c m k x).purge_turn) (taking_is m.alloc_turn TakeAlloc s e).1) refl
+    purge_by (GivingAlloc reply made) s true n e = Stays (ap (λ x. (effect_as c m k x).purge_turn) (same_section GiveAlloc s e)) refl
+    purge_by _ s true n e = cc
 
     -- what a section does to the purge turn, and what its place and the next one have of it
     pub purge_change : (p : Place) (s : Section) → given c m (ask c p) ≡ Some s → Change m.purge_turn (effect_as c m k s).purge_turn k (has_purge p) (has_next has_purge (next c p s))
@@ -98,8 +102,12 @@ module _ (c : Setup) (m : PlainMap) where
     alloc_by : (p : Place) (s : Section) (b : Bool) → asks_turn (ask c p) ≡ b → IsProper c p → given c m (ask c p) ≡ Some s
         → Change m.alloc_turn (effect_as c m k s).alloc_turn k (has_alloc p) (has_next has_alloc (next c p s))
     alloc_by p s false n is e = Stays (alloc_stays c m k s (no_turn c m (ask c p) s n e)) (alloc_row s p (next c p s) (place_row c s p) is e n)
-    alloc_by Over s true n is e = cc
-    alloc_by _ s true n is e = grind (arith, taking_is, same_section)
+    alloc_by (PurgeTaking extra after) s true n is e = Stays (ap (λ x. (effect_as c m k x).alloc_turn) (taking_is m.purge_turn TakePurge s e).1) refl
+    alloc_by (PurgeGiving after) s true n is e = grind (arith, same_section)
+    alloc_by (TakingAlloc bytes align) s true n is e = let at = taking_is m.alloc_turn TakeAlloc s e in Taken at.0 (ap (λ x. (effect_as c m k x).alloc_turn) at.1) refl
+    alloc_by TakingToBalance s true n is e = let at = taking_is m.alloc_turn TakeAlloc s e in Taken at.0 (ap (λ x. (effect_as c m k x).alloc_turn) at.1) refl
+    alloc_by (GivingAlloc reply made) s true n is e = Given refl (ap (λ x. (effect_as c m k x).alloc_turn) (same_section GiveAlloc s e)) refl
+    alloc_by _ s true n is e = cc
 
     -- what a section does to the alloc turn, and what its place and the next one have of it
     pub alloc_change : (p : Place) (s : Section) → IsProper c p → given c m (ask c p) ≡ Some s → Change m.alloc_turn (effect_as c m k s).alloc_turn k (has_alloc p) (has_next has_alloc (next c p s))

@@ -59,10 +59,8 @@ module _ (c : Setup) (units : AreUnits c) (m : PlainMap) (k : ℕ) (numbered : A
   noted_grown = record {
     next = omega (arith, next);
     back = λ h there low. (let was = keyed_is (λ (x : Chunk). x.number) number change m.chunks h (subst (IsIn h) chunks there) in
-        let r : (was.0.number ≡ h.number) × ((page : ℕ) → slice_get was.0.populated page ≡ Some true → slice_get h.populated page ≡ Some true) = elim was.2 [
-          | inl own ↦ (sym (numbers was.0) ∙ ap (λ (x : Chunk). x.number) (sym own.1), (λ page e. ap (λ (x : Chunk). slice_get x.populated page) own.1 ∙ ap (λ l. slice_get l page) (paints was.0) ∙ painted_still test true was.0.populated page e))
-          | inr other ↦ (ap (λ (x : Chunk). x.number) (sym other.1), (λ page e. ap (λ (x : Chunk). slice_get x.populated page) other.1 ∙ e))
-        ] in (was.0, was.1, r.0, r.1));
+        let r : (was.0.number ≡ h.number) × ((page : ℕ) → slice_get was.0.populated page ≡ Some true → slice_get h.populated page ≡ Some true) = (
+            grind (arith, slice_get-paint)) in (was.0, was.1, r.0, r.1));
   }
 
   noted_number : (h : Chunk) → IsIn h noted_map.chunks → (was : Chunk) × IsIn was m.chunks × (h.number ≡ was.number) × (((was.number ≡ number) × (h ≡ change was)) ⊎ ((was.number ≢ number) × (h ≡ was)))

@@ -124,7 +124,7 @@ module _ (c : Setup) (setup : IsSetup c) (w : World) (framed : IsFramed c w) (is
   ready_by (Zeroing object) e chunk hand next now = (life_is object (InHand k) hand, object_mapped object (InHand k) hand (λ page f. chunk.populated hand.chunk hand.there hand.numbered page f))
   ready_by (Depopulating base populated) e chunk hand next now = λ x f. (let u = unit_page c base x populated f in subst (IsMapped w.map) (sym u.same) ((chunk.2 u.page u.among).1 u.cpu u.unit u.at))
   ready_by (NotingFilled number page filled) e chunk hand next now = can_fill (ap has_alloc e) (λ i off b. subst (IsBeingPlaced i off) e b) number chunk.0 page chunk.1
-  ready_by _ e chunk hand next now = first_of (search (group_at, life_is, live_ready, named_live, starts_ready, arith) depth 6, grind (arith, open_bare))
+  ready_by _ e chunk hand next now = first_of (search, search life_is, search (live_ready, named_live), search (group_at, arith), search starts_ready, grind (arith, open_bare))
 
   pub ready_here : IsReady c w.map k l.place
   ready_here = ready_by l.place refl (is.chunks.each k l here) (subst (λ i. IsObjectAt w.map i l.place) (framed.own k l here).caller (is.objects.hands k l here)) (is.objects.numbers k l here) (is.uses.now k l here)
