@@ -157,8 +157,35 @@ module _ (c : Setup) (s : Section) where
   flushes h (x ∷ waited) after = FlushedSome h (x ∷ waited) after
 
   -- rows of places with one outcome
-  ruleset lone = (Stays, Refused, Dropped, Settled, UnmappedArea, TookPurge, UnlinkedGone, WaitedGone, ReturnedAll, SettledBlock, AddedBlock, SettledPart, UnmappedPart,
-      UnlinkedBlock, TookAlloc, SettledGroups, SettledObject, Unplaced, GaveAlloc, ZeroedObject, SettledAtomic, Added, Summed, TookToBalance, Depopulated, UnlinkedGroups, Noted)
+  ruleset lone = (
+    Stays,
+    Refused,
+    Dropped,
+    Settled,
+    UnmappedArea,
+    TookPurge,
+    UnlinkedGone,
+    WaitedGone,
+    ReturnedAll,
+    SettledBlock,
+    AddedBlock,
+    SettledPart,
+    UnmappedPart,
+    UnlinkedBlock,
+    TookAlloc,
+    SettledGroups,
+    SettledObject,
+    Unplaced,
+    GaveAlloc,
+    ZeroedObject,
+    SettledAtomic,
+    Added,
+    Summed,
+    TookToBalance,
+    Depopulated,
+    UnlinkedGroups,
+    Noted,
+  )
 
   -- each section leads as one of the rows says
   pub place_row : (p : Place) → PlaceRow c s p (next c p s)

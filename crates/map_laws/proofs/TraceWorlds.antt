@@ -214,7 +214,7 @@ trace_step w l s setup framed is step =
     let outside = block_outside l.setup w.map l.caller once is.blocks.blocks l.place sided plain block (λ start. (let n = names start in omega arith)) in
     let blocks = block_by l.setup w.map l.caller is.area.fine parts is.blocks.blocks l.place s sided proper holding plain (own_once w l.caller l is.area here) names block step.meets step.legal in
     let chunks = chunk_by l.setup setup.units w.map l.caller is.chunks.numbered once (OthersPopulate w l.caller) is.area.fine is.full.each parts.some is.blocks.blocks l.place s (none_populates w l.caller l here is.turns.turns)
-        (chunks_here w l.caller l here is.turns.turns l.setup is.chunks) proper holding plain block (is.chunks.each l.caller l here) step.meets step.legal in
+    (chunks_here w l.caller l here is.turns.turns l.setup is.chunks) proper holding plain block (is.chunks.each l.caller l here) step.meets step.legal in
     let objects = object_by l.setup w.map l.caller is.chunks.numbered (λ h there. (is.chunks.chunks h there).long) (OthersPlace w l.caller) l.place s (objects_here l.setup w l.caller l here is.objects) proper hand chunks.own step.meets step.legal in
     record {
       turns = (turns_last l.setup []).steps w l.caller l s framed is.turns step.step;

@@ -183,8 +183,8 @@ module _ (c : Setup) (units : AreUnits c) (m : PlainMap) (k : ℕ) (numbered : A
       areas = λ a group there e. there;
       still = λ x is e. by_test (is_among (pages_in_units c base populated) x)
           (λ f. absurd (let u = unit_page c base x populated f in
-            let own = group_page c m at.0 base x at.1.live (ap (covers (groups_at c base)) u.same ∙ unit_covered c base u.page u.cpu u.unit units u.at (at.2 u.page u.among).0) in
-            apart (sym e ∙ number_once m x (once x) is own.0 ∙ own.1)))
+          let own = group_page c m at.0 base x at.1.live (ap (covers (groups_at c base)) u.same ∙ unit_covered c base u.page u.cpu u.unit units u.at (at.2 u.page u.among).0) in
+          apart (sym e ∙ number_once m x (once x) is own.0 ∙ own.1)))
           (λ f. record { frame = unpainted (is_among (pages_in_units c base populated)) None m.frames x f; clean = λ h. unpainted (is_among (pages_in_units c base populated)) true m.stale x f ∙ h });
     }
 

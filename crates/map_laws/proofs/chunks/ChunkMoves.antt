@@ -203,7 +203,7 @@ shifted : (base page : ℕ) (groups : List Span) → base ≤ page → times pag
 shifted base page [] low = omega arith
 shifted base page (g ∷ groups) low =
     let hold : one_if (holds (span (base + g.start) g.pages) page) ≤ one_if (holds g (page - base)) = by_test (holds (span (base + g.start) g.pages) page)
-        (λ e. (let r = holds_to (span (base + g.start) g.pages) page e in omega (arith, ap one_if e, ap one_if (holds_from g (page - base) (omega arith) (omega arith))))) (λ e. omega (arith, ap one_if e)) in
+    (λ e. (let r = holds_to (span (base + g.start) g.pages) page e in omega (arith, ap one_if e, ap one_if (holds_from g (page - base) (omega arith) (omega arith))))) (λ e. omega (arith, ap one_if e)) in
     omega (arith, times-cons page (span (base + g.start) g.pages) (map (λ (g : Span). span (base + g.start) g.pages) groups), times-cons (page - base) g groups, shifted base page groups low)
 
 below_none : (base page : ℕ) (groups : List Span) → page < base → times page (map (λ (g : Span). span (base + g.start) g.pages) groups) ≡ 0

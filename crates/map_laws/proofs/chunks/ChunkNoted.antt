@@ -60,7 +60,7 @@ module _ (c : Setup) (units : AreUnits c) (m : PlainMap) (k : ℕ) (numbered : A
     next = omega (arith, next);
     back = λ h there low. (let was = keyed_is (λ (x : Chunk). x.number) number change m.chunks h (subst (IsIn h) chunks there) in
         let r : (was.0.number ≡ h.number) × ((page : ℕ) → slice_get was.0.populated page ≡ Some true → slice_get h.populated page ≡ Some true) = (
-            grind (arith, slice_get-paint)) in (was.0, was.1, r.0, r.1));
+        grind (arith, slice_get-paint)) in (was.0, was.1, r.0, r.1));
   }
 
   noted_number : (h : Chunk) → IsIn h noted_map.chunks → (was : Chunk) × IsIn was m.chunks × (h.number ≡ was.number) × (((was.number ≡ number) × (h ≡ change was)) ⊎ ((was.number ≢ number) × (h ≡ was)))

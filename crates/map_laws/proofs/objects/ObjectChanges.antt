@@ -179,7 +179,7 @@ module _ (c : Setup) (placing placing' : ℕ → ℕ → Type 0) (k : ℕ) (at :
   pub lived_keeps : (other : ObjectAt) (life : Life) → (life ≢ InHand k) → IsObject chunks other life → IsObject (change_chunk at.chunk (with_live_object at (Lives serial)) chunks) other life
   lived_keeps other life apart is = changed_object at.chunk (with_live_object at (Lives serial)) (λ h. refl) (λ h. refl) chunks other life is (λ e. by_test (is.object.off == at.off)
       (λ f. absurd (apart (let one = object_only c placing chunks fine at (InHand k) hand is.chunk is.object is.there (is.numbered ∙ e) is.object_there (to_same is.object.off at.off f) in
-          sym is.lives ∙ ap (λ (x : Object). x.life) one ∙ hand.lives)))
+      sym is.lives ∙ ap (λ (x : Object). x.life) one ∙ hand.lives)))
       (λ f. alive_in is.object is.chunk.objects false f is.object_there))
 
 -- An object is removed.

@@ -65,7 +65,7 @@ settled_before chunks own at given serial is =
         let same : given ≡ serial = (let l : o.life ≡ o.life = refl in let a : Lives given ≡ Lives serial = ap (λ (x : Object). x.life) (sym mine.1) ∙ is.lives in cc) in
         let was : IsObject chunks at o.life = object_of chunks h at o.life (grind arith) in
         subst (λ n. CameFrom chunks at serial (SettleObject own n)) (sym same)
-            (Settled own o.life was (sym is.numbered ∙ ap (λ (x : Chunk). x.number) f ∙ e) (sym is.off ∙ ap (λ (x : Object). x.off) mine.1 ∙ mine.0))
+        (Settled own o.life was (sym is.numbered ∙ ap (λ (x : Chunk). x.number) f ∙ e) (sym is.off ∙ ap (λ (x : Object). x.off) mine.1 ∙ mine.0))
     by_object h there e f (o, o_there, inr other) = Was (SettleObject own given) (object_of chunks h at (Lives serial) (grind arith))
 
 pub came_from : (c : Setup) (m : PlainMap) (k : ℕ) (s : Section) (at : ObjectAt) (serial : ℕ) → IsObject (effect_as c m k s).chunks at (Lives serial) → CameFrom m.chunks at serial s
